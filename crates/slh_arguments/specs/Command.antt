@@ -1,0 +1,82 @@
+-- The command line of the program, as what a parse of `clap` reads of its command.
+use Rattle.std.specs.Prelude.{◌≡◌, true, false, List, [], ◌∷◌, ◌++◌, Some, codes}
+use Rattle.clap.specs.Words.{App, Rule, Shape, Text, new_app, new_rule, shape_of, with_subcommand}
+use Rattle.clap.specs.Simple.{new_shape, on_top}
+use Rattle.clap.specs.declared.Command.{Command}
+use Rattle.clap.specs.declared.Command.TheViews.{out-Command as fields_of}
+
+-- an option with one value, which help gives a name
+abbrev pub optional : Text → Rule
+optional name = record (new_rule name) { long = Some name; value_names = 1 }
+
+-- the same, and the words must give it
+abbrev pub required : Text → Rule
+required name = record (optional name) { required = true }
+
+-- a subcommand with its options
+abbrev pub subcommand : Text → List Rule → Shape
+subcommand name rules = record (new_shape name) { rules = rules }
+
+abbrev pub params_shape : Shape
+params_shape = subcommand (codes "params") (optional (codes "set") ∷ [])
+
+abbrev pub root_shape : Shape
+root_shape = subcommand (codes "root") (required (codes "set") ∷ [])
+
+abbrev pub keygen_shape : Shape
+keygen_shape = subcommand (codes "keygen") (required (codes "set") ∷ [])
+
+abbrev pub public_shape : Shape
+public_shape = subcommand (codes "public") (required (codes "key") ∷ [])
+
+-- the key and the message, and the form in which the message is signed
+abbrev pub message_rules : List Rule
+message_rules = required (codes "key") ∷ required (codes "message") ∷ []
+
+abbrev pub form_rules : List Rule
+form_rules = optional (codes "context") ∷ optional (codes "prehash") ∷ []
+
+abbrev pub sign_shape : Shape
+sign_shape = subcommand (codes "sign") (message_rules ++ form_rules ++ optional (codes "random") ∷ [])
+
+abbrev pub verify_shape : Shape
+verify_shape = subcommand (codes "verify") (message_rules ++ form_rules ++ required (codes "signature") ∷ [])
+
+abbrev pub check_shape : Shape
+check_shape = subcommand (codes "check") (required (codes "key") ∷ [])
+
+abbrev pub HasNoGlobals : Command → Type 0
+HasNoGlobals c = (fields_of c).has_globals ≡ false
+
+-- what a subcommand is, and that it may go into `slh`
+abbrev pub CommandIs : Shape → Command → Type 0
+CommandIs s c = (shape_of c ≡ s) × HasNoGlobals c
+
+-- a shape with more options at its end
+abbrev pub with_options : Shape → List Rule → Shape
+with_options s [] = s
+with_options s (r ∷ rest) = with_options (record s { rules = s.rules ++ r ∷ [] }) rest
+
+-- a command has these options more than another
+abbrev pub AddsOptions : Command → List Rule → Command → Type 0
+AddsOptions old rules new = (shape_of new ≡ with_options (shape_of old) rules) × HasNoGlobals new
+
+abbrev pub with_subcommands : App → List Shape → App
+with_subcommands a [] = a
+with_subcommands a (s ∷ rest) = with_subcommands (with_subcommand a s) rest
+
+-- the program: its words are those after its own name
+abbrev pub no_command : App
+no_command = on_top (λ s. record s { no_binary_name = true }) (new_app (codes "slh"))
+
+-- the commands that take no key file
+abbrev pub seed_app : App
+seed_app = with_subcommands no_command (params_shape ∷ root_shape ∷ keygen_shape ∷ [])
+
+-- and the ones that sign
+abbrev pub message_app : App
+message_app = with_subcommands seed_app (public_shape ∷ sign_shape ∷ [])
+
+-- the whole program
+abbrev pub slh_app : App
+slh_app = with_subcommands message_app (verify_shape ∷ check_shape ∷ [])

@@ -1,0 +1,195 @@
+//! The command line of the program `slh`, as a command of `clap`.
+#![tactic(auto)]
+
+ghost use Rattle.std.specs.Prelude.{◌≡◌, false, [], IfOk};
+ghost use Rattle.clap.specs.Words.{app_of, rule_of};
+ghost use Rattle.slh_arguments.specs.Command.{AddsOptions, CommandIs, HasNoGlobals, form_rules, message_rules, no_command, optional, required, subcommand};
+ghost use Rattle.slh_arguments.specs.Command.{check_shape, keygen_shape, message_app, params_shape, public_shape, root_shape, seed_app, sign_shape, slh_app, verify_shape};
+
+use clap::{Arg, Command};
+use std::alloc::{AllocError, Global};
+
+/// An option that may be left out.
+fn optional<'a>(alloc: Global, name: &'a str, value: &'a str, help: &'a str) -> Arg<'a>
+    ensures rule { rule_of result ≡ optional name.entry.now }
+    ensures local { result.global ≡ false }
+{
+    Arg::new(alloc, name)
+        .long(name)
+        .value_name(value)
+        .help(help)
+}
+
+/// An option that the words must give.
+fn required<'a>(alloc: Global, name: &'a str, value: &'a str, help: &'a str) -> Arg<'a>
+    ensures rule { rule_of result ≡ required name.entry.now }
+    ensures local { result.global ≡ false }
+{
+    optional(alloc, name, value, help).required(true)
+}
+
+/// A subcommand with no options so far, what it is for and an example of it.
+fn subcommand<'a>(alloc: Global, name: &'a str, about: &'a str, example: &'a str) -> Command<'a>
+    ensures { CommandIs (subcommand name.entry.now []) result }
+{
+    Command::new(alloc, name).about(about).after_help(example)
+}
+
+const SET_HELP: &str = "A parameter set, SLH-DSA-SHA2-128s, -128f, -192s, -192f, -256s or -256f";
+
+fn params_command<'a>(alloc: Global) -> Result<Command<'a>, AllocError>
+    ensures { IfOk result (CommandIs params_shape) }
+{
+    subcommand(
+        alloc,
+        "params",
+        "Prints the numbers of one parameter set, or of all",
+        "Example: slh params --set SLH-DSA-SHA2-128f",
+    )
+    .arg(optional(alloc, "set", "NAME", SET_HELP))
+}
+
+fn root_command<'a>(alloc: Global) -> Result<Command<'a>, AllocError>
+    ensures { IfOk result (CommandIs root_shape) }
+{
+    subcommand(
+        alloc,
+        "root",
+        "Prints the public key of the seeds on standard input",
+        "Example: slh root --set SLH-DSA-SHA2-128f < seeds.txt",
+    )
+    .arg(required(alloc, "set", "NAME", SET_HELP))
+}
+
+fn keygen_command<'a>(alloc: Global) -> Result<Command<'a>, AllocError>
+    ensures { IfOk result (CommandIs keygen_shape) }
+{
+    subcommand(
+        alloc,
+        "keygen",
+        "Writes the secret key file of the seeds on standard input",
+        "Example: slh keygen --set SLH-DSA-SHA2-128f < seeds.txt > secret.key",
+    )
+    .arg(required(alloc, "set", "NAME", SET_HELP))
+}
+
+fn public_command<'a>(alloc: Global) -> Result<Command<'a>, AllocError>
+    ensures { IfOk result (CommandIs public_shape) }
+{
+    subcommand(
+        alloc,
+        "public",
+        "Writes the public key file of a secret key file",
+        "Example: slh public --key secret.key > public.key",
+    )
+    .arg(required(alloc, "key", "FILE", "A secret key file"))
+}
+
+fn check_command<'a>(alloc: Global) -> Result<Command<'a>, AllocError>
+    ensures { IfOk result (CommandIs check_shape) }
+{
+    subcommand(
+        alloc,
+        "check",
+        "Tells whether the root in a secret key file is the one that its seeds give",
+        "Example: slh check --key secret.key",
+    )
+    .arg(required(alloc, "key", "FILE", "A secret key file"))
+}
+
+/// A command on a key and a message.
+fn message_command<'a>(
+    alloc: Global,
+    command: Command<'a>,
+    key: &'a str,
+) -> Result<Command<'a>, AllocError>
+    requires { HasNoGlobals command }
+    ensures { IfOk result (AddsOptions command.entry message_rules) }
+{
+    command.arg(required(alloc, "key", "FILE", key))?.arg(required(
+        alloc,
+        "message",
+        "FILE",
+        "The message, any bytes",
+    ))
+}
+
+const CONTEXT_HELP: &str = "The context, an even number of hexadecimal digits [default: empty]";
+
+const PREHASH_HELP: &str = "The pre-hash form with SHA2-224, SHA2-256, SHA2-384, SHA2-512, \
+    SHA2-512/224 or SHA2-512/256 [default: the pure form]";
+
+/// The same command, which also takes the form in which the message is signed.
+fn with_form<'a>(alloc: Global, command: Command<'a>) -> Result<Command<'a>, AllocError>
+    requires { HasNoGlobals command }
+    ensures { IfOk result (AddsOptions command.entry form_rules) }
+{
+    command
+        .arg(optional(alloc, "context", "HEX", CONTEXT_HELP))?
+        .arg(optional(alloc, "prehash", "NAME", PREHASH_HELP))
+}
+
+const RANDOM_HELP: &str = "The randomizer, 2n hexadecimal digits [default: deterministic signing]";
+
+fn sign_command<'a>(alloc: Global) -> Result<Command<'a>, AllocError>
+    ensures { IfOk result (CommandIs sign_shape) }
+{
+    let command = subcommand(
+        alloc,
+        "sign",
+        "Writes the signature of a message",
+        "Example: slh sign --key secret.key --message letter.txt > letter.sig",
+    );
+    let command = message_command(alloc, command, "A secret key file")?;
+    with_form(alloc, command)?.arg(optional(alloc, "random", "HEX", RANDOM_HELP))
+}
+
+fn verify_command<'a>(alloc: Global) -> Result<Command<'a>, AllocError>
+    ensures { IfOk result (CommandIs verify_shape) }
+{
+    let command = subcommand(
+        alloc,
+        "verify",
+        "Tells whether a signature of a message is valid",
+        "Example: slh verify --key public.key --message letter.txt --signature letter.sig",
+    );
+    let command = message_command(alloc, command, "A public key file")?;
+    with_form(alloc, command)?.arg(required(alloc, "signature", "FILE", "The raw signature"))
+}
+
+/// The program with no subcommand so far.
+fn no_command<'a>(alloc: Global) -> Command<'a>
+    ensures { app_of result ≡ no_command }
+{
+    Command::new(alloc, "slh")
+        .no_binary_name(true)
+        .about("Keys and signatures of SLH-DSA (FIPS 205) with SHA-2")
+}
+
+/// The program with the commands that take no key file.
+fn seed_commands<'a>(alloc: Global) -> Result<Command<'a>, AllocError>
+    ensures { IfOk result (λ c. app_of c ≡ seed_app) }
+{
+    no_command(alloc)
+        .subcommand(params_command(alloc)?)?
+        .subcommand(root_command(alloc)?)?
+        .subcommand(keygen_command(alloc)?)
+}
+
+/// The program with the commands on messages too.
+fn message_commands<'a>(alloc: Global) -> Result<Command<'a>, AllocError>
+    ensures { IfOk result (λ c. app_of c ≡ message_app) }
+{
+    seed_commands(alloc)?
+        .subcommand(public_command(alloc)?)?
+        .subcommand(sign_command(alloc)?)
+}
+
+/// The program `slh` with its subcommands.
+pub fn slh_command<'a>(alloc: Global) -> Result<Command<'a>, AllocError>
+    ensures { IfOk result (λ c. app_of c ≡ slh_app) }
+{
+    message_commands(alloc)?
+        .subcommand(verify_command(alloc)?)?
+        .subcommand(check_command(alloc)?)
+}

@@ -1,0 +1,7 @@
+pub mod Counts
+pub mod Views
+pub mod Rule
+pub mod Seats
+pub mod Kept
+pub mod Claims
+pub mod History

@@ -1,0 +1,128 @@
+//! Keys: their lengths, PK.root, and sources of random bytes.
+ghost use Rattle.std.specs.Prelude.{⊤};
+
+use crate::fixtures::{counting, key, key_from, signature};
+use rand_core::Rng;
+use rand_pcg::Pcg32;
+use slh_core::{
+    FromRng, PublicKey, RandomBytes, SecretKey, SourceFault, check_pair, keygen, keygen_internal,
+    verify,
+};
+use slh_params::ParamSet;
+use std::process::Abort;
+use std::test::Fail;
+
+/// A source that counts up from 00 and fails at one draw, when half of the bytes are written.
+#[derive(Drop)]
+struct Counting {
+    next: u8,
+    draws: u32,
+    fails_at: u32,
+    failures: u64,
+}
+
+impl RandomBytes for Counting {
+    ghost draws = { λ _ _ _. ⊤ };
+
+    ghost failures = { λ source. source.failures };
+
+    fn draw(&mut self, out: &mut [u8]) -> Result<(), SourceFault> {
+        self.draws = self.draws.saturating_add(1);
+        let fails = self.draws == self.fails_at;
+        let count = if fails { out.len() / 2 } else { out.len() };
+        let mut next = self.next;
+        for byte in &mut out[..count] {
+            *byte = next;
+            next = next.wrapping_add(1);
+        }
+        self.next = next;
+        if fails {
+            self.failures = self.failures.saturating_add(1);
+            return Err(SourceFault);
+        }
+        Ok(())
+    }
+}
+
+/// A source whose draws are counted from 1.
+fn failing_at(fails_at: u32) -> Counting {
+    Counting {
+        next: 0,
+        draws: 0,
+        fails_at,
+        failures: 0,
+    }
+}
+
+fn same_key(rt: &impl Abort, sk: &SecretKey, expected: &SecretKey) {
+    assert_eq!(rt; sk.bytes(), expected.bytes());
+    assert!(rt; check_pair(sk));
+}
+
+#[test]
+fn failing_sources(rt: HostRuntime) -> Result<(), Fail> {
+    for fails_at in 1..4 {
+        let mut source = failing_at(fails_at);
+        let refused = keygen(ParamSet::S128f, &mut source).err();
+        assert_eq!(rt; refused.map(|fault| fault.number()), Some(7));
+        assert_eq!(rt; source.draws, fails_at);
+    }
+    let sk = keygen(ParamSet::S128f, &mut failing_at(0))?;
+    same_key(&rt, &sk, &key(ParamSet::S128f));
+
+    // After the failure, 24 bytes are spent.
+    let mut source = failing_at(2);
+    assert!(rt; keygen(ParamSet::S128f, &mut source).is_err());
+    let sk = keygen(ParamSet::S128f, &mut source)?;
+    same_key(&rt, &sk, &key_from(ParamSet::S128f, 24));
+    Ok(())
+}
+
+#[test]
+fn random_number_generator(rt: HostRuntime) -> Result<(), Fail> {
+    let mut source = FromRng {
+        rng: Pcg32::new(42, 54),
+    };
+    let sk = keygen(ParamSet::S128f, &mut source)?;
+    let mut rng = Pcg32::new(42, 54);
+    let mut seeds = [0; 48];
+    for seed in seeds.chunks_exact_mut(16) {
+        rng.fill_bytes(seed);
+    }
+    let expected = keygen_internal(ParamSet::S128f, &seeds[..16], &seeds[16..32], &seeds[32..]);
+    same_key(&rt, &sk, &expected);
+    Ok(())
+}
+
+#[test]
+fn lengths_and_parts(rt: HostRuntime) -> Result<(), Fail> {
+    let refused = SecretKey::from_bytes(ParamSet::S128f, &[0; 63]).err();
+    assert_eq!(rt; refused.map(|fault| fault.number()), Some(3));
+    let refused = PublicKey::from_bytes(ParamSet::S128f, &[0; 33]).err();
+    assert_eq!(rt; refused.map(|fault| fault.name()), Some("BadLength"));
+
+    // The PK.root of OpenSSL 3.5 under the same seeds.
+    let sk = key(ParamSet::S128f);
+    let root = hex::decode(rt.alloc(), "3b56e816847f000386aeec2e2bb9e1b5")?;
+    assert_eq!(rt; sk.pk_root(), root.as_slice());
+    let bytes = counting(0);
+    assert_eq!(rt; sk.sk_seed(), &bytes[..16]);
+    assert_eq!(rt; sk.sk_prf(), &bytes[16..32]);
+    assert_eq!(rt; sk.pk_seed(), &bytes[32..48]);
+    assert_eq!(rt; sk.public().bytes(), sk.public_bytes());
+    let pk = PublicKey::from_bytes(ParamSet::S128f, sk.public_bytes())?;
+    assert_eq!(rt; (pk.pk_seed(), pk.pk_root()), (sk.pk_seed(), sk.pk_root()));
+    Ok(())
+}
+
+#[test]
+fn altered_root(rt: HostRuntime) -> Result<(), Fail> {
+    let mut bytes = key(ParamSet::S128f).bytes().to_vec(rt.alloc())?;
+    assert_eq!(rt; bytes.len(), 64);
+    bytes[63] ^= 1;
+    let sk = SecretKey::from_bytes(ParamSet::S128f, &bytes)?;
+    assert!(rt; !check_pair(&sk));
+    let sig = signature(rt.alloc(), b"abc", b"", &sk)?;
+    assert!(rt; !verify(b"abc", b"", &sig, &sk.public()));
+    Ok(())
+}

@@ -1,0 +1,29 @@
+//! Tests that cross crates: worked examples, and values that other implementations made.
+#![tactic(auto)]
+
+#[cfg(test)]
+mod contexts;
+#[cfg(test)]
+mod damage;
+#[cfg(test)]
+mod digests;
+#[cfg(test)]
+mod few;
+#[cfg(test)]
+mod fixtures;
+#[cfg(test)]
+mod hash_values;
+#[cfg(test)]
+mod hashes;
+#[cfg(test)]
+mod internal;
+#[cfg(test)]
+mod key_files;
+#[cfg(test)]
+mod keys;
+#[cfg(test)]
+mod params;
+#[cfg(test)]
+mod pre_hash;
+#[cfg(test)]
+mod signatures;

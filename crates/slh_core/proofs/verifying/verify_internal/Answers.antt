@@ -1,0 +1,20 @@
+use Rattle.std.proofs.Common.{◌≡◌, length, arith, rules}
+use Rattle.slh_params.specs.Params.{sig_len}
+use Rattle.slh_params.specs.ParamSet.{params}
+use Rattle.slh_core.proofs.Lengths.{r_fits, fors_fits, tree_fits}
+use Rattle.slh_core.proofs.verifying.verify_internal.Goals as goal
+
+pub split_at-requires : goal.split_at-requires
+split_at-requires c = r_fits (params c.args.pk.now.set) c.n.result (length c.args.sig.now) (search rules) (search rules)
+
+pub split_at-requires-2 : goal.split_at-requires-2
+split_at-requires-2 c =
+    let whole : length c.args.sig.now ≡ sig_len (params c.args.pk.now.set) = search rules in
+    let n : c.n.result ≡ (params c.args.pk.now.set).n = search rules in
+    fors_fits (params c.args.pk.now.set) c.fors_sig_len.result (length c.split_at.result.1.now) (search rules) (omega (arith, c.split_at.ensures.back_len, n, whole))
+
+pub verify_digest-requires-clause-tree : goal.verify_digest-requires-clause-tree
+verify_digest-requires-clause-tree c =
+    let whole : length c.args.sig.now ≡ sig_len (params c.args.pk.now.set) = search rules in
+    let n : c.n.result ≡ (params c.args.pk.now.set).n = search rules in
+    tree_fits (params c.args.pk.now.set) c.fors_sig_len.result (length c.split_at.result.1.now) _ (search rules) (omega (arith, c.split_at.ensures.back_len, n, whole)) (search rules)

@@ -1,0 +1,13 @@
+pub mod Keys
+pub mod Cut
+pub mod PreHash
+pub mod PreHashing
+pub mod Messages
+pub mod Signatures
+pub mod Randomizers
+pub mod Random
+-- cited by public clauses
+pub use Rattle.slh_params.specs.Params
+pub use Rattle.slh_params.specs.ParamSet
+pub use Rattle.slh_hash.specs.Keyed
+pub use Rattle.rand_core.specs.Stream

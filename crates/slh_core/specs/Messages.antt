@@ -1,0 +1,13 @@
+-- The messages M' that are signed (FIPS 205, Algorithms 22 and 23), for contexts of at most 255 bytes.
+use Rattle.std.specs.Prelude.{ℕ, List, ◌++◌, length}
+use Rattle.slh_params.specs.Bits.{to_byte}
+use Rattle.slh_core.specs.PreHash.{oid}
+use Rattle.slh_core.specs.declared.pre_hash.PreHash.{PreHash}
+
+-- the pure form: 0, the length of the context, the context, the message
+abbrev pub pure_message : List ℕ → List ℕ → List ℕ
+pure_message ctx msg = to_byte 0 1 ++ to_byte (length ctx) 1 ++ ctx ++ msg
+
+-- the pre-hash form: 1, the length of the context, the context, the function's object identifier, the digest
+abbrev pub pre_hash_message : List ℕ → PreHash → List ℕ → List ℕ
+pre_hash_message ctx function digest = to_byte 1 1 ++ to_byte (length ctx) 1 ++ ctx ++ oid function ++ digest

@@ -1,0 +1,102 @@
+ghost use Rattle.std.specs.Prelude.{◌≡◌, ◌↔◌, ◌≤◌, IsOk, IsTrue, OnOk, OnErr, length};
+ghost use Rattle.slh_params.specs.Params.{sig_len};
+ghost use Rattle.slh_params.specs.ParamSet.{params};
+ghost use Rattle.slh_core.specs.Keys.{public_of, IsGeneratedKey};
+ghost use Rattle.slh_core.specs.Messages.{pre_hash_message};
+ghost use Rattle.slh_core.specs.PreHash.{PH};
+ghost use Rattle.slh_core.specs.Randomizers.{HasLength};
+ghost use Rattle.slh_core.specs.Signatures.{signature_by, IsValid};
+
+use super::context::{PRE_HASH, head_of};
+use super::fault::SignFault;
+use super::message_digest::MessageDigest;
+use super::pre_hash::PreHash;
+use super::pre_hasher::PreHasher;
+use super::public_key::PublicKey;
+use super::randomizer::Randomizer;
+use super::secret_key::SecretKey;
+use super::signing::sign_internal;
+use super::verifying::verify_internal;
+
+/// Signs a message by its digest, under a context (FIPS 205, Algorithm 23 after its pre-hash), writing
+/// `sig_len` bytes. Refused, with nothing written, where the context has over 255 bytes.
+pub fn hash_sign_digest(
+    digest: &MessageDigest,
+    ctx: &[u8],
+    sk: &SecretKey,
+    randomizer: Randomizer,
+    out: &mut [u8],
+) -> Result<(), SignFault>
+    requires randomizer { HasLength randomizer (params sk.now.set).n }
+    requires out { length out.old ≡ sig_len (params sk.now.set) }
+    ensures accepted { IsOk result ↔ (length ctx.now ≤ 255) }
+    ensures signature { OnOk result (out.new
+        ≡ signature_by sk.now (pre_hash_message ctx.now digest.now.function digest.now.bytes) randomizer.entry) }
+    ensures refused { OnErr result (out.new ≡ out.old) }
+    ensures len { length out.new ≡ length out.old }
+    ensures authentic { OnOk result (IsGeneratedKey sk.now
+        → IsValid (public_of sk.now) (pre_hash_message ctx.now digest.now.function digest.now.bytes) out.new) }
+{
+    let Some(head) = head_of(PRE_HASH, ctx) else {
+        return Err(SignFault::ContextTooLong);
+    };
+    let oid = digest.function().oid();
+    sign_internal(&[&head, ctx, &oid, digest.bytes()], sk, randomizer, out);
+    Ok(())
+}
+
+/// The digest of a message.
+fn digest_of(msg: &[u8], function: PreHash) -> MessageDigest
+    ensures { result ≡ record { function = function; bytes = PH function msg.now } }
+{
+    let mut hasher = PreHasher::new(function);
+    hasher.update(msg);
+    hasher.finish()
+}
+
+/// Signs a message by its digest under `function`, and under a context (FIPS 205, Algorithm 23), writing
+/// `sig_len` bytes. Refused, with nothing written, where the context has over 255 bytes.
+pub fn hash_sign(
+    msg: &[u8],
+    ctx: &[u8],
+    function: PreHash,
+    sk: &SecretKey,
+    randomizer: Randomizer,
+    out: &mut [u8],
+) -> Result<(), SignFault>
+    requires randomizer { HasLength randomizer (params sk.now.set).n }
+    requires out { length out.old ≡ sig_len (params sk.now.set) }
+    ensures accepted { IsOk result ↔ (length ctx.now ≤ 255) }
+    ensures signature { OnOk result (out.new
+        ≡ signature_by sk.now (pre_hash_message ctx.now function (PH function msg.now)) randomizer.entry) }
+    ensures refused { OnErr result (out.new ≡ out.old) }
+    ensures len { length out.new ≡ length out.old }
+    ensures authentic { OnOk result (IsGeneratedKey sk.now
+        → IsValid (public_of sk.now) (pre_hash_message ctx.now function (PH function msg.now)) out.new) }
+{
+    hash_sign_digest(&digest_of(msg, function), ctx, sk, randomizer, out)
+}
+
+/// Whether the bytes are a valid signature of a message that has this digest, under a context (FIPS 205,
+/// Algorithm 25 after its pre-hash). False for a context of over 255 bytes.
+pub fn hash_verify_digest(digest: &MessageDigest, ctx: &[u8], sig: &[u8], pk: &PublicKey) -> bool
+    ensures { IsTrue result ↔ ((length ctx.now ≤ 255)
+        × IsValid pk.now (pre_hash_message ctx.now digest.now.function digest.now.bytes) sig.now) }
+{
+    match head_of(PRE_HASH, ctx) {
+        Some(head) => {
+            let oid = digest.function().oid();
+            verify_internal(&[&head, ctx, &oid, digest.bytes()], sig, pk)
+        }
+        None => false,
+    }
+}
+
+/// Whether the bytes are a valid signature of a message by its digest under `function`, and under a context
+/// (FIPS 205, Algorithm 25). False for a context of over 255 bytes.
+pub fn hash_verify(msg: &[u8], ctx: &[u8], function: PreHash, sig: &[u8], pk: &PublicKey) -> bool
+    ensures { IsTrue result ↔ ((length ctx.now ≤ 255)
+        × IsValid pk.now (pre_hash_message ctx.now function (PH function msg.now)) sig.now) }
+{
+    hash_verify_digest(&digest_of(msg, function), ctx, sig, pk)
+}

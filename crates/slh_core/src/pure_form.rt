@@ -1,0 +1,53 @@
+ghost use Rattle.std.specs.Prelude.{◌≡◌, ◌↔◌, ◌≤◌, IsOk, IsTrue, OnOk, OnErr, length};
+ghost use Rattle.slh_params.specs.Params.{sig_len};
+ghost use Rattle.slh_params.specs.ParamSet.{params};
+ghost use Rattle.slh_core.specs.Keys.{public_of, IsGeneratedKey};
+ghost use Rattle.slh_core.specs.Messages.{pure_message};
+ghost use Rattle.slh_core.specs.Randomizers.{HasLength};
+ghost use Rattle.slh_core.specs.Signatures.{signature_by, IsValid};
+
+use super::context::{PURE, head_of};
+use super::fault::SignFault;
+use super::public_key::PublicKey;
+use super::randomizer::Randomizer;
+use super::secret_key::SecretKey;
+use super::signing::sign_internal;
+use super::verifying::verify_internal;
+
+/// Signs a message under a context (FIPS 205, Algorithm 22), writing `sig_len` bytes. Refused, with nothing
+/// written, where the context has over 255 bytes.
+pub fn sign(
+    msg: &[u8],
+    ctx: &[u8],
+    sk: &SecretKey,
+    randomizer: Randomizer,
+    out: &mut [u8],
+) -> Result<(), SignFault>
+    requires randomizer { HasLength randomizer (params sk.now.set).n }
+    requires out { length out.old ≡ sig_len (params sk.now.set) }
+    ensures accepted { IsOk result ↔ (length ctx.now ≤ 255) }
+    ensures signature { OnOk result (out.new
+        ≡ signature_by sk.now (pure_message ctx.now msg.now) randomizer.entry) }
+    ensures refused { OnErr result (out.new ≡ out.old) }
+    ensures len { length out.new ≡ length out.old }
+    ensures authentic { OnOk result (IsGeneratedKey sk.now
+        → IsValid (public_of sk.now) (pure_message ctx.now msg.now) out.new) }
+{
+    let Some(head) = head_of(PURE, ctx) else {
+        return Err(SignFault::ContextTooLong);
+    };
+    sign_internal(&[&head, ctx, msg], sk, randomizer, out);
+    Ok(())
+}
+
+/// Whether the bytes are a valid signature of a message under a context (FIPS 205, Algorithm 24). False for
+/// a context of over 255 bytes.
+pub fn verify(msg: &[u8], ctx: &[u8], sig: &[u8], pk: &PublicKey) -> bool
+    ensures { IsTrue result ↔ ((length ctx.now ≤ 255)
+        × IsValid pk.now (pure_message ctx.now msg.now) sig.now) }
+{
+    match head_of(PURE, ctx) {
+        Some(head) => verify_internal(&[&head, ctx, msg], sig, pk),
+        None => false,
+    }
+}

@@ -1,0 +1,56 @@
+ghost use Rattle.std.specs.Prelude.{◌≡◌, ◌*◌, ◌↔◌, IsTrue, length};
+ghost use Rattle.slh_params.specs.Params.{m};
+ghost use Rattle.slh_params.specs.ParamSet.{params};
+ghost use Rattle.slh_hash.specs.Keyed.{joined};
+ghost use Rattle.slh_few.specs.Xmss.{xmss_sig_len};
+ghost use Rattle.slh_core.specs.Keys.{pk_root};
+ghost use Rattle.slh_core.specs.Signatures.{fors_sig_len, root_of_parts, IsValid};
+
+use super::cut::{MAX_DIGEST_LEN, cut_digest};
+use super::layout::fors_sig_len;
+use super::public_key::PublicKey;
+use slh_few::{Public, fors_pk_from_sig, ht_verify};
+use slh_hash::h_msg;
+
+/// Whether the FORS and hypertree signatures of a digest give PK.root (FIPS 205, Algorithm 20, lines 9 to 18).
+#[tactic(auto, unfolding(crate::specs::Signatures::root_of_parts))]
+fn verify_digest(pk: &PublicKey, digest: &[u8], fors: &[u8], tree: &[u8]) -> bool
+    requires digest { length digest.now ≡ m (params pk.now.set) }
+    requires fors { length fors.now ≡ fors_sig_len (params pk.now.set) }
+    requires tree { length tree.now ≡ (params pk.now.set).d * xmss_sig_len (params pk.now.set) }
+    ensures { IsTrue result ↔ (root_of_parts pk.now digest.now fors.now tree.now ≡ pk_root pk.now) }
+{
+    let set = pk.set();
+    let public = Public {
+        set,
+        pk_seed: pk.pk_seed(),
+    };
+    let md = &digest[..set.md_len()];
+    let cut = cut_digest(set, digest);
+    let key = fors_pk_from_sig(&public, cut.idx_tree, cut.idx_leaf, md, fors);
+    ht_verify(
+        &public,
+        pk.pk_root(),
+        cut.idx_tree,
+        cut.idx_leaf,
+        &key,
+        tree,
+    )
+}
+
+/// Whether the bytes are a valid signature of the parts put end to end (FIPS 205, Algorithm 20). They may
+/// be of any length; where it is not `sig_len`, they are none.
+pub fn verify_internal(parts: &[&[u8]], sig: &[u8], pk: &PublicKey) -> bool
+    ensures { IsTrue result ↔ IsValid pk.now (joined parts.now) sig.now }
+{
+    let set = pk.set();
+    if sig.len() != set.sig_len() {
+        return false;
+    }
+    let (r, rest) = sig.split_at(set.n());
+    let (fors, tree) = rest.split_at(fors_sig_len(set));
+    let mut buffer = [0; MAX_DIGEST_LEN];
+    let digest = &mut buffer[..set.m()];
+    h_msg(set, r, pk.pk_seed(), pk.pk_root(), parts, digest);
+    verify_digest(pk, digest, fors, tree)
+}

@@ -1,0 +1,14 @@
+//! What a program reads and writes: files, a source of bytes and sinks for bytes, as traits that tell contracts
+//! which bytes were handed out or taken, and the loops over them.
+#![tactic(auto)]
+
+pub use disk::Disk;
+pub use files::Files;
+pub use sink::{Sink, WriteFault, Writer, put_all};
+pub use source::{FetchFault, Reader, Source, take_up_to};
+
+mod disk;
+mod files;
+mod retry;
+mod sink;
+mod source;

@@ -1,0 +1,45 @@
+-- Chains: one step, their length, and a chain run in two parts.
+use Rattle.std.proofs.Common.{◌≡◌, ℕ, zero, suc, ◌+◌, ◌-◌, ◌≤◌, List, length, refl, ap, sym, ◌∙◌, arith, add-one}
+use Rattle.slh_hash.proofs.Lengths.{length-F}
+use Rattle.slh_params.specs.Address.{Address, WOTS_HASH}
+use Rattle.slh_params.specs.Params.{Params, w}
+use Rattle.slh_hash.specs.Hash.{F}
+use Rattle.slh_few.specs.Parts.{part}
+use Rattle.slh_few.specs.Wots.{chain, wots_address, digit, finished_chain}
+use Rattle.slh_few.specs.declared.place.Place.{Place}
+
+-- a chain's values have n bytes
+pub length-chain : (p : Params) (pk : List ℕ) (at : Place) (c : ℕ) (x : List ℕ) (f s : ℕ) → p.n ≤ 32 → length x ≡ p.n → length (chain p pk at c x f s) ≡ p.n
+unfolding chain
+length-chain p pk at c x f zero h e = e
+length-chain p pk at c x f (suc s) h e = length-F p pk _ _ h
+
+-- no step
+pub chain-start : (p : Params) (pk : List ℕ) (at : Place) (c : ℕ) (x : List ℕ) (f : ℕ) → x ≡ chain p pk at c x f 0
+unfolding chain
+chain-start p pk at c x f = refl
+
+-- one step more, as a program takes it
+pub chain-more : (p : Params) (pk : List ℕ) (at : Place) (c : ℕ) (x : List ℕ) (f s : ℕ) (a : Address) (y r : List ℕ)
+    → a ≡ wots_address at WOTS_HASH c (f + s) → y ≡ chain p pk at c x f s → r ≡ F p pk a y → r ≡ chain p pk at c x f (s + 1)
+unfolding chain
+chain-more p pk at c x f s a y r ea ey er = er ∙ rw (ea, ey, add-one s) refl
+
+-- a chain run in two parts is the chain
+pub chain-split : (p : Params) (pk : List ℕ) (at : Place) (c : ℕ) (x : List ℕ) (f s u : ℕ)
+    → chain p pk at c (chain p pk at c x f s) (f + s) u ≡ chain p pk at c x f (s + u)
+unfolding chain
+chain-split p pk at c x f s zero = let e : s + 0 ≡ s = omega arith in rw e refl
+chain-split p pk at c x f s (suc u) =
+    let e : (f + s) + u ≡ f + (s + u) = omega arith in
+    let n : s + suc u ≡ suc (s + u) = omega arith in
+    rw n (ap (λ k. F p pk (wots_address at WOTS_HASH c k) (chain p pk at c (chain p pk at c x f s) (f + s) u)) e
+    ∙ ap (λ y. F p pk (wots_address at WOTS_HASH c (f + (s + u))) y) (chain-split p pk at c x f s u))
+
+-- the chain that a program runs on from a signature's value
+pub finished_as : (p : Params) (pk : List ℕ) (at : Place) (m sig : List ℕ) (c n d : ℕ) (x : List ℕ) → w p - 1 ≡ 15
+    → x ≡ part n sig c → n ≡ p.n → d ≡ digit p m c → chain p pk at c x d (15 - d) ≡ finished_chain p pk at m sig c
+finished_as p pk at m sig c n d x e ex en ed =
+    ap (λ y. chain p pk at c y d (15 - d)) (ex ∙ ap (λ k. part k sig c) en)
+    ∙ ap (λ j. chain p pk at c (part p.n sig c) j (15 - j)) ed
+    ∙ ap (λ u. chain p pk at c (part p.n sig c) (digit p m c) (u - digit p m c)) (sym e)

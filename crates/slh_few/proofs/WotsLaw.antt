@@ -1,0 +1,49 @@
+-- The key that a WOTS+ signature gives is the public key.
+use Rattle.std.proofs.Common.{◌≡◌, ℕ, ◌+◌, ◌-◌, ◌*◌, ◌<◌, ◌≤◌, List, length, ap, ◌∙◌, arith}
+use Rattle.slh_params.specs.Params.{Params, w, len}
+use Rattle.slh_hash.specs.Hash.{T}
+use Rattle.slh_few.specs.Parts.{end_to_end, part}
+use Rattle.slh_few.specs.Wots.{chain, digit, secret, wots_address, whole_chain, signed_chain, finished_chain, wots_pk, wots_sig, wots_key}
+use Rattle.slh_few.specs.declared.place.Place.{Place}
+use Rattle.slh_hash.proofs.Lengths.{length-PRF}
+use Rattle.slh_few.proofs.Chains.{length-chain, chain-split}
+use Rattle.slh_few.proofs.DigitBounds.{digit-small}
+use Rattle.slh_few.proofs.Ends.{end_to_end-same, part-end_to_end, length-end_to_end}
+
+-- a secret has n bytes
+pub length-secret : (p : Params) (sk pk : List ℕ) (at : Place) (c : ℕ) → p.n ≤ 32 → length (secret p sk pk at c) ≡ p.n
+unfolding secret
+length-secret p sk pk at c h = length-PRF p pk sk _ h
+
+-- a part of the signature has n bytes
+pub length-signed_chain : (p : Params) (sk pk : List ℕ) (at : Place) (m : List ℕ) (c : ℕ) → p.n ≤ 32 → length (signed_chain p sk pk at m c) ≡ p.n
+length-signed_chain p sk pk at m c h = length-chain p pk at c (secret p sk pk at c) 0 (digit p m c) h (length-secret p sk pk at c h)
+
+-- the signature has len n bytes
+pub length-wots_sig : (p : Params) (sk pk : List ℕ) (at : Place) (m : List ℕ) → p.n ≤ 32 → length (wots_sig p sk pk at m) ≡ len p * p.n
+unfolding wots_sig
+length-wots_sig p sk pk at m h = length-end_to_end (signed_chain p sk pk at m) p.n (len p) (λ c l. length-signed_chain p sk pk at m c h)
+
+-- each chain that the signature's part is run on to is the whole chain
+finished : (p : Params) (sk pk : List ℕ) (at : Place) (m : List ℕ) → p.n ≤ 32 → (c : ℕ) → c < len p
+    → finished_chain p pk at m (wots_sig p sk pk at m) c ≡ whole_chain p sk pk at c
+unfolding wots_sig
+finished p sk pk at m h c l =
+    let d = digit p m c in
+    let x = secret p sk pk at c in
+    let here : part p.n (end_to_end (signed_chain p sk pk at m) (len p)) c ≡ chain p pk at c x 0 d =
+    part-end_to_end (signed_chain p sk pk at m) p.n (len p) c l (λ j i. length-signed_chain p sk pk at m j h) in
+    let from : d ≡ 0 + d = omega arith in
+    let total : d + (w p - 1 - d) ≡ w p - 1 = omega (arith, digit-small p m c) in
+    ap (λ y. chain p pk at c y d (w p - 1 - d)) here
+    ∙ ap (λ f. chain p pk at c (chain p pk at c x 0 d) f (w p - 1 - d)) from
+    ∙ chain-split p pk at c x 0 d (w p - 1 - d)
+    ∙ ap (λ s. chain p pk at c x 0 s) total
+
+-- the signature's key is the public key
+pub wots_key-wots_sig : (p : Params) (sk pk : List ℕ) (at : Place) (m : List ℕ) → p.n ≤ 32
+    → wots_key p pk at m (wots_sig p sk pk at m) ≡ wots_pk p sk pk at
+unfolding wots_key wots_pk
+wots_key-wots_sig p sk pk at m h =
+    ap (λ x. T p pk (wots_address at 1 0 0) x)
+    (end_to_end-same (finished_chain p pk at m (wots_sig p sk pk at m)) (whole_chain p sk pk at) (len p) (finished p sk pk at m h))

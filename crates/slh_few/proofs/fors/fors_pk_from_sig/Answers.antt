@@ -1,0 +1,51 @@
+use Rattle.std.proofs.Common.{◌≡◌, ℕ, ◌^◌, ◌<◌, length, sym, subst, arith}
+use Rattle.slh_params.specs.ParamSet.{params}
+use Rattle.slh_few.specs.Parts.{part}
+use Rattle.slh_few.specs.Fors.{fors_root, fors_part_len, fors_key}
+use Rattle.slh_few.proofs.Sets.{k_high}
+use Rattle.slh_few.proofs.Ends.{end_to_end-none, end_to_end-more, part_fits}
+use Rattle.slh_few.proofs.ForsLaw.{index_lt}
+use Rattle.slh_few.proofs.fors.fors_pk_from_sig.Goals as goal
+
+pub bounds-indices-j : goal.bounds-indices-j
+bounds-indices-j c = omega (arith, c.k-j-end.ensures, k_high c.args.public.now.set)
+
+pub root_at-root-requires-clause-leaf : goal.root_at-root-requires-clause-leaf
+root_at-root-requires-clause-leaf c =
+    let p = params c.args.public.now.set in
+    let At : ℕ → Type 0 = λ i. i < 2 ^ p.a in
+    let b : c.loop-j.j < p.k = omega (arith, c.k-j-end.ensures) in
+    subst At (sym (c.indices_of-indices.ensures c.loop-j.j b)) (index_lt p c.args.md.now c.loop-j.j)
+
+pub root_at-root-requires-clause-sig : goal.root_at-root-requires-clause-sig
+root_at-root-requires-clause-sig c =
+    let p = params c.args.public.now.set in
+    let b : c.loop-j.j < p.k = omega (arith, c.k-j-end.ensures) in
+    part_fits c.loop-j.j p.k (fors_part_len p) (length c.args.sig.now) b c.requires.sig
+
+pub loop-j-init : goal.loop-j-init
+loop-j-init c =
+    let p = params c.args.public.now.set in
+    rw (end_to_end-none (λ j. fors_root p c.args.public.now.pk_seed.now c.args.idx_tree c.args.idx_leaf c.args.md.now j (part (fors_part_len p) c.args.sig.now j)), sym c.fors_adrs-adrs.ensures)
+    c.new-roots.ensures
+
+pub loop-j-preserved : goal.loop-j-preserved
+loop-j-preserved c =
+    let p = params c.args.public.now.set in
+    let pk = c.args.public.now.pk_seed.now in
+    let md = c.args.md.now in
+    let j = c.loop-j.j in
+    let b : c.loop-j.j < p.k = omega (arith, c.k-j-end.ensures) in
+    let x : c.root_at-root.result.items ≡ fors_root p pk c.args.idx_tree c.args.idx_leaf md j (part (fors_part_len p) c.args.sig.now j) =
+    rw (c.indices_of-indices.ensures c.loop-j.j b) at c.root_at-root.ensures in
+    rw (end_to_end-more (λ j. fors_root p pk c.args.idx_tree c.args.idx_leaf md j (part (fors_part_len p) c.args.sig.now j)) c.loop-j.j, sym x)
+    (c.absorb.ensures _ _ _ _ c.loop-j.invariant)
+
+pub returns-clause-value : goal.returns-clause-value
+unfolding fors_key
+returns-clause-value c =
+    let e : c.loop-j.j ≡ (params c.args.public.now.set).k = omega (arith, c.k-j-end.ensures) in
+    rw e at (c.finish.ensures.value _ _ _ _ c.loop-j.invariant)
+
+pub returns-clause-len : goal.returns-clause-len
+returns-clause-len c = c.finish.ensures.len _ _ _ _ c.loop-j.invariant

@@ -1,0 +1,95 @@
+use Rattle.std.proofs.Common.{◌≡◌, ◌+◌, ◌-◌, ◌*◌, ◌<◌, ◌++◌, length, take, ap, sym, ◌∙◌, arith}
+use Rattle.slh_params.specs.ParamSet.{params}
+use Rattle.slh_few.specs.Xmss.{xmss_sig_len, xmss_sig}
+use Rattle.slh_few.specs.Hypertree.{place_above, layer_sig, ht_sig, ht_key}
+use Rattle.slh_few.specs.Parts.{end_to_end}
+use Rattle.slh_few.proofs.Sets.{top_layer}
+use Rattle.slh_few.proofs.Ends.{end_to_end-none, writes-more, part_fits, written_all}
+use Rattle.slh_few.proofs.Layers.{layer_place-start, layer_place-more}
+use Rattle.slh_few.proofs.XmssLaw.{length-xmss_sig}
+use Rattle.slh_few.proofs.HtLaw.{signed_at-start, layer_made, layer_root, ht_key-ht_sig}
+use Rattle.slh_few.proofs.hypertree.ht_sign.Goals as goal
+
+pub loop-layer-init : goal.loop-layer-init
+loop-layer-init c =
+    let p = params c.args.seeds.now.set in
+    let zero : 0 * xmss_sig_len p ≡ 0 = omega arith in
+    record {
+      place = layer_place-start p c.args.idx_tree c.args.idx_leaf;
+      pair = c.requires.leaf;
+      root = c.copy_of-root.ensures ∙ signed_at-start p c.args.seeds.now.sk_seed.now c.args.seeds.now.pk_seed.now c.args.msg.now.items c.args.idx_tree c.args.idx_leaf;
+      len = ap length c.copy_of-root.ensures ∙ c.requires.msg;
+      done = ap (λ k. take k c.args.out.now) zero ∙ sym (end_to_end-none _);
+    }
+
+pub sign_layer-root-requires-clause-out : goal.sign_layer-root-requires-clause-out
+sign_layer-root-requires-clause-out c =
+    let p = params c.args.seeds.now.set in
+    let b : c.loop-layer.layer < p.d = omega (arith, c.d.ensures) in
+    let q : length c.loop-layer.out ≡ p.d * xmss_sig_len p = omega (arith, c.requires.out) in
+    rw c.layer_len-size.ensures.value (part_fits c.loop-layer.layer p.d (xmss_sig_len p) (length c.loop-layer.out) b q)
+
+pub loop-layer-preserved : goal.loop-layer-preserved
+loop-layer-preserved c =
+    let s = c.args.seeds.now.set in
+    let p = params s in
+    let sk = c.args.seeds.now.sk_seed.now in
+    let pk = c.args.seeds.now.pk_seed.now in
+    let m = c.args.msg.now.items in
+    let t = c.args.idx_tree in
+    let i = c.args.idx_leaf in
+    let l = c.loop-layer.layer in
+    let at = c.loop-layer.at in
+    let x = c.loop-layer.root.items in
+    record {
+      place = c.place_above-at.ensures.place ∙ ap (λ a. place_above p a (l + 1)) c.loop-layer.invariant.place ∙ layer_place-more p t i l;
+      pair = c.place_above-at.ensures.pair;
+      root = c.sign_layer-root.ensures.root ∙ layer_root p sk pk m t i l at x c.loop-layer.invariant.place c.loop-layer.invariant.root;
+      len = c.sign_layer-root.ensures.len;
+      done = writes-more (layer_sig p sk pk m t i) l (xmss_sig_len p) c.loop-layer.out c.sign_layer-root.new.out (xmss_sig p sk pk at x)
+          (layer_made p sk pk m t i l at x c.loop-layer.invariant.place c.loop-layer.invariant.root)
+          (length-xmss_sig s sk pk at x) c.loop-layer.invariant.done
+          (ap (λ k. take (l * xmss_sig_len p + k) c.sign_layer-root.new.out) (length-xmss_sig s sk pk at x) ∙ rw c.layer_len-size.ensures.value at c.sign_layer-root.ensures.written);
+    }
+
+pub put_layer-requires-clause-out : goal.put_layer-requires-clause-out
+put_layer-requires-clause-out c =
+    let s = c.args.seeds.now.set in
+    let p = params s in
+    let e : c.d.result - 1 ≡ c.loop-layer.layer = omega arith in
+    let b : c.loop-layer.layer < p.d = omega (arith, c.d.ensures, top_layer s, e) in
+    let q : length c.loop-layer.out ≡ p.d * xmss_sig_len p = omega (arith, c.requires.out) in
+    rw (e, c.layer_len-size.ensures.value) (part_fits c.loop-layer.layer p.d (xmss_sig_len p) (length c.loop-layer.out) b q)
+
+pub returns-clause-signature : goal.returns-clause-signature
+unfolding ht_sig
+returns-clause-signature c =
+    let s = c.args.seeds.now.set in
+    let p = params s in
+    let sk = c.args.seeds.now.sk_seed.now in
+    let pk = c.args.seeds.now.pk_seed.now in
+    let m = c.args.msg.now.items in
+    let t = c.args.idx_tree in
+    let i = c.args.idx_leaf in
+    let l = c.loop-layer.layer in
+    let at = c.loop-layer.at in
+    let x = c.loop-layer.root.items in
+    let e : c.d.result - 1 ≡ l = omega arith in
+    let all : l + 1 ≡ p.d = omega (arith, c.d.ensures, top_layer s, e) in
+    let written : take (l * xmss_sig_len p + xmss_sig_len p) c.put_layer.new.out ≡ take (l * xmss_sig_len p) c.loop-layer.out ++ xmss_sig p sk pk at x =
+    rw (e, c.layer_len-size.ensures.value) at c.put_layer.ensures in
+    let done : take ((l + 1) * xmss_sig_len p) c.put_layer.new.out ≡ end_to_end (layer_sig p sk pk m t i) (l + 1) =
+    writes-more (layer_sig p sk pk m t i) l (xmss_sig_len p) c.loop-layer.out c.put_layer.new.out (xmss_sig p sk pk at x)
+    (layer_made p sk pk m t i l at x c.loop-layer.invariant.place c.loop-layer.invariant.root)
+    (length-xmss_sig s sk pk at x) c.loop-layer.invariant.done
+    (ap (λ k. take (l * xmss_sig_len p + k) c.put_layer.new.out) (length-xmss_sig s sk pk at x) ∙ written) in
+    written_all (layer_sig p sk pk m t i) p.d (xmss_sig_len p) (l + 1) c.put_layer.new.out all (omega (arith, c.requires.out)) done
+
+pub returns-clause-key : goal.returns-clause-key
+returns-clause-key c =
+    let s = c.args.seeds.now.set in
+    let p = params s in
+    let sk = c.args.seeds.now.sk_seed.now in
+    let pk = c.args.seeds.now.pk_seed.now in
+    ap (ht_key p pk c.args.msg.now.items c.args.idx_tree c.args.idx_leaf) (returns-clause-signature c)
+    ∙ ht_key-ht_sig s sk pk c.args.msg.now.items c.args.idx_tree c.args.idx_leaf c.requires.leaf c.requires.tree

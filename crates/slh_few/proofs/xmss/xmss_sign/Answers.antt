@@ -1,0 +1,24 @@
+use Rattle.std.proofs.Common.{◌≡◌, ◌++◌, ap, ◌∙◌}
+use Rattle.slh_params.specs.ParamSet.{params}
+use Rattle.slh_tree.specs.Climb.{path}
+use Rattle.slh_few.specs.Wots.{wots_sig}
+use Rattle.slh_few.specs.Xmss.{xmss_tree, xmss_sig, xmss_key}
+use Rattle.slh_few.proofs.XmssLaw.{xmss_key-xmss_sig}
+use Rattle.slh_few.proofs.xmss.xmss_sign.Goals as goal
+
+pub returns-clause-signature : goal.returns-clause-signature
+unfolding xmss_sig
+returns-clause-signature c =
+    let p = params c.args.seeds.now.set in
+    let sk = c.args.seeds.now.sk_seed.now in
+    let pk = c.args.seeds.now.pk_seed.now in
+    let at = c.args.at in
+    let b : c.path.new.out ≡ path (xmss_tree p sk pk at.layer at.tree) at.pair = rw c.new.ensures at c.path.ensures in
+    ap (λ xs. xs ++ c.path.new.out) c.wots_sign.ensures.signature ∙ ap (λ ys. wots_sig p sk pk at c.args.msg.now.items ++ ys) b
+
+pub returns-clause-key : goal.returns-clause-key
+returns-clause-key c =
+    let at = c.args.at in
+    let pk = c.args.seeds.now.pk_seed.now in
+    ap (xmss_key (params c.args.seeds.now.set) pk at c.args.msg.now.items) (returns-clause-signature c)
+    ∙ xmss_key-xmss_sig c.args.seeds.now.set c.args.seeds.now.sk_seed.now pk at c.args.msg.now.items c.requires.pair

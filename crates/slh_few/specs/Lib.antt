@@ -1,0 +1,9 @@
+pub mod Parts
+pub mod Wots
+pub mod Xmss
+pub mod Hypertree
+pub mod Fors
+pub mod Trees
+pub use Rattle.slh_params.specs.Params
+pub use Rattle.slh_params.specs.ParamSet
+pub use Rattle.slh_tree.specs.Tree

@@ -1,0 +1,50 @@
+-- `XmssTree` and `ForsTree` as trees, whose nodes have n bytes.
+use Rattle.std.proofs.Common.{◌≡◌, ℕ, ◌≤◌, List, length}
+use Rattle.slh_params.specs.Params.{Params}
+use Rattle.slh_params.specs.ParamSet.{params}
+use Rattle.slh_params.proofs.Table.{n_small}
+use Rattle.slh_hash.proofs.Lengths.{length-F}
+use Rattle.slh_hash.proofs.Lengths.{length-T}
+use Rattle.slh_tree.specs.Tree.{MerkleTree, Lawful}
+use Rattle.slh_few.specs.Wots.{wots_pk}
+use Rattle.slh_few.specs.Xmss.{xmss_tree}
+use Rattle.slh_few.specs.Fors.{fors_tree}
+use Rattle.slh_few.specs.declared.fors_tree.ForsTree.{ForsTree}
+use Rattle.slh_params.specs.declared.param_set.ParamSet.{ParamSet}
+use Rattle.slh_few.specs.declared.place.Place.{Place}
+use Rattle.slh_few.specs.declared.xmss.XmssTree.{XmssTree}
+
+-- the tree that an `XmssTree` is
+unfoldable pub xmss_tree_of : XmssTree → MerkleTree
+xmss_tree_of t = xmss_tree (params t.seeds.set) t.seeds.sk_seed.now t.seeds.pk_seed.now t.layer t.tree
+
+-- the tree that a `ForsTree` is
+unfoldable pub fors_tree_of : ForsTree → MerkleTree
+fors_tree_of t = fors_tree (params t.seeds.set) t.seeds.sk_seed.now t.seeds.pk_seed.now t.idx_tree t.idx_leaf t.tree_no
+
+-- a WOTS+ public key has n bytes
+length-wots_pk : (p : Params) (sk pk : List ℕ) (at : Place) → p.n ≤ 32 → length (wots_pk p sk pk at) ≡ p.n
+unfolding wots_pk
+length-wots_pk p sk pk at h = length-T p pk _ _ h
+
+-- all nodes of the two trees have n bytes
+pub xmss_tree-lawful : (s : ParamSet) (sk pk : List ℕ) (l t : ℕ) → Lawful (xmss_tree (params s) sk pk l t)
+xmss_tree-lawful s sk pk l t = record {
+  leaf_width = λ i. length-wots_pk (params s) sk pk _ (n_small s);
+  join_width = λ z i x y. length-T (params s) pk _ _ (n_small s);
+}
+
+pub fors_tree-lawful : (s : ParamSet) (sk pk : List ℕ) (t i j : ℕ) → Lawful (fors_tree (params s) sk pk t i j)
+fors_tree-lawful s sk pk t i j = record {
+  leaf_width = λ v. length-F (params s) pk _ _ (n_small s);
+  join_width = λ z v x y. length-T (params s) pk _ _ (n_small s);
+}
+
+-- the same, of what `XmssTree` and `ForsTree` are
+pub xmss-lawful : (t : XmssTree) → Lawful (xmss_tree_of t)
+unfolding xmss_tree_of
+xmss-lawful t = xmss_tree-lawful t.seeds.set t.seeds.sk_seed.now t.seeds.pk_seed.now t.layer t.tree
+
+pub fors-lawful : (t : ForsTree) → Lawful (fors_tree_of t)
+unfolding fors_tree_of
+fors-lawful t = fors_tree-lawful t.seeds.set t.seeds.sk_seed.now t.seeds.pk_seed.now t.idx_tree t.idx_leaf t.tree_no

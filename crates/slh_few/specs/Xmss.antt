@@ -1,0 +1,39 @@
+-- XMSS (FIPS 205, section 6).
+use Rattle.std.specs.Prelude.{ℕ, ◌+◌, ◌*◌, List, [], ◌++◌, take, drop}
+use Rattle.slh_params.specs.Address.{address, TREE}
+use Rattle.slh_params.specs.Params.{Params, len}
+use Rattle.slh_hash.specs.Hash.{H}
+use Rattle.slh_tree.specs.Tree.{MerkleTree}
+use Rattle.slh_tree.specs.Climb.{path, climb}
+use Rattle.slh_few.specs.Wots.{wots_pk, wots_sig, wots_key}
+use Rattle.slh_few.specs.declared.place.Place.{Place}
+
+-- the place with these numbers
+abbrev pub place : ℕ → ℕ → ℕ → Place
+place l t i = record { layer = l; tree = t; pair = i }
+
+-- tree t of layer l: its leaves are WOTS+ public keys (Algorithm 9)
+abbrev pub xmss_tree : Params → List ℕ → List ℕ → ℕ → ℕ → MerkleTree
+xmss_tree p sk pk l t = record {
+  height = p.hp;
+  width = p.n;
+  leaf = λ i. wots_pk p sk pk (place l t i);
+  join = λ z i x y. H p pk (address l t TREE 0 z i) x y;
+}
+
+-- the length of a WOTS+ signature, and of an XMSS signature
+abbrev pub wots_sig_len : Params → ℕ
+wots_sig_len p = len p * p.n
+
+abbrev pub xmss_sig_len : Params → ℕ
+xmss_sig_len p = (len p + p.hp) * p.n
+
+-- the signature: that of the leaf's WOTS+ key, then the leaf's path (Algorithm 10)
+unfoldable pub xmss_sig : Params → List ℕ → List ℕ → Place → List ℕ → List ℕ
+xmss_sig p sk pk at m = wots_sig p sk pk at m ++ path (xmss_tree p sk pk at.layer at.tree) at.pair
+
+-- the root that a signature gives (Algorithm 11); climbing makes no leaf, so that no SK.seed is needed
+unfoldable pub xmss_key : Params → List ℕ → Place → List ℕ → List ℕ → List ℕ
+xmss_key p pk at m sig =
+    climb (xmss_tree p [] pk at.layer at.tree) at.pair
+    (wots_key p pk at m (take (wots_sig_len p) sig)) (drop (wots_sig_len p) sig)

@@ -1,0 +1,195 @@
+//! FORS, few-time signatures of a message digest (FIPS 205, section 8).
+ghost use Rattle.std.specs.Prelude.{[], take, drop, ◌≡◌, ℕ, List, ◌+◌, ◌*◌, ◌^◌, ◌≤◌, ◌<◌, ◌++◌, length, slice_index};
+ghost use Rattle.slh_params.specs.Params.{md_len};
+ghost use Rattle.slh_params.specs.ParamSet.{params};
+ghost use Rattle.slh_hash.specs.Seeded.{IsSeeded};
+ghost use Rattle.slh_tree.specs.Tree.{root as root_of};
+ghost use Rattle.slh_tree.specs.Climb.{path as path_of, climb as climb_of};
+ghost use Rattle.slh_few.specs.Fors.{fors_tree, fors_leaf, fors_secret, fors_index, fors_part_len, fors_sig, fors_key, compressed_roots};
+ghost use Rattle.slh_few.specs.Parts.{part};
+
+use crate::fors_tree::{ForsTree, SeededForsTree, fors_adrs, index_in_forest};
+use crate::place::{Public, Seeds};
+use slh_hash::{SeededHash, SeededTreeHash, TStream};
+use slh_params::{AdrsType, Node, ParamSet, base_2b, node_of};
+use slh_tree::{climb, path};
+
+/// The most FORS trees of any set.
+const MOST_TREES: usize = 64;
+
+/// The leaf of each tree that a digest asks for, with zeros after them.
+fn indices_of(set: ParamSet, md: &[u8]) -> [u32; MOST_TREES]
+    requires { length md.now ≡ md_len (params set) }
+    ensures { (j : ℕ) → j < (params set).k → slice_index result j
+        ≡ fors_index (params set) md.now j }
+{
+    let mut indices = [0; MOST_TREES];
+    let count = set.k() as usize;
+    base_2b(md, set.a(), &mut indices[..count]);
+    indices
+}
+
+/// The length of a secret and its path.
+fn part_len(set: ParamSet) -> usize
+    ensures value { result ≡ fors_part_len (params set) }
+    ensures small { result < 3000 }
+{
+    (1 + set.a() as usize) * set.n()
+}
+
+/// Writes the secret of leaf `i`, then the leaf's path.
+#[tactic(auto, unfolding(crate::specs::Trees::fors_tree_of))]
+fn sign_tree(seeded_tree: &SeededForsTree, i: u32, out: &mut [u8])
+    requires leaf { i < 2 ^ (params seeded_tree.now.tree.seeds.set).a }
+    requires out { length out.old ≡ fors_part_len (params seeded_tree.now.tree.seeds.set) }
+    ensures { let t = seeded_tree.now.tree in let p = params t.seeds.set in
+        let sk = t.seeds.sk_seed.now in let pk = t.seeds.pk_seed.now in
+        IsSeeded seeded_tree.now.seeded.now p pk → out.new
+        ≡ fors_secret p sk pk t.idx_tree t.idx_leaf (t.tree_no * 2 ^ p.a + i)
+        ++ path_of (fors_tree p sk pk t.idx_tree t.idx_leaf t.tree_no) i }
+{
+    let tree = &seeded_tree.tree;
+    let (secret, auth) = out.split_at_mut(tree.seeds.set.n());
+    secret.copy_from_slice(&tree.secret(seeded_tree.seeded, i));
+    path(seeded_tree, i, auth);
+}
+
+/// The same from `start` on.
+fn put_tree(seeded_tree: &SeededForsTree, i: u32, out: &mut [u8], start: usize)
+    requires leaf { i < 2 ^ (params seeded_tree.now.tree.seeds.set).a }
+    requires out { start + fors_part_len (params seeded_tree.now.tree.seeds.set) ≤ length out.old }
+    ensures { let t = seeded_tree.now.tree in let p = params t.seeds.set in
+        let sk = t.seeds.sk_seed.now in let pk = t.seeds.pk_seed.now in
+        IsSeeded seeded_tree.now.seeded.now p pk → take (start + fors_part_len p) out.new
+        ≡ take start out.old ++
+        (fors_secret p sk pk t.idx_tree t.idx_leaf (t.tree_no * 2 ^ p.a + i)
+        ++ path_of (fors_tree p sk pk t.idx_tree t.idx_leaf t.tree_no) i) }
+{
+    let end = start + part_len(seeded_tree.tree.seeds.set);
+    sign_tree(seeded_tree, i, &mut out[start..end]);
+}
+
+/// Writes the signature of a digest of md_len bytes by the key at leaf `idx_leaf` of tree `idx_tree`:
+/// of each tree the secret that the digest asks for and its path, k * (1 + a) * n bytes (Algorithm 16).
+/// The key that it gives is T over the trees' roots.
+pub fn fors_sign(seeds: &Seeds, idx_tree: u64, idx_leaf: u32, md: &[u8], out: &mut [u8])
+    requires md { length md.now ≡ md_len (params seeds.now.set) }
+    requires out { let p = params seeds.now.set in
+        length out.old ≡ p.k * fors_part_len p }
+    ensures signature { let p = params seeds.now.set in let sk = seeds.now.sk_seed.now in
+        let pk = seeds.now.pk_seed.now in
+        out.new ≡ fors_sig p sk pk idx_tree idx_leaf md.now }
+    ensures key { let p = params seeds.now.set in let sk = seeds.now.sk_seed.now in
+        let pk = seeds.now.pk_seed.now in
+        fors_key p pk idx_tree idx_leaf md.now out.new
+        ≡ compressed_roots p pk idx_tree idx_leaf
+        (λ j. root_of (fors_tree p sk pk idx_tree idx_leaf j)) }
+{
+    let indices = indices_of(seeds.set, md);
+    let size = part_len(seeds.set);
+    let seeded = SeededHash::new(seeds.set, seeds.pk_seed);
+    let joins = SeededTreeHash::new(seeds.set, seeds.pk_seed);
+    for j in 0..seeds.set.k() {
+        let tree = SeededForsTree::new(&seeded, &joins, seeds, idx_tree, idx_leaf, j);
+        put_tree(&tree, indices[j as usize], out, j as usize * size);
+    }
+}
+
+/// The root of tree `j` that a signature gives for leaf `i`.
+fn root_from(
+    public: &Public,
+    seeded: &SeededHash,
+    idx_tree: u64,
+    idx_leaf: u32,
+    j: u32,
+    i: u32,
+    sig: &[u8],
+) -> Node
+    requires state { IsSeeded seeded.now (params public.now.set) public.now.pk_seed.now }
+    requires tree { j < (params public.now.set).k }
+    requires leaf { i < 2 ^ (params public.now.set).a }
+    requires sig { length sig.now ≡ fors_part_len (params public.now.set) }
+    ensures value { let p = params public.now.set in let pk = public.now.pk_seed.now in
+        result.items ≡ climb_of (fors_tree p [] pk idx_tree idx_leaf j) i
+        (fors_leaf p pk idx_tree idx_leaf (j * 2 ^ p.a + i) (take p.n sig.now))
+        (drop p.n sig.now) }
+    ensures len { length result.items ≡ (params public.now.set).n }
+{
+    let set = public.set;
+    let seeds = Seeds {
+        set,
+        sk_seed: &[],
+        pk_seed: public.pk_seed,
+    };
+    let (secret, auth) = sig.split_at(set.n());
+    let index = index_in_forest(j, set.a(), i);
+    let adrs = fors_adrs(idx_tree, idx_leaf, AdrsType::ForsTree, 0, index);
+    let leaf = seeded.f(&adrs, &node_of(secret));
+    climb(
+        &ForsTree::new(&seeds, idx_tree, idx_leaf, j),
+        i,
+        &leaf,
+        auth,
+    )
+}
+
+/// The same, from the signatures of all trees.
+fn root_at(
+    public: &Public,
+    seeded: &SeededHash,
+    idx_tree: u64,
+    idx_leaf: u32,
+    j: u32,
+    i: u32,
+    sig: &[u8],
+) -> Node
+    requires state { IsSeeded seeded.now (params public.now.set) public.now.pk_seed.now }
+    requires tree { j < (params public.now.set).k }
+    requires leaf { i < 2 ^ (params public.now.set).a }
+    requires sig { let p = params public.now.set in
+        j * fors_part_len p + fors_part_len p ≤ length sig.now }
+    ensures { let p = params public.now.set in let pk = public.now.pk_seed.now in
+        let own = part (fors_part_len p) sig.now j in
+        result.items ≡ climb_of (fors_tree p [] pk idx_tree idx_leaf j) i
+        (fors_leaf p pk idx_tree idx_leaf (j * 2 ^ p.a + i) (take p.n own)) (drop p.n own) }
+{
+    let size = part_len(public.set);
+    let start = j as usize * size;
+    root_from(
+        public,
+        seeded,
+        idx_tree,
+        idx_leaf,
+        j,
+        i,
+        &sig[start..start + size],
+    )
+}
+
+/// The public key that a signature of a digest of md_len bytes, of k * (1 + a) * n bytes itself,
+/// gives: n bytes (Algorithm 17).
+pub fn fors_pk_from_sig(
+    public: &Public,
+    idx_tree: u64,
+    idx_leaf: u32,
+    md: &[u8],
+    sig: &[u8],
+) -> Node
+    requires md { length md.now ≡ md_len (params public.now.set) }
+    requires sig { let p = params public.now.set in
+        length sig.now ≡ p.k * fors_part_len p }
+    ensures value { let p = params public.now.set in let pk = public.now.pk_seed.now in
+        result.items ≡ fors_key p pk idx_tree idx_leaf md.now sig.now }
+    ensures len { length result.items ≡ (params public.now.set).n }
+{
+    let indices = indices_of(public.set, md);
+    let seeded = SeededHash::new(public.set, public.pk_seed);
+    let adrs = fors_adrs(idx_tree, idx_leaf, AdrsType::ForsRoots, 0, 0);
+    let mut roots = TStream::new(public.set, public.pk_seed, &adrs);
+    for j in 0..public.set.k() {
+        let i = indices[j as usize];
+        let root = root_at(public, &seeded, idx_tree, idx_leaf, j, i, sig);
+        roots.absorb(&root);
+    }
+    roots.finish()
+}

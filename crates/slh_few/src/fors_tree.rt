@@ -1,0 +1,211 @@
+//! The trees of FORS (FIPS 205, section 8.2).
+ghost use Rattle.std.specs.Prelude.{◌≡◌, ℕ, List, ◌+◌, ◌-◌, ◌*◌, ◌^◌, ◌≤◌, ◌<◌, length};
+ghost use Rattle.slh_params.specs.Address.{address};
+ghost use Rattle.slh_params.specs.AdrsType.{type_number};
+ghost use Rattle.slh_params.specs.ParamSet.{params};
+ghost use Rattle.slh_hash.specs.Seeded.{IsSeeded};
+ghost use Rattle.slh_hash.specs.Stream.{IsSeededTree};
+ghost use Rattle.slh_few.specs.Fors.{fors_tree, fors_leaf, fors_secret};
+
+use crate::place::Seeds;
+use slh_hash::{SeededHash, SeededTreeHash};
+use slh_params::{Adrs, AdrsType, Node};
+use slh_tree::Tree;
+
+/// One of the k FORS trees of a key pair.
+#[derive(Drop)]
+pub struct ForsTree<'a> {
+    pub(crate) seeds: Seeds<'a>,
+    pub(crate) idx_tree: u64,
+    pub(crate) idx_leaf: u32,
+    pub(crate) tree_no: u32,
+    ghost small: { tree_no < 64 },
+}
+
+/// The FORS address of a type, a height and an index.
+pub(crate) fn fors_adrs(
+    idx_tree: u64,
+    idx_leaf: u32,
+    kind: AdrsType,
+    height: u32,
+    index: u32,
+) -> Adrs
+    ensures { result ≡ address 0 idx_tree (type_number kind) idx_leaf height index }
+{
+    let mut adrs = Adrs::zero();
+    adrs.set_tree(idx_tree);
+    adrs.set_type_and_clear(kind);
+    adrs.set_key_pair(idx_leaf);
+    adrs.set_chain(height);
+    adrs.set_hash(index);
+    adrs
+}
+
+/// The index that node `index` of tree `tree_no` has among the nodes of its height of all trees.
+/// A tree has 2 ^ `levels` nodes of that height.
+pub(crate) fn index_in_forest(tree_no: u32, levels: u32, index: u32) -> u32
+    requires tree { tree_no < 64 }
+    requires levels { levels ≤ 14 }
+    requires index { index < 2 ^ levels }
+    ensures { result ≡ tree_no * 2 ^ levels + index }
+{
+    tree_no * (1 << levels) + index
+}
+
+impl<'a> ForsTree<'a> {
+    ghost use Rattle.slh_few.specs.Trees.{fors_tree_of};
+
+    /// Tree `tree_no` of the FORS key at leaf `idx_leaf` of tree `idx_tree`: of height a, with nodes
+    /// of n bytes.
+    #[tactic(auto, unfolding(crate::specs::Trees::fors_tree_of))]
+    pub fn new(seeds: &Seeds<'a>, idx_tree: u64, idx_leaf: u32, tree_no: u32) -> Self
+        requires { tree_no < (params seeds.now.set).k }
+        ensures { let p = params seeds.now.set in let sk = seeds.now.sk_seed.now in
+            let pk = seeds.now.pk_seed.now in
+            fors_tree_of result ≡ fors_tree p sk pk idx_tree idx_leaf tree_no }
+    {
+        Self::at(seeds, idx_tree, idx_leaf, tree_no)
+    }
+
+    fn at(seeds: &Seeds<'a>, idx_tree: u64, idx_leaf: u32, tree_no: u32) -> Self
+        requires { tree_no < (params seeds.now.set).k }
+        ensures seeds { result.seeds ≡ seeds.now }
+        ensures idx_tree { result.idx_tree ≡ idx_tree }
+        ensures idx_leaf { result.idx_leaf ≡ idx_leaf }
+        ensures tree_no { result.tree_no ≡ tree_no }
+    {
+        ForsTree {
+            seeds: *seeds,
+            idx_tree,
+            idx_leaf,
+            tree_no,
+        }
+    }
+
+    /// The secret of leaf `i` (Algorithm 14).
+    pub(crate) fn secret(&self, seeded: &SeededHash, i: u32) -> Node
+        requires { i < 2 ^ (params self.now.seeds.set).a }
+        ensures value { let p = params self.now.seeds.set in let sk = self.now.seeds.sk_seed.now in
+            (pk : List ℕ) → IsSeeded seeded.now p pk → result.items
+            ≡ fors_secret p sk pk self.now.idx_tree self.now.idx_leaf
+            (self.now.tree_no * 2 ^ p.a + i) }
+        ensures len { let p = params self.now.seeds.set in
+            (pk : List ℕ) → IsSeeded seeded.now p pk → length result.items ≡ p.n }
+    {
+        let index = index_in_forest(self.tree_no, self.seeds.set.a(), i);
+        seeded.prf(
+            self.seeds.sk_seed,
+            &fors_adrs(self.idx_tree, self.idx_leaf, AdrsType::ForsPrf, 0, index),
+        )
+    }
+
+    /// Leaf `i`: F of its secret.
+    fn leaf_from(&self, seeded: &SeededHash, i: u32) -> Node
+        requires { i < 2 ^ (params self.now.seeds.set).a }
+        ensures { let p = params self.now.seeds.set in let sk = self.now.seeds.sk_seed.now in
+            (pk : List ℕ) → IsSeeded seeded.now p pk → result.items
+            ≡ (fors_tree p sk pk self.now.idx_tree self.now.idx_leaf self.now.tree_no).leaf i }
+    {
+        let index = index_in_forest(self.tree_no, self.seeds.set.a(), i);
+        let adrs = fors_adrs(self.idx_tree, self.idx_leaf, AdrsType::ForsTree, 0, index);
+        seeded.f(&adrs, &self.secret(seeded, i))
+    }
+
+    /// Node `i` of height `z`: H of its two children.
+    fn join_from(&self, seeded: &SeededTreeHash, z: u32, i: u32, l: &Node, r: &Node) -> Node
+        requires height { z ≤ (params self.now.seeds.set).a }
+        requires index { i < 2 ^ ((params self.now.seeds.set).a - z) }
+        ensures { let p = params self.now.seeds.set in let sk = self.now.seeds.sk_seed.now in
+            (pk : List ℕ) → IsSeededTree seeded.now p pk → result.items
+            ≡ (fors_tree p sk pk self.now.idx_tree self.now.idx_leaf self.now.tree_no).join z i l.now.items r.now.items }
+    {
+        let index = index_in_forest(self.tree_no, self.seeds.set.a() - z, i);
+        let adrs = fors_adrs(self.idx_tree, self.idx_leaf, AdrsType::ForsTree, z, index);
+        seeded.h(&adrs, l, r)
+    }
+}
+
+impl<'a> Tree for ForsTree<'a> {
+    ghost use Rattle.slh_few.specs.Trees.{fors_tree_of, fors-lawful};
+
+    ghost tree = { fors_tree_of };
+
+    ghost lawful = { fors-lawful };
+
+    #[tactic(auto, unfolding(crate::specs::Trees::fors_tree_of))]
+    fn height(&self) -> u32 {
+        self.seeds.set.a()
+    }
+
+    #[tactic(auto, unfolding(crate::specs::Trees::fors_tree_of))]
+    fn leaf(&self, i: u32) -> Node {
+        let seeded = SeededHash::new(self.seeds.set, self.seeds.pk_seed);
+        self.leaf_from(&seeded, i)
+    }
+
+    #[tactic(auto, unfolding(crate::specs::Trees::fors_tree_of))]
+    fn join(&self, z: u32, i: u32, l: &Node, r: &Node) -> Node {
+        let seeded = SeededTreeHash::new(self.seeds.set, self.seeds.pk_seed);
+        self.join_from(&seeded, z, i, l, r)
+    }
+}
+
+/// A FORS tree with the hash states that one call of `fors_sign` makes for the leaves and the nodes of all its trees.
+#[derive(Drop)]
+pub(crate) struct SeededForsTree<'s, 'h> {
+    pub(crate) tree: ForsTree<'s>,
+    pub(crate) seeded: &'h SeededHash,
+    pub(crate) joins: &'h SeededTreeHash,
+    ghost state: { ∥ IsSeeded seeded.now (params tree.seeds.set) tree.seeds.pk_seed.now ∥₁ },
+    ghost join_state: { ∥ IsSeededTree joins.now (params tree.seeds.set) tree.seeds.pk_seed.now ∥₁ },
+}
+
+impl<'s, 'h> SeededForsTree<'s, 'h> {
+    pub(crate) fn new(
+        seeded: &'h SeededHash,
+        joins: &'h SeededTreeHash,
+        seeds: &Seeds<'s>,
+        idx_tree: u64,
+        idx_leaf: u32,
+        tree_no: u32,
+    ) -> Self
+        requires number { tree_no < (params seeds.now.set).k }
+        requires state { IsSeeded seeded.now (params seeds.now.set) seeds.now.pk_seed.now }
+        requires join_state { IsSeededTree joins.now (params seeds.now.set) seeds.now.pk_seed.now }
+        ensures seeds { result.tree.seeds ≡ seeds.now }
+        ensures idx_tree { result.tree.idx_tree ≡ idx_tree }
+        ensures idx_leaf { result.tree.idx_leaf ≡ idx_leaf }
+        ensures tree_no { result.tree.tree_no ≡ tree_no }
+        ensures state { IsSeeded result.seeded.now (params seeds.now.set) seeds.now.pk_seed.now }
+    {
+        let tree = ForsTree::at(seeds, idx_tree, idx_leaf, tree_no);
+        SeededForsTree {
+            tree,
+            seeded,
+            joins,
+        }
+    }
+}
+
+impl<'s, 'h> Tree for SeededForsTree<'s, 'h> {
+    ghost use Rattle.slh_few.specs.Trees.{fors_tree_of, fors-lawful};
+
+    ghost tree = { λ t. fors_tree_of t.tree };
+
+    ghost lawful = { λ t. fors-lawful t.tree };
+
+    #[tactic(auto, unfolding(crate::specs::Trees::fors_tree_of))]
+    fn height(&self) -> u32 {
+        self.tree.height()
+    }
+
+    #[tactic(auto, unfolding(crate::specs::Trees::fors_tree_of))]
+    fn leaf(&self, i: u32) -> Node {
+        self.tree.leaf_from(self.seeded, i)
+    }
+
+    #[tactic(auto, unfolding(crate::specs::Trees::fors_tree_of))]
+    fn join(&self, z: u32, i: u32, l: &Node, r: &Node) -> Node {
+        self.tree.join_from(self.joins, z, i, l, r)
+    }
+}

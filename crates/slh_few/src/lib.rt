@@ -1,0 +1,22 @@
+//! WOTS+, XMSS, the hypertree and FORS (FIPS 205, sections 5 to 8).
+//!
+//! Nothing here takes memory or refuses anything: what a call needs is a condition of its contract.
+//! A hash state is made within one call and dropped at its end.
+#![tactic(auto)]
+
+mod base_w;
+mod fors;
+mod fors_tree;
+mod hypertree;
+mod nodes;
+mod place;
+mod wots;
+mod xmss;
+
+pub use base_w::digits;
+pub use fors::{fors_pk_from_sig, fors_sign};
+pub use fors_tree::ForsTree;
+pub use hypertree::{ht_sign, ht_verify, layer_place};
+pub use place::{Place, Public, Seeds};
+pub use wots::{chain, wots_pk, wots_pk_from_sig, wots_sign};
+pub use xmss::{XmssTree, xmss_pk_from_sig, xmss_sign};

@@ -1,0 +1,26 @@
+//! What the calls of this crate are about: whose seeds, and which key of them.
+
+use slh_params::ParamSet;
+
+/// The seeds that signing needs: SK.seed and PK.seed, of n bytes each.
+#[derive(Clone, Copy)]
+pub struct Seeds<'a> {
+    pub set: ParamSet,
+    pub sk_seed: &'a [u8],
+    pub pk_seed: &'a [u8],
+}
+
+/// The seed that verifying needs: PK.seed, of n bytes.
+#[derive(Clone, Copy)]
+pub struct Public<'a> {
+    pub set: ParamSet,
+    pub pk_seed: &'a [u8],
+}
+
+/// The place of a WOTS+ key: a layer of the hypertree, a tree of that layer and a leaf of that tree.
+#[derive(Clone, Copy)]
+pub struct Place {
+    pub layer: u8,
+    pub tree: u64,
+    pub pair: u32,
+}

@@ -1,0 +1,135 @@
+//! WOTS+, one-time signatures (FIPS 205, section 5).
+ghost use Rattle.std.specs.Prelude.{◌≡◌, ℕ, List, ◌+◌, ◌-◌, ◌*◌, ◌≤◌, ◌<◌, length};
+ghost use Rattle.slh_params.specs.AdrsType.{type_number};
+ghost use Rattle.slh_params.specs.Params.{Params, len, w};
+ghost use Rattle.slh_params.specs.ParamSet.{params};
+ghost use Rattle.slh_hash.specs.Seeded.{IsSeeded};
+ghost use Rattle.slh_few.specs.Wots.{wots_address, chain as chain_of, secret, whole_chain, wots_pk, wots_sig, wots_key};
+
+use crate::base_w::{LAST_STEP, digits_of};
+use crate::nodes::{node_at, put_node};
+use crate::place::{Place, Public, Seeds};
+use slh_hash::{SeededHash, TStream};
+use slh_params::{Adrs, AdrsType, Node, copy_of};
+
+/// The WOTS+ address of a type at a place: a chain, and a step of it.
+fn wots_adrs(at: Place, kind: AdrsType, chain: u32, hash: u32) -> Adrs
+    ensures { result ≡ wots_address at (type_number kind) chain hash }
+{
+    let mut adrs = Adrs::zero();
+    adrs.set_layer(at.layer);
+    adrs.set_tree(at.tree);
+    adrs.set_type_and_clear(kind);
+    adrs.set_key_pair(at.pair);
+    adrs.set_chain(chain);
+    adrs.set_hash(hash);
+    adrs
+}
+
+/// Runs chain `c` on from `x`, which is its value after `from` steps.
+fn run_chain(seeded: &SeededHash, at: Place, c: u32, x: Node, from: u32, steps: u32) -> Node
+    requires { from + steps ≤ LAST_STEP }
+    ensures value { (p : Params) (pk : List ℕ) → IsSeeded seeded.now p pk → result.items
+        ≡ chain_of p pk at c x.items from steps }
+    ensures len { (p : Params) (pk : List ℕ) → IsSeeded seeded.now p pk → length x.items ≡ p.n
+        → length result.items ≡ p.n }
+{
+    let mut adrs = wots_adrs(at, AdrsType::WotsHash, c, 0);
+    let mut node = x;
+    for step in 0..steps {
+        adrs.set_hash(from + step);
+        node = seeded.f(&adrs, &node);
+    }
+    node
+}
+
+/// The value of chain `chain_no` that `steps` steps lead to from `x`, its value after `from` steps:
+/// n bytes (Algorithm 5). A chain run in two parts is the chain.
+pub fn chain(public: &Public, at: Place, chain_no: u32, x: &Node, from: u32, steps: u32) -> Node
+    requires { from + steps ≤ w (params public.now.set) - 1 }
+    ensures value { let p = params public.now.set in let pk = public.now.pk_seed.now in
+        result.items ≡ chain_of p pk at chain_no x.now.items from steps }
+    ensures two_parts { let p = params public.now.set in let pk = public.now.pk_seed.now in
+        (first rest : ℕ) → first + rest ≡ steps → result.items
+        ≡ chain_of p pk at chain_no (chain_of p pk at chain_no x.now.items from first)
+        (from + first) rest }
+{
+    let seeded = SeededHash::new(public.set, public.pk_seed);
+    run_chain(&seeded, at, chain_no, copy_of(x), from, steps)
+}
+
+/// The value of chain `c` after `steps` steps from its secret.
+fn run_secret(seeded: &SeededHash, sk_seed: &[u8], at: Place, c: u32, steps: u32) -> Node
+    requires { steps ≤ LAST_STEP }
+    ensures value { (p : Params) (pk : List ℕ) → IsSeeded seeded.now p pk
+        → result.items ≡ chain_of p pk at c (secret p sk_seed.now pk at c) 0 steps }
+    ensures len { (p : Params) (pk : List ℕ) → IsSeeded seeded.now p pk → length result.items
+        ≡ p.n }
+{
+    let secret = seeded.prf(sk_seed, &wots_adrs(at, AdrsType::WotsPrf, c, 0));
+    run_chain(seeded, at, c, secret, 0, steps)
+}
+
+/// The public key at a place: n bytes (Algorithm 6).
+pub fn wots_pk(seeds: &Seeds, at: Place) -> Node
+    ensures value { let p = params seeds.now.set in let sk = seeds.now.sk_seed.now in
+        let pk = seeds.now.pk_seed.now in
+        result.items ≡ wots_pk p sk pk at }
+    ensures len { length result.items ≡ (params seeds.now.set).n }
+{
+    let seeded = SeededHash::new(seeds.set, seeds.pk_seed);
+    let mut ends = TStream::new(
+        seeds.set,
+        seeds.pk_seed,
+        &wots_adrs(at, AdrsType::WotsPk, 0, 0),
+    );
+    for c in 0..seeds.set.len() as u32 {
+        ends.absorb(&run_secret(&seeded, seeds.sk_seed, at, c, LAST_STEP));
+    }
+    ends.finish()
+}
+
+/// Writes the signature of a message of n bytes: len * n bytes (Algorithm 7).
+/// The key that it gives is the public key.
+pub fn wots_sign(seeds: &Seeds, at: Place, msg: &Node, out: &mut [u8])
+    requires msg { length msg.now.items ≡ (params seeds.now.set).n }
+    requires out { length out.old ≡ len (params seeds.now.set) * (params seeds.now.set).n }
+    ensures signature { let p = params seeds.now.set in let sk = seeds.now.sk_seed.now in
+        let pk = seeds.now.pk_seed.now in
+        out.new ≡ wots_sig p sk pk at msg.now.items }
+    ensures key { wots_key (params seeds.now.set) seeds.now.pk_seed.now at msg.now.items out.new
+        ≡ wots_pk (params seeds.now.set) seeds.now.sk_seed.now seeds.now.pk_seed.now at }
+{
+    let seeded = SeededHash::new(seeds.set, seeds.pk_seed);
+    let digits = digits_of(seeds.set, msg);
+    let n = seeds.set.n();
+    for c in 0..seeds.set.len() {
+        let node = run_secret(&seeded, seeds.sk_seed, at, c as u32, digits[c]);
+        put_node(out, c * n, &node);
+    }
+}
+
+/// The public key that a signature of a message of n bytes gives: n bytes (Algorithm 8).
+pub fn wots_pk_from_sig(public: &Public, at: Place, msg: &Node, sig: &[u8]) -> Node
+    requires msg { length msg.now.items ≡ (params public.now.set).n }
+    requires sig { length sig.now ≡ len (params public.now.set) * (params public.now.set).n }
+    ensures value { let p = params public.now.set in let pk = public.now.pk_seed.now in
+        result.items ≡ wots_key p pk at msg.now.items sig.now }
+    ensures len { length result.items ≡ (params public.now.set).n }
+{
+    let seeded = SeededHash::new(public.set, public.pk_seed);
+    let digits = digits_of(public.set, msg);
+    let n = public.set.n();
+    let mut ends = TStream::new(
+        public.set,
+        public.pk_seed,
+        &wots_adrs(at, AdrsType::WotsPk, 0, 0),
+    );
+    for c in 0..public.set.len() {
+        let node = node_at(sig, n, c);
+        let digit = digits[c];
+        let end = run_chain(&seeded, at, c as u32, node, digit, LAST_STEP - digit);
+        ends.absorb(&end);
+    }
+    ends.finish()
+}

@@ -1,0 +1,115 @@
+//! XMSS: a tree of WOTS+ keys (FIPS 205, section 6).
+ghost use Rattle.std.specs.Prelude.{◌≡◌, ◌+◌, ◌*◌, ◌^◌, ◌≤◌, ◌<◌, length};
+ghost use Rattle.slh_params.specs.AdrsType.{type_number};
+ghost use Rattle.slh_params.specs.Address.{address};
+ghost use Rattle.slh_params.specs.Params.{len};
+ghost use Rattle.slh_params.specs.ParamSet.{params};
+ghost use Rattle.slh_tree.specs.Tree.{root as root_of};
+ghost use Rattle.slh_few.specs.Xmss.{xmss_tree, xmss_sig, xmss_key, xmss_sig_len};
+
+use crate::place::{Place, Public, Seeds};
+use crate::wots::{wots_pk, wots_pk_from_sig, wots_sign};
+use slh_hash::h;
+use slh_params::{Adrs, AdrsType, Node};
+use slh_tree::{Tree, climb, path};
+
+/// One tree of a layer of the hypertree. Its leaves are WOTS+ public keys (Algorithm 9).
+#[derive(Drop)]
+pub struct XmssTree<'a> {
+    seeds: Seeds<'a>,
+    layer: u8,
+    tree: u64,
+}
+
+impl<'a> XmssTree<'a> {
+    ghost use Rattle.slh_few.specs.Trees.{xmss_tree_of};
+
+    /// Tree `tree` of layer `layer`: of height h', with nodes of n bytes.
+    #[tactic(auto, unfolding(crate::specs::Trees::xmss_tree_of))]
+    pub fn new(seeds: &Seeds<'a>, layer: u8, tree: u64) -> Self
+        ensures { let p = params seeds.now.set in let sk = seeds.now.sk_seed.now in
+            let pk = seeds.now.pk_seed.now in
+            xmss_tree_of result ≡ xmss_tree p sk pk layer tree }
+    {
+        XmssTree {
+            seeds: *seeds,
+            layer,
+            tree,
+        }
+    }
+}
+
+impl<'a> Tree for XmssTree<'a> {
+    ghost use Rattle.slh_few.specs.Trees.{xmss_tree_of, xmss-lawful};
+
+    ghost tree = { xmss_tree_of };
+
+    ghost lawful = { xmss-lawful };
+
+    #[tactic(auto, unfolding(crate::specs::Trees::xmss_tree_of))]
+    fn height(&self) -> u32 {
+        self.seeds.set.hp()
+    }
+
+    #[tactic(auto, unfolding(crate::specs::Trees::xmss_tree_of))]
+    fn leaf(&self, i: u32) -> Node {
+        wots_pk(
+            &self.seeds,
+            Place {
+                layer: self.layer,
+                tree: self.tree,
+                pair: i,
+            },
+        )
+    }
+
+    #[tactic(auto, unfolding(crate::specs::Trees::xmss_tree_of))]
+    fn join(&self, z: u32, i: u32, l: &Node, r: &Node) -> Node {
+        let mut adrs = Adrs::zero();
+        adrs.set_layer(self.layer);
+        adrs.set_tree(self.tree);
+        adrs.set_type_and_clear(AdrsType::Tree);
+        adrs.set_chain(z);
+        adrs.set_hash(i);
+        h(self.seeds.set, self.seeds.pk_seed, &adrs, l, r)
+    }
+}
+
+/// Writes the signature of a message of n bytes: that of the leaf's WOTS+ key, then the leaf's path,
+/// (len + h') * n bytes (Algorithm 10). The leaf itself is not made. The root that the signature
+/// gives is the tree's.
+pub fn xmss_sign(seeds: &Seeds, at: Place, msg: &Node, out: &mut [u8])
+    requires pair { at.pair < 2 ^ (params seeds.now.set).hp }
+    requires msg { length msg.now.items ≡ (params seeds.now.set).n }
+    requires out { length out.old ≡ xmss_sig_len (params seeds.now.set) }
+    ensures signature { let p = params seeds.now.set in let sk = seeds.now.sk_seed.now in
+        let pk = seeds.now.pk_seed.now in
+        out.new ≡ xmss_sig p sk pk at msg.now.items }
+    ensures key { let p = params seeds.now.set in let sk = seeds.now.sk_seed.now in
+        let pk = seeds.now.pk_seed.now in
+        xmss_key p pk at msg.now.items out.new ≡ root_of (xmss_tree p sk pk at.layer at.tree) }
+{
+    let (wots, auth) = out.split_at_mut(seeds.set.len() * seeds.set.n());
+    wots_sign(seeds, at, msg, wots);
+    path(&XmssTree::new(seeds, at.layer, at.tree), at.pair, auth);
+}
+
+/// The root that a signature of a message of n bytes gives: n bytes (Algorithm 11).
+pub fn xmss_pk_from_sig(public: &Public, at: Place, msg: &Node, sig: &[u8]) -> Node
+    requires pair { at.pair < 2 ^ (params public.now.set).hp }
+    requires msg { length msg.now.items ≡ (params public.now.set).n }
+    requires sig { length sig.now ≡ xmss_sig_len (params public.now.set) }
+    ensures value { let p = params public.now.set in let pk = public.now.pk_seed.now in
+        result.items ≡ xmss_key p pk at msg.now.items sig.now }
+    ensures len { length result.items ≡ (params public.now.set).n }
+{
+    let (wots, auth) = sig.split_at(public.set.len() * public.set.n());
+    let leaf = wots_pk_from_sig(public, at, msg, wots);
+    let seeds = Seeds {
+        set: public.set,
+        sk_seed: &[],
+        pk_seed: public.pk_seed,
+    };
+    let tree = XmssTree::new(&seeds, at.layer, at.tree);
+    climb(&tree, at.pair, &leaf, auth)
+}

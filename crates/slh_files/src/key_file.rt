@@ -1,0 +1,108 @@
+ghost use Rattle.std.specs.Prelude.{◌≡◌, ◌↔◌, ◌*◌, ◌≤◌, true, length, IfOk, Ok};
+ghost use Rattle.std.specs.List.{list_all};
+ghost use Rattle.hex.specs.Hex.{is_hex_digit};
+ghost use Rattle.slh_core.specs.Keys.{Key};
+ghost use Rattle.slh_params.specs.ParamSet.{params};
+ghost use Rattle.slh_files.specs.declared.key_kind.KeyKind.TheVariants.{Public, Secret};
+ghost use Rattle.slh_files.specs.Lines.{cut_line, last_line};
+ghost use Rattle.slh_files.specs.KeyFile.{Gives, IsKeyFile, after_kind, after_set, key_digits, key_file, key_len, key_line, set_named};
+
+use super::digits::{are_hex_digits, decode_digits};
+use super::fault::FileFault;
+use super::key_kind::KeyKind;
+use super::lines::{cut_line, last_line};
+use slh_core::{PublicKey, SecretKey};
+use slh_params::ParamSet;
+
+/// The public key in a key file.
+///
+/// Any other bytes are refused with their first fault, in this order: another first line
+/// (`NotAKeyFile`), a second line that names no parameter set (`UnknownSet`), a byte of the third
+/// line that is no hexadecimal digit (`BadHex`), another number of digits than twice the length of
+/// a public key of the set (`BadKeyLength`), bytes after the third line (`TrailingBytes`).
+pub fn read_public(bytes: &[u8]) -> Result<PublicKey, FileFault>
+    ensures accepted { (key : Key) → (result ≡ Ok key) ↔ IsKeyFile Public bytes.now key }
+    ensures first_fault { result ≡ key_file Public bytes.now }
+{
+    let (set, digits) = key_line(KeyKind::Public, bytes)?;
+    let mut key = [0; 64];
+    let len = set.pk_len();
+    decode_digits(digits, &mut key[..len]);
+    Ok(PublicKey::from_bytes(set, &key[..len]).unwrap())
+}
+
+/// The secret key in a key file, with the refusals of `read_public`.
+///
+/// Its root need not be the one that its seeds give: `slh_core::check_pair` tells.
+pub fn read_secret(bytes: &[u8]) -> Result<SecretKey, FileFault>
+    ensures accepted { (key : Key) → (result ≡ Ok key) ↔ IsKeyFile Secret bytes.now key }
+    ensures first_fault { result ≡ key_file Secret bytes.now }
+{
+    let (set, digits) = key_line(KeyKind::Secret, bytes)?;
+    let mut key = [0; 128];
+    let len = set.sk_len();
+    decode_digits(digits, &mut key[..len]);
+    Ok(SecretKey::from_bytes(set, &key[..len]).unwrap())
+}
+
+/// The set that a key file of this kind names, and the digits of its key.
+fn key_line(kind: KeyKind, bytes: &[u8]) -> Result<(ParamSet, &[u8]), FileFault>
+    ensures judged { Gives (λ r. (r.0, r.1.now)) result (key_line kind bytes.now) }
+    ensures hex { IfOk result (λ r. list_all is_hex_digit r.1.now ≡ true) }
+    ensures sized { IfOk result (λ r. length r.1.now ≡ 2 * key_len kind (params r.0)) }
+{
+    let rest = after_kind(kind, bytes)?;
+    let (set, rest) = after_set(rest)?;
+    let digits = key_digits(kind.key_len(set), rest)?;
+    Ok((set, digits))
+}
+
+/// What comes after the first line of a file of this kind.
+fn after_kind(kind: KeyKind, bytes: &[u8]) -> Result<&[u8], FileFault>
+    ensures { Gives (λ rest. rest.now) result (after_kind kind (cut_line bytes.now)) }
+{
+    let (line, rest) = cut_line(bytes).ok_or(FileFault::NotAKeyFile)?;
+    if line != kind.first_line().as_bytes() {
+        return Err(FileFault::NotAKeyFile);
+    }
+    Ok(rest)
+}
+
+/// The set that the next line names, and what comes after that line.
+fn after_set(bytes: &[u8]) -> Result<(ParamSet, &[u8]), FileFault>
+    ensures { Gives (λ r. (r.0, r.1.now)) result (after_set (cut_line bytes.now)) }
+{
+    let (line, rest) = cut_line(bytes).ok_or(FileFault::UnknownSet)?;
+    let set = set_named(line).ok_or(FileFault::UnknownSet)?;
+    Ok((set, rest))
+}
+
+/// The set of this name.
+fn set_named(line: &[u8]) -> Option<ParamSet>
+    ensures { result ≡ set_named line.now }
+{
+    ParamSet::ALL
+        .iter()
+        .copied()
+        .find(|set| set.name().as_bytes() == line)
+}
+
+/// The digits of a key of `len` bytes, which the last line has.
+fn key_digits(len: usize, bytes: &[u8]) -> Result<&[u8], FileFault>
+    requires { len ≤ 128 }
+    ensures judged { Gives (λ digits. digits.now) result (key_digits len (last_line bytes.now)) }
+    ensures hex { IfOk result (λ digits. list_all is_hex_digit digits.now ≡ true) }
+    ensures sized { IfOk result (λ digits. length digits.now ≡ 2 * len) }
+{
+    let (digits, rest) = last_line(bytes);
+    if !are_hex_digits(digits) {
+        return Err(FileFault::BadHex);
+    }
+    if digits.len() != 2 * len {
+        return Err(FileFault::BadKeyLength);
+    }
+    if !rest.is_empty() {
+        return Err(FileFault::TrailingBytes);
+    }
+    Ok(digits)
+}

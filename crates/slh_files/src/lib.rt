@@ -1,0 +1,19 @@
+//! Key files of SLH-DSA.
+//!
+//! A key file has three lines: `slh-dsa-public 1` or `slh-dsa-secret 1`, the name of a parameter
+//! set, and the bytes of the key as hexadecimal digits.
+#![tactic(auto)]
+
+pub use fault::FileFault;
+pub use key_file::{read_public, read_secret};
+pub use key_kind::KeyKind;
+pub use key_text::{write_public, write_secret, written_is_read};
+
+mod digits;
+mod fault;
+mod key_file;
+mod key_kind;
+mod key_text;
+mod lines;
+#[cfg(test)]
+mod tests;

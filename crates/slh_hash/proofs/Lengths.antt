@@ -1,0 +1,25 @@
+-- F, PRF and T give n bytes.
+use Rattle.std.proofs.Common.{◌≡◌, ◌==◌, if◌then◌else◌, ℕ, ◌≤◌, true, false, List, length, arith}
+use Rattle.std.proofs.lemmas.List.{length-take-le}
+use Rattle.slh_params.specs.Address.{Address}
+use Rattle.slh_params.specs.Params.{Params}
+use Rattle.slh_hash.specs.HashFunctions.{HashFunction, IsSized, SHA_256, SHA_512, category_function, sized_256, sized_512}
+use Rattle.slh_hash.specs.Hash.{F, PRF, T, tweaked, tweaked_hash}
+
+pub sized_category : (p : Params) → IsSized (category_function p)
+sized_category p = elim (p.n == 16) as (λ b. IsSized (if b then SHA_256 else SHA_512)) [ true ↦ sized_256 | false ↦ sized_512 ]
+
+length-tweaked_hash : (f : HashFunction) → IsSized f → (p : Params) (pk : List ℕ) (a : Address) (x : List ℕ) → p.n ≤ 32 → length (tweaked_hash f p pk a x) ≡ p.n
+length-tweaked_hash f h p pk a x n = length-take-le p.n _ (omega (arith, h.digests (tweaked f.block p pk a x), h.low))
+
+pub length-F : (p : Params) (pk : List ℕ) (a : Address) (x : List ℕ) → p.n ≤ 32 → length (F p pk a x) ≡ p.n
+unfolding F
+length-F p pk a x h = length-tweaked_hash SHA_256 sized_256 p pk a x h
+
+pub length-PRF : (p : Params) (pk sk : List ℕ) (a : Address) → p.n ≤ 32 → length (PRF p pk sk a) ≡ p.n
+unfolding PRF
+length-PRF p pk sk a h = length-tweaked_hash SHA_256 sized_256 p pk a sk h
+
+pub length-T : (p : Params) (pk : List ℕ) (a : Address) (x : List ℕ) → p.n ≤ 32 → length (T p pk a x) ≡ p.n
+unfolding T
+length-T p pk a x h = length-tweaked_hash (category_function p) (sized_category p) p pk a x h

@@ -1,0 +1,5 @@
+pub mod Streams
+pub mod Zeros
+pub mod Keys
+pub mod Lengths
+pub mod InputLengths

@@ -1,0 +1,71 @@
+ghost use Rattle.std.specs.Prelude.{◌≡◌, ◌≤◌, ◌++◌, ℕ, List, [], take};
+ghost use Rattle.slh_params.specs.Params.{Params};
+ghost use Rattle.slh_params.specs.ParamSet.{params};
+ghost use Rattle.slh_hash.specs.HashFunctions.{category_function};
+
+use super::tweakable::truncated;
+use sha2::{Digest, Sha256, Sha512};
+use slh_params::{Node, ParamSet};
+
+/// The hash function of H and T_l: SHA-256 in category 1, SHA-512 in categories 3 and 5.
+#[derive(Drop)]
+pub(crate) enum CategoryHasher {
+    Short(Sha256),
+    Long(Sha512),
+}
+
+impl CategoryHasher {
+    ghost use Rattle.slh_hash.specs.Stream.{HoldsFor};
+
+    /// The hasher of the set's category, before any byte.
+    pub(crate) fn new(set: ParamSet) -> Self
+        ensures { HoldsFor result (params set) [] }
+    {
+        if set.n() == 16 {
+            CategoryHasher::Short(Sha256::new())
+        } else {
+            CategoryHasher::Long(Sha512::new())
+        }
+    }
+
+    /// Adds the bytes to the message.
+    pub(crate) fn update(&mut self, bytes: &[u8])
+        ensures { (p : Params) (m : List ℕ) → HoldsFor self.old p m → HoldsFor self.new p (m ++ bytes.now) }
+    {
+        match self {
+            CategoryHasher::Short(hasher) => hasher.update(bytes),
+            CategoryHasher::Long(hasher) => hasher.update(bytes),
+        }
+    }
+
+    /// A copy of the hasher.
+    pub(crate) fn copy(&self) -> Self
+        ensures { result ≡ self.now }
+    {
+        match self {
+            CategoryHasher::Short(hasher) => {
+                let Ok(copy) = hasher.clone() else {
+                    unreachable!()
+                };
+                CategoryHasher::Short(copy)
+            }
+            CategoryHasher::Long(hasher) => {
+                let Ok(copy) = hasher.clone() else {
+                    unreachable!()
+                };
+                CategoryHasher::Long(copy)
+            }
+        }
+    }
+
+    /// The first n bytes of the digest.
+    pub(crate) fn finish(self, n: usize) -> Node
+        requires { n ≤ 32 }
+        ensures { (p : Params) (m : List ℕ) → HoldsFor self p m → result.items ≡ take n ((category_function p).hash m) }
+    {
+        match self {
+            CategoryHasher::Short(hasher) => truncated(&hasher.finalize(), n),
+            CategoryHasher::Long(hasher) => truncated(&hasher.finalize(), n),
+        }
+    }
+}

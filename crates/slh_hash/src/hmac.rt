@@ -1,0 +1,96 @@
+ghost use Rattle.std.specs.Prelude.{◌≡◌, ◌+◌, ◌≤◌, ◌++◌, length};
+ghost use Rattle.slh_hash.specs.HashFunctions.{SHA_256, SHA_512};
+ghost use Rattle.slh_hash.specs.Keyed.{joined, filled, key_block, xor_each, hmac};
+
+use super::hash_function::{DigestBytes, HashFunctionOf, absorb};
+use super::tweakable::zeros;
+use arrayvec::ArrayVec;
+use sha2::{Digest, Sha256, Sha512};
+
+/// One block of a hash function, of at most 128 bytes.
+type Block = ArrayVec<u8, 128>;
+
+/// HMAC-SHA-256 (FIPS 198-1) of the parts put end to end, under a key of any length.
+pub fn hmac_sha256(key: &[u8], parts: &[&[u8]]) -> [u8; 32]
+    ensures { result ≡ hmac SHA_256 key.now (joined parts.now) }
+{
+    let mut out = [0; 32];
+    out.copy_from_slice(hmac_of::<Sha256>(key, &[], parts).as_slice());
+    out
+}
+
+/// HMAC-SHA-512 (FIPS 198-1) of the parts put end to end, under a key of any length.
+pub fn hmac_sha512(key: &[u8], parts: &[&[u8]]) -> [u8; 64]
+    ensures { result ≡ hmac SHA_512 key.now (joined parts.now) }
+{
+    let mut out = [0; 64];
+    out.copy_from_slice(hmac_of::<Sha512>(key, &[], parts).as_slice());
+    out
+}
+
+/// HMAC of the front and the parts put end to end.
+#[tactic(auto, unfolding(crate::specs::Keyed::hmac))]
+pub(crate) fn hmac_of<D: HashFunctionOf>(
+    key: &[u8],
+    front: &[&[u8]],
+    parts: &[&[u8]],
+) -> DigestBytes
+    ensures value { result.items ≡ hmac D.function key.now (joined front.now ++ joined parts.now) }
+    ensures len { length result.items ≡ D.function.size }
+{
+    let block = key_block::<D>(key);
+    let mut inner = D::new();
+    inner.update(xor_each(&block, 0x36).as_slice());
+    absorb(&mut inner, front);
+    absorb(&mut inner, parts);
+    let mut outer = D::new();
+    outer.update(xor_each(&block, 0x5c).as_slice());
+    outer.update(inner.finish().as_slice());
+    outer.finish()
+}
+
+/// K0: the key, or its digest where it is longer than a block, and zeros up to a block.
+fn key_block<D: HashFunctionOf>(key: &[u8]) -> Block
+    ensures { result.items ≡ key_block D.function key.now }
+{
+    let len = D::block_len();
+    if key.len() <= len {
+        filled(key, len)
+    } else {
+        let mut hasher = D::new();
+        hasher.update(key);
+        filled(hasher.finish().as_slice(), len)
+    }
+}
+
+/// The bytes and zeros up to a block of this length.
+fn filled(bytes: &[u8], len: usize) -> Block
+    requires fits { length bytes.now ≤ len }
+    requires block { len ≤ 128 }
+    ensures { result.items ≡ filled len bytes.now }
+{
+    let mut block = Block::new();
+    append(&mut block, bytes);
+    append(&mut block, zeros(len - bytes.len()));
+    block
+}
+
+/// Adds the bytes, for which there is room.
+fn append(block: &mut Block, bytes: &[u8])
+    requires { length block.old.items + length bytes.now ≤ 128 }
+    ensures { block.new.items ≡ block.old.items ++ bytes.now }
+{
+    let _ = block.try_extend_from_slice(bytes);
+}
+
+/// The block with each byte xor the pad.
+fn xor_each(block: &Block, pad: u8) -> Block
+    ensures { result.items ≡ xor_each pad block.now.items }
+{
+    let _fits = block.len();
+    let mut padded = Block::new();
+    for byte in block.as_slice() {
+        padded.push(*byte ^ pad);
+    }
+    padded
+}

@@ -1,0 +1,48 @@
+ghost use Rattle.std.specs.Prelude.{◌≡◌, ◌≤◌, ◌^◌, ◌++◌, length};
+ghost use Rattle.slh_hash.specs.HashFunctions.{SHA_256, SHA_512};
+ghost use Rattle.slh_hash.specs.Keyed.{joined, mgf1};
+ghost use Rattle.slh_params.specs.Bits.{to_byte};
+
+use super::hash_function::{DigestBytes, HashFunctionOf, absorb};
+use sha2::{Sha256, Sha512};
+
+/// MGF1-SHA-256 (RFC 8017, B.2.1) of the parts put end to end, as many bytes as `out` has, at most 2^32.
+pub fn mgf1_sha256(parts: &[&[u8]], out: &mut [u8])
+    requires { length out.old ≤ 2 ^ 32 }
+    ensures { out.new ≡ mgf1 SHA_256 (joined parts.now) (length out.old) }
+{
+    mgf1_of::<Sha256>(parts, out);
+}
+
+/// MGF1-SHA-512 (RFC 8017, B.2.1) of the parts put end to end, as many bytes as `out` has, at most 2^32.
+pub fn mgf1_sha512(parts: &[&[u8]], out: &mut [u8])
+    requires { length out.old ≤ 2 ^ 32 }
+    ensures { out.new ≡ mgf1 SHA_512 (joined parts.now) (length out.old) }
+{
+    mgf1_of::<Sha512>(parts, out);
+}
+
+/// MGF1 of the parts put end to end.
+pub(crate) fn mgf1_of<D: HashFunctionOf>(parts: &[&[u8]], out: &mut [u8])
+    requires { length out.old ≤ 2 ^ 32 }
+    ensures { out.new ≡ mgf1 D.function (joined parts.now) (length out.old) }
+{
+    let size = D::digest_len();
+    let count = out.len().div_ceil(size);
+    for number in 0..count {
+        let block = mgf1_block::<D>(parts, number as u32);
+        let start = size * number;
+        let len = (out.len() - start).min(size);
+        out[start..start + len].copy_from_slice(&block.as_slice()[..len]);
+    }
+}
+
+/// The block of MGF1 with this number.
+fn mgf1_block<D: HashFunctionOf>(parts: &[&[u8]], number: u32) -> DigestBytes
+    ensures { result.items ≡ D.function.hash (joined parts.now ++ to_byte number 4) }
+{
+    let mut hasher = D::new();
+    absorb(&mut hasher, parts);
+    hasher.update(number.to_be_bytes().as_slice());
+    hasher.finish()
+}

@@ -1,0 +1,30 @@
+ghost use Rattle.std.specs.Prelude.{◌≡◌};
+ghost use Rattle.slh_params.specs.AdrsType.{type_number};
+
+/// The type of an address: what the hash call is for (FIPS 205, section 4.2, Table 1).
+#[derive(Clone, Copy, PartialEq, Eq, Debug)]
+pub enum AdrsType {
+    /// A step of a WOTS+ chain.
+    WotsHash = 0,
+    /// The compression of a WOTS+ public key.
+    WotsPk = 1,
+    /// A node of an XMSS tree.
+    Tree = 2,
+    /// A leaf or node of a FORS tree.
+    ForsTree = 3,
+    /// The compression of the FORS roots.
+    ForsRoots = 4,
+    /// A secret of a WOTS+ key.
+    WotsPrf = 5,
+    /// A secret of a FORS tree.
+    ForsPrf = 6,
+}
+
+impl AdrsType {
+    /// The number that stands in the address.
+    pub fn number(self) -> u8
+        ensures { result ≡ type_number self }
+    {
+        self as u8
+    }
+}

@@ -1,0 +1,24 @@
+ghost use Rattle.std.specs.Prelude.{◌≡◌, ◌≤◌, length};
+
+use arrayvec::ArrayVec;
+
+/// A hash value of n bytes, 16, 24 or 32: a node of a tree, a value of a chain, a secret.
+pub type Node = ArrayVec<u8, 32>;
+
+/// The node of these bytes, at most 32.
+pub fn node_of(bytes: &[u8]) -> Node
+    requires { length bytes.now ≤ 32 }
+    ensures { result.items ≡ bytes.now }
+{
+    let mut node = Node::new();
+    let _ = node.try_extend_from_slice(bytes);
+    node
+}
+
+/// A copy of the node.
+pub fn copy_of(node: &Node) -> Node
+    ensures { result.items ≡ node.now.items }
+{
+    let _fits = node.len();
+    node_of(node.as_slice())
+}

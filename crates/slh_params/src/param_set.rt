@@ -1,0 +1,192 @@
+ghost use Rattle.std.specs.Prelude.{◌≡◌, IsNone, IfSome};
+ghost use Rattle.slh_params.specs.ParamSet.{params, name};
+ghost use Rattle.slh_params.specs.Params.{h, m, md_len, tree_len, leaf_len, len, pk_len, sk_len, sig_len};
+
+/// A parameter set of SLH-DSA with SHA-2 (FIPS 205, section 11, Table 2).
+///
+/// The letter after the size tells the sets with small signatures from those that sign fast.
+#[derive(Clone, Copy, PartialEq, Eq, Debug)]
+pub enum ParamSet {
+    /// SLH-DSA-SHA2-128s.
+    S128s,
+    /// SLH-DSA-SHA2-128f.
+    S128f,
+    /// SLH-DSA-SHA2-192s.
+    S192s,
+    /// SLH-DSA-SHA2-192f.
+    S192f,
+    /// SLH-DSA-SHA2-256s.
+    S256s,
+    /// SLH-DSA-SHA2-256f.
+    S256f,
+}
+
+impl ParamSet {
+    /// The sets, in the order of the standard's table.
+    pub const ALL: [ParamSet; 6] = [
+        ParamSet::S128s,
+        ParamSet::S128f,
+        ParamSet::S192s,
+        ParamSet::S192f,
+        ParamSet::S256s,
+        ParamSet::S256f,
+    ];
+
+    /// n: the length of a hash value in bytes.
+    pub fn n(&self) -> usize
+        ensures { result ≡ (params self.now).n }
+    {
+        match self {
+            ParamSet::S128s | ParamSet::S128f => 16,
+            ParamSet::S192s | ParamSet::S192f => 24,
+            ParamSet::S256s | ParamSet::S256f => 32,
+        }
+    }
+
+    /// h': the height of an XMSS tree.
+    pub fn hp(&self) -> u32
+        ensures { result ≡ (params self.now).hp }
+    {
+        match self {
+            ParamSet::S128s | ParamSet::S192s => 9,
+            ParamSet::S128f | ParamSet::S192f => 3,
+            ParamSet::S256s => 8,
+            ParamSet::S256f => 4,
+        }
+    }
+
+    /// d: the layers of the hypertree.
+    pub fn d(&self) -> u32
+        ensures { result ≡ (params self.now).d }
+    {
+        match self {
+            ParamSet::S128s | ParamSet::S192s => 7,
+            ParamSet::S128f | ParamSet::S192f => 22,
+            ParamSet::S256s => 8,
+            ParamSet::S256f => 17,
+        }
+    }
+
+    /// a: the height of a FORS tree.
+    pub fn a(&self) -> u32
+        ensures { result ≡ (params self.now).a }
+    {
+        match self {
+            ParamSet::S128s => 12,
+            ParamSet::S128f => 6,
+            ParamSet::S192s => 14,
+            ParamSet::S192f => 8,
+            ParamSet::S256s => 14,
+            ParamSet::S256f => 9,
+        }
+    }
+
+    /// k: the number of FORS trees.
+    pub fn k(&self) -> u32
+        ensures { result ≡ (params self.now).k }
+    {
+        match self {
+            ParamSet::S128s => 14,
+            ParamSet::S128f => 33,
+            ParamSet::S192s => 17,
+            ParamSet::S192f => 33,
+            ParamSet::S256s => 22,
+            ParamSet::S256f => 35,
+        }
+    }
+
+    /// h: the height of the hypertree, all layers together.
+    pub fn h(&self) -> u32
+        ensures { result ≡ h (params self.now) }
+    {
+        self.hp() * self.d()
+    }
+
+    /// The bytes of a message digest that FORS signs.
+    pub fn md_len(&self) -> usize
+        ensures { result ≡ md_len (params self.now) }
+    {
+        (self.k() as usize * self.a() as usize).div_ceil(8)
+    }
+
+    /// The bytes of a message digest that choose the tree.
+    pub fn tree_len(&self) -> usize
+        ensures { result ≡ tree_len (params self.now) }
+    {
+        ((self.h() - self.hp()) as usize).div_ceil(8)
+    }
+
+    /// The bytes of a message digest that choose the leaf.
+    pub fn leaf_len(&self) -> usize
+        ensures { result ≡ leaf_len (params self.now) }
+    {
+        (self.hp() as usize).div_ceil(8)
+    }
+
+    /// m: the length of a message digest in bytes.
+    pub fn m(&self) -> usize
+        ensures { result ≡ m (params self.now) }
+    {
+        self.md_len() + self.tree_len() + self.leaf_len()
+    }
+
+    /// len: the chains of a WOTS+ key, 2n for the message and 3 for the checksum.
+    pub fn len(&self) -> usize
+        ensures { result ≡ len (params self.now) }
+    {
+        2 * self.n() + 3
+    }
+
+    /// The length of a public key in bytes.
+    pub fn pk_len(&self) -> usize
+        ensures { result ≡ pk_len (params self.now) }
+    {
+        self.n() + self.n()
+    }
+
+    /// The length of a secret key in bytes.
+    pub fn sk_len(&self) -> usize
+        ensures { result ≡ sk_len (params self.now) }
+    {
+        4 * self.n()
+    }
+
+    /// The length of a signature in bytes.
+    pub fn sig_len(&self) -> usize
+        ensures { result ≡ sig_len (params self.now) }
+    {
+        let fors = self.k() as usize * (1 + self.a() as usize);
+        let tree = self.h() as usize + self.d() as usize * self.len();
+        (1 + fors + tree) * self.n()
+    }
+
+    /// The name of the set in the standard.
+    pub fn name(&self) -> &'static str
+        ensures { result.now ≡ name self.now }
+    {
+        match self {
+            ParamSet::S128s => "SLH-DSA-SHA2-128s",
+            ParamSet::S128f => "SLH-DSA-SHA2-128f",
+            ParamSet::S192s => "SLH-DSA-SHA2-192s",
+            ParamSet::S192f => "SLH-DSA-SHA2-192f",
+            ParamSet::S256s => "SLH-DSA-SHA2-256s",
+            ParamSet::S256f => "SLH-DSA-SHA2-256f",
+        }
+    }
+
+    /// The set of this name; `None` where the text is no name of a set. Letter case counts.
+    pub fn from_name(text: &str) -> Option<ParamSet>
+        ensures none { IsNone result → (set : ParamSet) → name set ≡ text.now → ⊥ }
+        ensures some { IfSome result (λ set. name set ≡ text.now) }
+    {
+        match text {
+            "SLH-DSA-SHA2-128s" => Some(ParamSet::S128s),
+            "SLH-DSA-SHA2-128f" => Some(ParamSet::S128f),
+            "SLH-DSA-SHA2-192s" => Some(ParamSet::S192s),
+            "SLH-DSA-SHA2-192f" => Some(ParamSet::S192f),
+            "SLH-DSA-SHA2-256s" => Some(ParamSet::S256s),
+            "SLH-DSA-SHA2-256f" => Some(ParamSet::S256f),
+            _ => None,
+        }
+    }
+}

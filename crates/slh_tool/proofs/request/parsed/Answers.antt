@@ -1,0 +1,43 @@
+use Rattle.std.proofs.Common.{◌≡◌, ◌≢◌, ◌∙◌, [], inl, inr, List, map, string_bytes, sym, ap, subst}
+use Rattle.clap.specs.Words.{App, Text, app_of, fault_of, is_simple, subcommand_of}
+use Rattle.clap.specs.Faults.{is_simple_and_free}
+use Rattle.clap.specs.Kinds.{IsAmong}
+use Rattle.clap.specs.declared.error.ErrorKind.TheVariants.{DisplayHelp}
+use Rattle.slh_arguments.specs.Command.{slh_app}
+use Rattle.slh_tool.specs.Requests.{asked_by}
+use Rattle.slh_tool.proofs.Words.{has_fault, help_among, slh_app_free, slh_app_simple}
+use Rattle.slh_tool.proofs.request.parsed.Goals as goal
+
+pub returns-in-Some-clause-ok : goal.returns-in-Some-clause-ok
+returns-in-Some-clause-ok c =
+    let words : List Text = map string_bytes c.args.words.now in
+    let app : app_of c.in-Ok.command ≡ slh_app = c.in-Ok.ensures in
+    let parse = c.in-Ok-try_get_matches_from.ensures in
+    let none = parse.kinds (ap is_simple_and_free app ∙ slh_app_free) in
+    let rows = (parse.matches (ap is_simple app ∙ slh_app_simple)).1 in (
+      sym (ap (λ (a : App). fault_of a words) app) ∙ none,
+      ap asked_by (sym (ap (λ (a : App). subcommand_of a words) app) ∙ sym rows) ∙ sym c.in-Some.ensures,
+    )
+
+pub returns-in-DisplayHelp-clause-err : goal.returns-in-DisplayHelp-clause-err
+returns-in-DisplayHelp-clause-err c =
+    let words : List Text = map string_bytes c.args.words.now in
+    let app : app_of c.in-Ok.command ≡ slh_app = c.in-Ok.ensures in
+    let kinds = c.in-Err.ensures.kinds (ap is_simple_and_free app ∙ slh_app_free) in
+    let among = help_among _ _ kinds c.in-DisplayHelp.ensures in
+    subst (λ (a : App). IsAmong DisplayHelp (fault_of a words)) app among
+
+pub returns-in-Ok-try_get_matches_from-clause-err : goal.returns-in-Ok-try_get_matches_from-clause-err
+returns-in-Ok-try_get_matches_from-clause-err c =
+    let words : List Text = map string_bytes c.args.words.now in
+    let app : app_of c.in-Ok.command ≡ slh_app = c.in-Ok.ensures in
+    let rows = (c.in-Ok-try_get_matches_from.ensures.matches (ap is_simple app ∙ slh_app_simple)).1 in
+    inr (ap asked_by (sym (ap (λ (a : App). subcommand_of a words) app) ∙ sym rows) ∙ sym c.in-None.ensures)
+
+pub returns-clause-err : goal.returns-clause-err
+returns-clause-err c =
+    let words : List Text = map string_bytes c.args.words.now in
+    let app : app_of c.in-Ok.command ≡ slh_app = c.in-Ok.ensures in
+    let kinds = c.in-Err.ensures.kinds (ap is_simple_and_free app ∙ slh_app_free) in
+    let other = c.in_default-kind.not-OutOfMemory in
+    inl (subst (λ (a : App). fault_of a words ≢ []) app (has_fault _ _ kinds (λ e. other (c.kind.ensures ∙ e))))

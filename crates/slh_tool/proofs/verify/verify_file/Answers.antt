@@ -1,0 +1,12 @@
+use Rattle.slh_tool.specs.Replies.{RefusesVerify}
+use Rattle.slh_tool.specs.Requests.{verify_asked}
+use Rattle.slh_tool.proofs.Refusals.{handed_on, verify_refused}
+use Rattle.slh_tool.proofs.verify.verify_file.Goals as goal
+
+pub returns-in_err-answer-clause-refused : goal.returns-in_err-answer-clause-refused
+returns-in_err-answer-clause-refused g c =
+    let old = g.F.Files.state c.args.files.now in
+    let new = g.F.Files.state c.verify_with.new.files in
+    handed_on (RefusesVerify (verify_asked c.args.words) old new) _ c.in_err-answer.field-0.0 c.from_residual-in_err-answer.ensures.1
+    (verify_refused (verify_asked c.args.words) old (g.F.Files.state c.public_key.new.files) new
+    c.in_ok-key.key c.in_err-answer.field-0.0 c.in_ok-key.ensures.done c.in_ok-key.ensures.kept c.in_err-answer.ensures.refused)

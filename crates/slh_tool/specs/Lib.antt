@@ -1,0 +1,9 @@
+pub mod Faults
+pub mod Sets
+pub mod Requests
+pub mod Reading
+pub mod Seeds
+pub mod Options
+pub mod Keys
+pub mod Replies
+pub mod Runs

@@ -1,0 +1,64 @@
+-- The options on the form in which a message is signed.
+use Rattle.std.specs.Prelude.{◌≡◌, ⊤, ◌⊎◌, List, [], ◌∷◌, Option, Some, None, option_map}
+use Rattle.std.specs.List.{find}
+use Rattle.std.specs.Result.{result_ok}
+use Rattle.std.specs.Str.{bytes_eq}
+use Rattle.clap.specs.Words.{Text}
+use Rattle.hex.specs.Hex.{decode_of, decode_sized}
+use Rattle.slh_core.specs.Keys.{Key, pk_seed, public_of}
+use Rattle.slh_core.specs.Messages.{pre_hash_message, pure_message}
+use Rattle.slh_core.specs.PreHash.{PH, name}
+use Rattle.slh_core.specs.Signatures.{signature}
+use Rattle.slh_core.specs.declared.pre_hash.PreHash.{PreHash}
+use Rattle.slh_core.specs.declared.pre_hash.PreHash.TheVariants.{Sha224, Sha256, Sha384, Sha512, Sha512_224, Sha512_256}
+use Rattle.slh_params.specs.ParamSet.{params}
+use Rattle.slh_params.specs.declared.param_set.ParamSet.{ParamSet}
+use Rattle.slh_tool.specs.Requests.{FormOptions}
+use Rattle.slh_tool.specs.declared.fault.Fault.{Fault}
+use Rattle.slh_tool.specs.declared.fault.Fault.TheVariants.{BadOption, NoMemory}
+
+-- the context of its digits, which is empty where there are none
+unfoldable pub context_of : Option Text → Option Text
+context_of None = Some []
+context_of (Some digits) = result_ok (decode_of digits)
+
+abbrev pub functions : List PreHash
+functions = Sha224 ∷ Sha256 ∷ Sha384 ∷ Sha512 ∷ Sha512_224 ∷ Sha512_256 ∷ []
+
+-- the pre-hash function of this name
+unfoldable pub function_named : Text → Option PreHash
+function_named text = find (λ function. bytes_eq (name function) text) functions
+
+-- the pre-hash function that an option names, if it stands there
+unfoldable pub prehash_of : Option Text → Option (Option PreHash)
+prehash_of None = Some None
+prehash_of (Some text) = option_map (λ function. Some function) (function_named text)
+
+-- the n bytes of a randomizer that an option spells, if it stands there
+unfoldable pub random_of : ParamSet → Option Text → Option (Option Text)
+random_of set None = Some None
+random_of set (Some digits) = option_map (λ bytes. Some bytes) (result_ok (decode_sized digits (params set).n))
+
+-- the context and the pre-hash function that the options give
+abbrev pub HasForm : FormOptions → Text → Option PreHash → Type 0
+HasForm form context prehash = (context_of form.context ≡ Some context) × (prehash_of form.prehash ≡ Some prehash)
+
+-- why the options give none
+abbrev pub RefusesForm : FormOptions → Fault → Type 0
+RefusesForm form NoMemory = ⊤
+RefusesForm form BadOption = (context_of form.context ≡ None) ⊎ (prehash_of form.prehash ≡ None)
+RefusesForm form fault = ⊥
+
+-- the message M' of the form (FIPS 205, Algorithms 22 and 23)
+abbrev pub message_of : Option PreHash → Text → Text → Text
+message_of None context message = pure_message context message
+message_of (Some function) context message = pre_hash_message context function (PH function message)
+
+-- opt_rand: the given randomizer, or PK.seed in the deterministic variant
+abbrev pub opt_rand_of : Option Text → Text → Text
+opt_rand_of None seed = seed
+opt_rand_of (Some random) seed = random
+
+-- the signature of M' under a secret key and a randomizer
+abbrev pub signature_of : Key → Text → Option Text → Text
+signature_of sk message random = signature sk message (opt_rand_of random (pk_seed (public_of sk)))

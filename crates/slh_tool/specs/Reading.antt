@@ -1,0 +1,27 @@
+-- Files that are read.
+use Rattle.std.specs.Prelude.{◌≡◌, ⊤, ℕ, ◌<◌, ◌≤◌, ◌^◌, List, length, IfSome}
+use Rattle.slh_core.specs.PreHash.{Digest, PH}
+use Rattle.slh_core.specs.declared.pre_hash.PreHash.{PreHash}
+use Rattle.slh_devices.specs.Devices.{FilesState, Grew}
+use Rattle.slh_tool.specs.declared.fault.Fault.{Fault}
+use Rattle.slh_tool.specs.declared.fault.Fault.TheVariants.{FileTooLong, NoMemory, ReadFailed}
+
+-- the most bytes that a file may have
+abbrev pub file_limit : ℕ
+file_limit = 2 ^ 30
+
+-- the file at this path has these bytes, and not too many
+pub record IsFile (files : FilesState) (path bytes : List ℕ) : Type 0 where
+  pub known : IfSome (files.bytes_at path) (λ whole. bytes ≡ whole)
+  pub at_most : length bytes ≤ file_limit
+
+-- why a file is not read: it is too long, or a read of it failed
+abbrev pub RefusesFile : FilesState → FilesState → List ℕ → Fault → Type 0
+RefusesFile old new path NoMemory = ⊤
+RefusesFile old new path FileTooLong = IfSome (old.bytes_at path) (λ whole. file_limit < length whole)
+RefusesFile old new path ReadFailed = Grew old.failures new.failures
+RefusesFile old new path fault = ⊥
+
+-- the digest is that of the file at this path
+abbrev pub IsDigestOfFile : FilesState → List ℕ → PreHash → Digest → Type 0
+IsDigestOfFile files path function digest = (bytes : List ℕ) × IsFile files path bytes × (digest ≡ record { function = function; bytes = PH function bytes })

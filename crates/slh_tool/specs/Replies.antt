@@ -1,0 +1,156 @@
+-- What each command writes, and why it is refused.
+use Rattle.std.specs.Prelude.{◌≡◌, ⊤, ◌⊎◌, ◌↔◌, ℕ, ◌<◌, ◌≤◌, Bool, true, false, IsTrue, [], ◌∷◌, ◌++◌, length, Option, Some, None, codes}
+use Rattle.clap.specs.Words.{Text}
+use Rattle.hex.specs.Hex.{encode_lower}
+use Rattle.slh_core.specs.Keys.{IsGeneratedKey, Key, public_of}
+use Rattle.slh_core.specs.Signatures.{IsValid}
+use Rattle.slh_core.specs.declared.pre_hash.PreHash.{PreHash}
+use Rattle.slh_devices.specs.Devices.{FilesState, SourceState}
+use Rattle.slh_files.specs.KeyFile.{key_text}
+use Rattle.slh_files.specs.Lines.{line}
+use Rattle.slh_files.specs.declared.key_kind.KeyKind.TheVariants.{Public, Secret}
+use Rattle.slh_params.specs.declared.param_set.ParamSet.{ParamSet}
+use Rattle.slh_tool.specs.Keys.{HoldsKey, IsGeneratedFrom, RefusesKey, RefusesSeedsOf}
+use Rattle.slh_tool.specs.Options.{HasForm, RefusesForm, message_of, random_of, signature_of}
+use Rattle.slh_tool.specs.Reading.{IsFile, RefusesFile}
+use Rattle.slh_tool.specs.Requests.{Asked, SignOptions, VerifyOptions}
+use Rattle.slh_tool.specs.Requests as requests
+use Rattle.slh_tool.specs.Seeds.{seeds_limit}
+use Rattle.slh_tool.specs.Sets.{lines, set_named, sets}
+use Rattle.slh_tool.specs.declared.fault.Fault.{Fault}
+use Rattle.slh_tool.specs.declared.fault.Fault.TheVariants.{BadOption, ContextTooLong, NoMemory, UnknownSet}
+
+-- `params`: the line of the named set, or those of all sets
+abbrev pub ShowsSets : Option Text → Text → Type 0
+ShowsSets None text = text ≡ lines sets
+ShowsSets (Some name) text = (set : ParamSet) × (set_named name ≡ Some set) × (text ≡ lines (set ∷ []))
+
+abbrev pub RefusesSets : Option Text → Fault → Type 0
+RefusesSets name NoMemory = ⊤
+RefusesSets (Some name) UnknownSet = set_named name ≡ None
+RefusesSets name fault = ⊥
+
+-- `root`: PK.seed and PK.root as lower-case digits, and a line feed
+abbrev pub ShowsRoot : Text → SourceState → SourceState → Text → Type 0
+ShowsRoot name old new text = (key : Key) × IsGeneratedFrom name old new key × (text ≡ encode_lower (public_of key).bytes ++ 10 ∷ [])
+
+-- `keygen`: the secret key file
+abbrev pub WritesKey : Text → SourceState → SourceState → Text → Type 0
+WritesKey name old new text = (key : Key) × IsGeneratedFrom name old new key × (text ≡ key_text Secret key)
+
+-- `public`: the public key file of a secret key file
+abbrev pub WritesPublic : Text → FilesState → Text → Type 0
+WritesPublic path files text = (key : Key) × HoldsKey Secret files path key
+    × (text ≡ key_text Public (public_of key))
+
+-- the status and the line of a truth value
+abbrev pub IsVerdict : Bool → Text → Text → ℕ → Text → Type 0
+IsVerdict true affirmed denied status text = (status ≡ 0) × (text ≡ affirmed)
+IsVerdict false affirmed denied status text = (status ≡ 1) × (text ≡ denied)
+
+-- `check`: whether PK.root in a secret key file is the root that the seeds give
+abbrev pub ChecksKey : Text → FilesState → ℕ → Text → Type 0
+ChecksKey path files status text = (key : Key) × HoldsKey Secret files path key
+    × ((answer : Bool) × (IsTrue answer ↔ IsGeneratedKey key)
+    × IsVerdict answer (line (codes "consistent")) (line (codes "inconsistent")) status text)
+
+-- a signature with a key
+pub record SignsWith (options : SignOptions) (files : FilesState) (key : Key) (text : Text) : Type 0 where
+  pub context : Text
+  pub prehash : Option PreHash
+  pub random : Option Text
+  pub message : Text
+  pub form : HasForm options.form context prehash
+  pub randomizer : random_of key.set options.random ≡ Some random
+  pub read : IsFile files options.message message
+  pub short : length context ≤ 255
+  pub signed : text ≡ signature_of key (message_of prehash context message) random
+
+-- `sign`: the signature with the key of a secret key file
+abbrev pub SignsMessage : SignOptions → FilesState → Text → Type 0
+SignsMessage options files text = (key : Key) × HoldsKey Secret files options.key key × SignsWith options files key text
+
+-- why no options of `sign` are given
+abbrev pub RefusesSignForm : SignOptions → ParamSet → Fault → Type 0
+RefusesSignForm options set fault = RefusesForm options.form fault ⊎ ((fault ≡ BadOption) × (random_of set options.random ≡ None))
+
+-- the options of `sign` are as stated, with this context
+abbrev pub HasSignForm : SignOptions → ParamSet → Text → Type 0
+HasSignForm options set context = ((prehash : Option PreHash) × HasForm options.form context prehash)
+    × ((random : Option Text) × (random_of set options.random ≡ Some random))
+
+-- why nothing is signed with a key that was read: an option, then the message, then the context's length
+abbrev pub RefusesSigning : SignOptions → ParamSet → FilesState → FilesState → Fault → Type 0
+RefusesSigning options set old new fault = RefusesSignForm options set fault
+    ⊎ ((context : Text) × HasSignForm options set context × (RefusesFile old new options.message fault
+    ⊎ (((message : Text) × IsFile old options.message message) × ((fault ≡ NoMemory) ⊎ ((fault ≡ ContextTooLong) × (255 < length context))))))
+
+abbrev pub RefusesSign : SignOptions → FilesState → FilesState → Fault → Type 0
+RefusesSign options old new fault = RefusesKey Secret old new options.key fault
+    ⊎ ((key : Key) × HoldsKey Secret old options.key key × RefusesSigning options key.set old new fault)
+
+-- whether the context is short enough and the signature valid (FIPS 205, Algorithms 24 and 25)
+abbrev pub IsValidIn : Option PreHash → Text → Text → Text → Key → Type 0
+IsValidIn prehash context message signature key =
+    (length context ≤ 255) × IsValid key (message_of prehash context message) signature
+
+-- the truth of a signature file with a key, in a form
+pub record JudgesFiles (options : VerifyOptions) (files : FilesState) (key : Key) (context : Text) (prehash : Option PreHash) (answer : Bool) : Type 0 where
+  pub message : Text
+  pub signature : Text
+  pub read : IsFile files options.message message
+  pub signature_read : IsFile files options.signature signature
+  pub truth : IsTrue answer ↔ IsValidIn prehash context message signature key
+
+abbrev pub JudgesWith : VerifyOptions → FilesState → Key → Bool → Type 0
+JudgesWith options files key answer = (context : Text) × ((prehash : Option PreHash) × HasForm options.form context prehash
+    × JudgesFiles options files key context prehash answer)
+
+-- `verify`: the truth of a signature file with the key of a public key file
+abbrev pub VerifiesMessage : VerifyOptions → FilesState → ℕ → Text → Type 0
+VerifiesMessage options files status text = (key : Key) × HoldsKey Public files options.key key
+    × ((answer : Bool) × JudgesWith options files key answer × IsVerdict answer (line (codes "valid")) (line (codes "invalid")) status text)
+
+-- why the files are not judged: the message, or then the signature, is not read
+abbrev pub RefusesFiles : VerifyOptions → FilesState → FilesState → Fault → Type 0
+RefusesFiles options old new fault = RefusesFile old new options.message fault
+    ⊎ ((message : Text) × IsFile old options.message message × RefusesFile old new options.signature fault)
+
+-- why nothing is verified with a key that was read: an option, then the files
+abbrev pub RefusesVerifying : VerifyOptions → FilesState → FilesState → Fault → Type 0
+RefusesVerifying options old new fault = RefusesForm options.form fault
+    ⊎ ((context : Text) × ((prehash : Option PreHash) × HasForm options.form context prehash × RefusesFiles options old new fault))
+
+abbrev pub RefusesVerify : VerifyOptions → FilesState → FilesState → Fault → Type 0
+RefusesVerify options old new fault = RefusesKey Public old new options.key fault
+    ⊎ ((key : Key) × HoldsKey Public old options.key key × RefusesVerifying options old new fault)
+
+-- a command's status and output, by the files and by the states of the input before and after
+abbrev pub IsReply : Asked → FilesState → SourceState → SourceState → ℕ → Text → Type 0
+IsReply (requests.params name) files old new status text = (status ≡ 0) × ShowsSets name text
+IsReply (requests.root name) files old new status text = (status ≡ 0) × ShowsRoot name old new text
+IsReply (requests.keygen name) files old new status text = (status ≡ 0) × WritesKey name old new text
+IsReply (requests.public path) files old new status text = (status ≡ 0) × WritesPublic path files text
+IsReply (requests.check path) files old new status text = ChecksKey path files status text
+IsReply (requests.sign options) files old new status text = (status ≡ 0) × SignsMessage options files text
+IsReply (requests.verify options) files old new status text = VerifiesMessage options files status text
+
+-- a command's refusal, which has its cause, by the states of the files and of the input before and after
+abbrev pub IsRefusal : Asked → FilesState → FilesState → SourceState → SourceState → Fault → Type 0
+IsRefusal (requests.params name) before after old new fault = RefusesSets name fault
+IsRefusal (requests.root name) before after old new fault = RefusesSeedsOf name old new fault
+IsRefusal (requests.keygen name) before after old new fault = RefusesSeedsOf name old new fault
+IsRefusal (requests.public path) before after old new fault = RefusesKey Secret before after path fault
+IsRefusal (requests.check path) before after old new fault = RefusesKey Secret before after path fault
+IsRefusal (requests.sign options) before after old new fault = RefusesSign options before after fault
+IsRefusal (requests.verify options) before after old new fault = RefusesVerify options before after fault
+
+-- so many bytes of the input a command takes at most
+abbrev pub limit_of_set : Option ParamSet → ℕ
+limit_of_set (Some set) = seeds_limit set
+limit_of_set None = 0
+
+abbrev pub input_limit : Option Asked → ℕ
+input_limit (Some (requests.root name)) = limit_of_set (set_named name)
+input_limit (Some (requests.keygen name)) = limit_of_set (set_named name)
+input_limit other = 0

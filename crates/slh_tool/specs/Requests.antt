@@ -1,0 +1,111 @@
+-- What the words ask for.
+use Rattle.std.specs.Prelude.{◌≡◌, ◌≢◌, ◌⊎◌, ⊤, List, [], Option, Some, None, if◌then◌else◌, option_map, codes}
+use Rattle.std.specs.Option.{option_and_then}
+use Rattle.std.specs.Str.{bytes_eq}
+use Rattle.clap.specs.Kinds.{IsAmong}
+use Rattle.clap.specs.Words.{Row, Text, fault_of, first_of, subcommand_of}
+use Rattle.clap.specs.declared.error.ErrorKind.TheVariants.{DisplayHelp}
+use Rattle.slh_arguments.specs.Command.{slh_app}
+use Rattle.slh_tool.specs.declared.request.FormWords.{FormWords}
+use Rattle.slh_tool.specs.declared.request.SignWords.{SignWords}
+use Rattle.slh_tool.specs.declared.request.VerifyWords.{VerifyWords}
+use Rattle.slh_tool.specs.declared.request.Request.{Request}
+use Rattle.slh_tool.specs.declared.request.Request.TheVariants as request
+use Rattle.slh_tool.specs.declared.request.Refusal.{Refusal}
+use Rattle.slh_tool.specs.declared.request.Refusal.TheVariants as refusal
+
+-- the options on the form in which a message is signed
+pub record FormOptions : Type 0 where
+  pub context : Option Text
+  pub prehash : Option Text
+
+pub record SignOptions : Type 0 where
+  pub key : Text
+  pub message : Text
+  pub form : FormOptions
+  pub random : Option Text
+
+pub record VerifyOptions : Type 0 where
+  pub key : Text
+  pub message : Text
+  pub signature : Text
+  pub form : FormOptions
+
+-- a command with the values of its options
+pub data Asked : Type 0 where
+  params : Option Text → Asked
+  root : Text → Asked
+  keygen : Text → Asked
+  public : Text → Asked
+  check : Text → Asked
+  sign : SignOptions → Asked
+  verify : VerifyOptions → Asked
+
+abbrev pub form_asked : FormWords → FormOptions
+form_asked words = record { context = option_map (λ s. s.now) words.context; prehash = option_map (λ s. s.now) words.prehash }
+
+abbrev pub sign_asked : SignWords → SignOptions
+sign_asked words = record { key = words.key.now; message = words.message.now; form = form_asked words.form; random = option_map (λ s. s.now) words.random }
+
+abbrev pub verify_asked : VerifyWords → VerifyOptions
+verify_asked words = record { key = words.key.now; message = words.message.now; signature = words.signature.now; form = form_asked words.form }
+
+abbrev pub asked : Request → Asked
+asked (request.Params name) = params (option_map (λ s. s.now) name)
+asked (request.Root name) = root name.now
+asked (request.Keygen name) = keygen name.now
+asked (request.Public path) = public path.now
+asked (request.Check path) = check path.now
+asked (request.Sign words) = sign (sign_asked words)
+asked (request.Verify words) = verify (verify_asked words)
+
+-- what subcommands ask for, by the rows of their values
+abbrev pub form_in : List Row → FormOptions
+form_in rows = record { context = first_of (codes "context") rows; prehash = first_of (codes "prehash") rows }
+
+abbrev pub sign_in : List Row → Option Asked
+sign_in rows = option_and_then (λ key. option_map (λ message. sign (record { key = key; message = message; form = form_in rows; random = first_of (codes "random") rows }))
+    (first_of (codes "message") rows)) (first_of (codes "key") rows)
+
+abbrev pub verify_in : List Row → Option Asked
+verify_in rows = option_and_then (λ key. option_and_then (λ message. option_map (λ signature. verify (record { key = key; message = message; signature = signature; form = form_in rows }))
+    (first_of (codes "signature") rows)) (first_of (codes "message") rows)) (first_of (codes "key") rows)
+
+-- the commands on a key file
+abbrev pub asked_of_key : Text → List Row → Option Asked
+asked_of_key name rows =
+    if bytes_eq name (codes "public") then option_map public (first_of (codes "key") rows)
+    else (if bytes_eq name (codes "check") then option_map check (first_of (codes "key") rows)
+    else (if bytes_eq name (codes "sign") then sign_in rows
+    else (if bytes_eq name (codes "verify") then verify_in rows
+    else None)))
+
+-- a subcommand, by its name and the rows of its values
+abbrev pub asked_in : Text → List Row → Option Asked
+asked_in name rows =
+    if bytes_eq name (codes "params") then Some (params (first_of (codes "set") rows))
+    else (if bytes_eq name (codes "root") then option_map root (first_of (codes "set") rows)
+    else (if bytes_eq name (codes "keygen") then option_map keygen (first_of (codes "set") rows)
+    else asked_of_key name rows))
+
+abbrev pub asked_by : Option (Text × List Row) → Option Asked
+asked_by None = Some (params None)
+asked_by (Some p) = asked_in p.0 p.1
+
+-- `clap` takes the words, and they ask for this
+abbrev pub Asks : List Text → Asked → Type 0
+Asks words a = (fault_of slh_app words ≡ []) × (asked_by (subcommand_of slh_app words) ≡ Some a)
+
+-- `clap` refuses the words, or they ask for no command
+abbrev pub AreBad : List Text → Type 0
+AreBad words = (fault_of slh_app words ≢ []) ⊎ (asked_by (subcommand_of slh_app words) ≡ None)
+
+-- the words ask for help
+abbrev pub AskHelp : List Text → Type 0
+AskHelp words = IsAmong DisplayHelp (fault_of slh_app words)
+
+-- why no request was read of the words
+abbrev pub IsGround : List Text → Refusal → Type 0
+IsGround words (refusal.Help e) = AskHelp words
+IsGround words refusal.BadWords = AreBad words
+IsGround words refusal.NoMemory = ⊤

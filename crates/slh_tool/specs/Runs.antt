@@ -1,0 +1,28 @@
+-- What a run of the program did.
+use Rattle.std.specs.Prelude.{◌≡◌, ◌⊎◌, ⊤, ℕ, List}
+use Rattle.std.specs.Io.KnownBytes.{Appends}
+use Rattle.clap.specs.Words.{Text}
+use Rattle.slh_devices.specs.Devices.{FilesState, Grew, LetsThrough, SinkState, SourceState}
+use Rattle.slh_tool.specs.Replies.{IsRefusal, IsReply}
+use Rattle.slh_tool.specs.Requests.{AreBad, AskHelp, Asked, Asks}
+use Rattle.slh_tool.specs.declared.fault.Fault.{Fault}
+use Rattle.slh_tool.specs.declared.fault.Fault.TheVariants.{BadWords, NoMemory}
+
+-- the status and the output that the words, the files and the input give, or the help that the words ask for
+abbrev pub Replies : List Text → FilesState → SourceState → SourceState → ℕ → Text → Type 0
+Replies words files old new status text = ((a : Asked) × Asks words a × IsReply a files old new status text) ⊎ ((status ≡ 0) × AskHelp words)
+
+-- a refusal of the words
+abbrev pub RefusesWords : List Text → Fault → Type 0
+RefusesWords words BadWords = AreBad words
+RefusesWords words NoMemory = ⊤
+RefusesWords words fault = ⊥
+
+-- the refusal that the words, the files and the input give
+abbrev pub Refuses : List Text → FilesState → FilesState → SourceState → SourceState → Fault → Type 0
+Refuses words before after old new fault = ((a : Asked) × Asks words a × IsRefusal a before after old new fault) ⊎ RefusesWords words fault
+
+-- a sink was told a text, or as much of it as a failed write let through
+abbrev pub IsTold : SinkState → SinkState → Text → Type 0
+IsTold old new text = (Appends old.contents new.contents text × (new.failures ≡ old.failures))
+    ⊎ (LetsThrough old.contents new.contents text × Grew old.failures new.failures)

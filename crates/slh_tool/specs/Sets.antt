@@ -1,0 +1,41 @@
+-- Parameter sets by name, and what is said of them.
+use Rattle.std.specs.Prelude.{ℕ, List, [], ◌∷◌, ◌++◌, Option, codes}
+use Rattle.std.specs.Fmt.{decimal}
+use Rattle.std.specs.List.{find}
+use Rattle.std.specs.Str.{bytes_eq}
+use Rattle.slh_params.specs.Params.{h, m, pk_len, sk_len, sig_len}
+use Rattle.slh_params.specs.ParamSet.{name, params}
+use Rattle.slh_params.specs.declared.param_set.ParamSet.{ParamSet}
+use Rattle.slh_params.specs.declared.param_set.ParamSet.TheVariants.{S128s, S128f, S192s, S192f, S256s, S256f}
+
+-- the sets, in the order of the standard's table
+abbrev pub sets : List ParamSet
+sets = S128s ∷ S128f ∷ S192s ∷ S192f ∷ S256s ∷ S256f ∷ []
+
+-- the set of this name
+unfoldable pub set_named : List ℕ → Option ParamSet
+set_named text = find (λ set. bytes_eq (name set) text) sets
+
+-- a number of a set, as ` LABEL=NUMBER`
+abbrev pub number_text : List ℕ → ℕ → List ℕ
+number_text label x = codes " " ++ label ++ codes "=" ++ decimal x
+
+-- a set's name and the numbers of its hypertree
+abbrev pub tree_text : ParamSet → List ℕ
+tree_text set = let p = params set in
+    name set ++ (number_text (codes "n") p.n ++ (number_text (codes "h") (h p) ++ (number_text (codes "d") p.d ++ number_text (codes "hp") p.hp)))
+
+-- the numbers of a set's FORS trees and digests, and the lengths of its keys and signatures in bytes
+abbrev pub length_text : ParamSet → List ℕ
+length_text set = let p = params set in
+    number_text (codes "a") p.a ++ (number_text (codes "k") p.k ++ (number_text (codes "m") (m p)
+    ++ (number_text (codes "pk") (pk_len p) ++ (number_text (codes "sk") (sk_len p) ++ number_text (codes "sig") (sig_len p)))))
+
+-- the line of a set
+unfoldable pub line : ParamSet → List ℕ
+line set = tree_text set ++ length_text set ++ 10 ∷ []
+
+-- one line for each set of a list
+abbrev pub lines : List ParamSet → List ℕ
+lines [] = []
+lines (set ∷ rest) = line set ++ lines rest

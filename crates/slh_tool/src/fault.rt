@@ -1,0 +1,127 @@
+ghost use Rattle.std.specs.Prelude.{◌≡◌};
+ghost use Rattle.slh_tool.specs.Faults.{line, name, number, of_file};
+ghost use Rattle.slh_tool.specs.declared.fault.Fault.TheVariants.{NoMemory};
+
+use slh_files::FileFault;
+use std::alloc::AllocError;
+use thiserror::Error;
+
+/// Why a run of the program is refused.
+#[derive(Clone, Copy, Debug, PartialEq, Eq, Error)]
+pub enum Fault {
+    #[error("a growth of memory was refused")]
+    NoMemory,
+    #[error("the context has over 255 bytes")]
+    ContextTooLong,
+    #[error("the file is no key file of the kind that is asked for")]
+    NotAKeyFile,
+    #[error("no parameter set has this name")]
+    UnknownSet,
+    #[error("the key has a byte that is no hexadecimal digit")]
+    BadHex,
+    #[error("the key has another length than its set's")]
+    BadKeyLength,
+    #[error("bytes follow the key")]
+    TrailingBytes,
+    #[error("the words are no command of the program")]
+    BadWords,
+    #[error("a file or the standard input could not be read")]
+    ReadFailed,
+    #[error("the standard output could not be written")]
+    WriteFailed,
+    #[error("the standard input does not hold the seeds of a key")]
+    BadSeeds,
+    #[error("the value of an option is not of its form")]
+    BadOption,
+    #[error("the file has over 2^30 bytes")]
+    FileTooLong,
+}
+
+impl Fault {
+    /// The refusal's number.
+    pub fn number(&self) -> u8
+        ensures { result ≡ number self.now }
+    {
+        match self {
+            Fault::NoMemory => 1,
+            Fault::ContextTooLong => 2,
+            Fault::NotAKeyFile => 11,
+            Fault::UnknownSet => 12,
+            Fault::BadHex => 13,
+            Fault::BadKeyLength => 14,
+            Fault::TrailingBytes => 15,
+            Fault::BadWords => 31,
+            Fault::ReadFailed => 32,
+            Fault::WriteFailed => 33,
+            Fault::BadSeeds => 34,
+            Fault::BadOption => 35,
+            Fault::FileTooLong => 36,
+        }
+    }
+
+    /// The refusal's name.
+    pub fn name(&self) -> &'static str
+        ensures { result.now ≡ name self.now }
+    {
+        match self {
+            Fault::NoMemory => "NoMemory",
+            Fault::ContextTooLong => "ContextTooLong",
+            Fault::NotAKeyFile => "NotAKeyFile",
+            Fault::UnknownSet => "UnknownSet",
+            Fault::BadHex => "BadHex",
+            Fault::BadKeyLength => "BadKeyLength",
+            Fault::TrailingBytes => "TrailingBytes",
+            Fault::BadWords => "BadWords",
+            Fault::ReadFailed => "ReadFailed",
+            Fault::WriteFailed => "WriteFailed",
+            Fault::BadSeeds => "BadSeeds",
+            Fault::BadOption => "BadOption",
+            Fault::FileTooLong => "FileTooLong",
+        }
+    }
+
+    /// The line that the standard error is told. It is a constant, since a refusal for want of memory has none
+    /// to write with.
+    pub(crate) fn line(&self) -> &'static str
+        ensures { result.now ≡ line self.now }
+    {
+        match self {
+            Fault::NoMemory => "slh: 1 NoMemory\n",
+            Fault::ContextTooLong => "slh: 2 ContextTooLong\n",
+            Fault::NotAKeyFile => "slh: 11 NotAKeyFile\n",
+            Fault::UnknownSet => "slh: 12 UnknownSet\n",
+            Fault::BadHex => "slh: 13 BadHex\n",
+            Fault::BadKeyLength => "slh: 14 BadKeyLength\n",
+            Fault::TrailingBytes => "slh: 15 TrailingBytes\n",
+            Fault::BadWords => "slh: 31 BadWords\n",
+            Fault::ReadFailed => "slh: 32 ReadFailed\n",
+            Fault::WriteFailed => "slh: 33 WriteFailed\n",
+            Fault::BadSeeds => "slh: 34 BadSeeds\n",
+            Fault::BadOption => "slh: 35 BadOption\n",
+            Fault::FileTooLong => "slh: 36 FileTooLong\n",
+        }
+    }
+}
+
+impl From<AllocError> for Fault {
+    ghost from_gives = { λ _ e. e ≡ NoMemory };
+
+    fn from(_error: AllocError) -> Fault {
+        Fault::NoMemory
+    }
+}
+
+impl From<FileFault> for Fault {
+    ghost from_gives = { λ fault e. e ≡ of_file fault };
+
+    fn from(fault: FileFault) -> Fault {
+        match fault {
+            FileFault::NoMemory => Fault::NoMemory,
+            FileFault::NotAKeyFile => Fault::NotAKeyFile,
+            FileFault::UnknownSet => Fault::UnknownSet,
+            FileFault::BadHex => Fault::BadHex,
+            FileFault::BadKeyLength => Fault::BadKeyLength,
+            FileFault::TrailingBytes => Fault::TrailingBytes,
+        }
+    }
+}

@@ -1,0 +1,81 @@
+ghost use Rattle.std.specs.Prelude.{◌≡◌, ◌*◌, ◌++◌, ◌∷◌, [], length, IfOk, IfErr, string_bytes};
+ghost use Rattle.hex.specs.Hex.{encode_lower};
+ghost use Rattle.slh_core.specs.Keys.{public_of};
+ghost use Rattle.slh_devices.specs.Devices.{TakesAtMost};
+ghost use Rattle.slh_params.specs.ParamSet.{params};
+ghost use Rattle.slh_tool.specs.Keys.{IsGeneratedFrom, RefusesSeedsOf, key_of_seeds};
+ghost use Rattle.slh_tool.specs.Replies.{ShowsRoot, WritesKey, limit_of_set};
+ghost use Rattle.slh_tool.specs.Sets.{set_named};
+
+use super::fault::Fault;
+use super::seeds::read_seeds;
+use super::set::set_named;
+use slh_core::{SecretKey, keygen_internal};
+use slh_devices::Source;
+use slh_files::write_secret;
+use slh_params::ParamSet;
+use std::alloc::{AllocError, Allocator};
+
+/// The public key of the seeds on the input, as digits and a line feed.
+pub(crate) fn root<A: Allocator, S: Source>(
+    alloc: A,
+    name: &str,
+    input: &mut S,
+) -> Result<String<A>, Fault>
+    ensures done { IfOk result (λ s. ShowsRoot name.now (S.state input.old) (S.state input.new) (string_bytes s)) }
+    ensures refused { IfErr result (RefusesSeedsOf name.now (S.state input.old) (S.state input.new)) }
+    ensures at_most { TakesAtMost (S.state input.old).left (S.state input.new).left (limit_of_set (set_named name.now)) }
+{
+    let key = generated(name, input)?;
+    Ok(root_line(alloc, &key)?)
+}
+
+/// The secret key file of the seeds on the input.
+pub(crate) fn keygen<A: Allocator + Clone, S: Source>(
+    alloc: A,
+    name: &str,
+    input: &mut S,
+) -> Result<String<A>, Fault>
+    ensures done { IfOk result (λ s. WritesKey name.now (S.state input.old) (S.state input.new) (string_bytes s)) }
+    ensures refused { IfErr result (RefusesSeedsOf name.now (S.state input.old) (S.state input.new)) }
+    ensures at_most { TakesAtMost (S.state input.old).left (S.state input.new).left (limit_of_set (set_named name.now)) }
+{
+    let key = generated(name, input)?;
+    let Ok(text) = write_secret(alloc, &key) else {
+        return Err(Fault::NoMemory);
+    };
+    Ok(text)
+}
+
+/// The secret key of the named set and of the seeds on the input.
+fn generated<S: Source>(name: &str, input: &mut S) -> Result<SecretKey, Fault>
+    ensures done { IfOk result (IsGeneratedFrom name.now (S.state input.old) (S.state input.new)) }
+    ensures refused { IfErr result (RefusesSeedsOf name.now (S.state input.old) (S.state input.new)) }
+    ensures at_most { TakesAtMost (S.state input.old).left (S.state input.new).left (limit_of_set (set_named name.now)) }
+{
+    let Some(set) = set_named(name) else {
+        return Err(Fault::UnknownSet);
+    };
+    let seeds = read_seeds(set, input)?;
+    Ok(key_of_seeds(set, seeds.as_slice()))
+}
+
+/// The secret key of three seeds.
+fn key_of_seeds(set: ParamSet, seeds: &[u8]) -> SecretKey
+    requires { length seeds.now ≡ 3 * (params set).n }
+    ensures set { result.set ≡ set }
+    ensures generated { result ≡ key_of_seeds set seeds.now }
+{
+    let (sk_seed, others) = seeds.split_at(set.n());
+    let (sk_prf, pk_seed) = others.split_at(set.n());
+    keygen_internal(set, sk_seed, sk_prf, pk_seed)
+}
+
+/// The public key as digits, and a line feed.
+fn root_line<A: Allocator>(alloc: A, key: &SecretKey) -> Result<String<A>, AllocError>
+    ensures { IfOk result (λ s. string_bytes s ≡ encode_lower (public_of key.now).bytes ++ 10 ∷ []) }
+{
+    let mut line = hex::encode(alloc, key.public().bytes())?;
+    line.push_str("\n")?;
+    Ok(line)
+}

@@ -1,0 +1,69 @@
+ghost use Rattle.std.specs.Prelude.{◌≡◌, IfOk, IfErr, OnOk, string_bytes};
+ghost use Rattle.slh_files.specs.declared.key_kind.KeyKind.TheVariants.{Public, Secret};
+ghost use Rattle.slh_tool.specs.Keys.{HoldsKey, RefusesKey};
+ghost use Rattle.slh_tool.specs.Replies.{ChecksKey, WritesPublic};
+
+use super::fault::Fault;
+use super::reading::read_file;
+use super::reply::Reply;
+use slh_core::{PublicKey, SecretKey, check_pair};
+use slh_devices::Files;
+use slh_files::{read_public, read_secret, write_public};
+use std::alloc::Allocator;
+
+/// The key of a secret key file.
+pub(crate) fn secret_key<A: Allocator, F: Files>(
+    alloc: A,
+    files: &mut F,
+    path: &str,
+) -> Result<SecretKey, Fault>
+    ensures done { IfOk result (HoldsKey Secret (F.state files.old) path.now) }
+    ensures refused { IfErr result (RefusesKey Secret (F.state files.old) (F.state files.new) path.now) }
+    ensures kept { OnOk result (F.state files.new ≡ F.state files.old) }
+{
+    let bytes = read_file(alloc, files, path)?;
+    Ok(read_secret(bytes.as_slice())?)
+}
+
+/// The key of a public key file.
+pub(crate) fn public_key<A: Allocator, F: Files>(
+    alloc: A,
+    files: &mut F,
+    path: &str,
+) -> Result<PublicKey, Fault>
+    ensures done { IfOk result (HoldsKey Public (F.state files.old) path.now) }
+    ensures refused { IfErr result (RefusesKey Public (F.state files.old) (F.state files.new) path.now) }
+    ensures kept { OnOk result (F.state files.new ≡ F.state files.old) }
+{
+    let bytes = read_file(alloc, files, path)?;
+    Ok(read_public(bytes.as_slice())?)
+}
+
+/// The public key file of a secret key file.
+pub(crate) fn public<A: Allocator + Clone, F: Files>(
+    alloc: A,
+    path: &str,
+    files: &mut F,
+) -> Result<String<A>, Fault>
+    ensures done { IfOk result (λ s. WritesPublic path.now (F.state files.old) (string_bytes s)) }
+    ensures refused { IfErr result (RefusesKey Secret (F.state files.old) (F.state files.new) path.now) }
+{
+    let key = secret_key(alloc.clone()?, files, path)?;
+    let Ok(text) = write_public(alloc, &key.public()) else {
+        return Err(Fault::NoMemory);
+    };
+    Ok(text)
+}
+
+/// Whether PK.root in a secret key file is the root that the seeds give.
+pub(crate) fn check<A: Allocator + Clone, F: Files>(
+    alloc: A,
+    path: &str,
+    files: &mut F,
+) -> Result<Reply<A>, Fault>
+    ensures done { IfOk result (λ r. ChecksKey path.now (F.state files.old) r.status r.output.items) }
+    ensures refused { IfErr result (RefusesKey Secret (F.state files.old) (F.state files.new) path.now) }
+{
+    let key = secret_key(alloc.clone()?, files, path)?;
+    Ok(Reply::verdict(alloc, check_pair(&key), "consistent\n", "inconsistent\n")?)
+}

@@ -1,0 +1,21 @@
+//! The commands of the program `slh`, over files and streams that the caller hands in.
+#![tactic(auto)]
+
+pub use fault::Fault;
+pub use program::{command, refuse};
+
+mod fault;
+mod generate;
+mod keys;
+mod options;
+mod params;
+mod program;
+mod reading;
+mod reply;
+mod request;
+mod seeds;
+mod set;
+mod sign;
+#[cfg(test)]
+mod tests;
+mod verify;

@@ -1,0 +1,122 @@
+ghost use Rattle.std.specs.Prelude.{◌≡◌, ◌≢◌, ◌⊎◌, ℕ, map, IfOk, IfErr, string_bytes, Some};
+ghost use Rattle.std.specs.Io.KnownBytes.{Appends};
+ghost use Rattle.clap.specs.Words.{Text, subcommand_of};
+ghost use Rattle.slh_arguments.specs.Command.{slh_app};
+ghost use Rattle.slh_devices.specs.Devices.{Grew, LetsThrough, TakesAtMost};
+ghost use Rattle.slh_tool.specs.Faults.{line};
+ghost use Rattle.slh_tool.specs.Replies.{IsRefusal, IsReply, input_limit};
+ghost use Rattle.slh_tool.specs.Requests.{asked, asked_by};
+ghost use Rattle.slh_tool.specs.Runs.{IsTold, Refuses, Replies};
+ghost use Rattle.slh_tool.specs.declared.fault.Fault.{Fault};
+ghost use Rattle.slh_tool.specs.declared.fault.Fault.TheVariants.{WriteFailed};
+
+use super::fault::Fault;
+use super::generate::{keygen, root};
+use super::keys::{check, public};
+use super::params::{all_sets, named_set};
+use super::reply::Reply;
+use super::request::{Refusal, Request, parsed};
+use super::sign::sign_file;
+use super::verify::verify_file;
+use slh_devices::{Files, Sink, Source, put_all};
+use std::alloc::{AllocError, Allocator, Global};
+
+/// Runs the command of the words after the program's name, and gives the exit status: 0 for done, valid or
+/// consistent, 1 for invalid or inconsistent, 2 for refused.
+///
+/// `clap` takes its memory from the runtime, and all else takes it from `alloc`.
+pub fn command<R: AllocGlobal, A: Allocator + Clone, F: Files, S: Source, O: Sink, E: Sink>(
+    rt: &R,
+    alloc: A,
+    words: &[String],
+    files: &mut F,
+    input: &mut S,
+    output: &mut O,
+    errors: &mut E,
+) -> u8
+    // The output is what the words, the files and the input give, and the status is the one of that answer.
+    ensures done { result ≢ 2 → (text : Text)
+        × Replies (map string_bytes words.now) (F.state files.old) (S.state input.old) (S.state input.new) result text
+        × Appends (O.state output.old).contents (O.state output.new).contents text
+        × (errors.new ≡ errors.old) }
+
+    // The refusal has its cause, and nothing was written; or a write failed, and let a front of the answer through.
+    ensures refused { result ≡ 2 → (fault : Fault) × IsTold (E.state errors.old) (E.state errors.new) (line fault)
+        × ((Refuses (map string_bytes words.now) (F.state files.old) (F.state files.new) (S.state input.old) (S.state input.new) fault × (output.new ≡ output.old))
+        ⊎ ((fault ≡ WriteFailed) × Grew (O.state output.old).failures (O.state output.new).failures
+        × ((status : ℕ) × ((text : Text) × Replies (map string_bytes words.now) (F.state files.old) (S.state input.old) (S.state input.new) status text
+        × LetsThrough (O.state output.old).contents (O.state output.new).contents text)))) }
+
+    // Of the input no more is taken than the command reads.
+    ensures at_most { TakesAtMost (S.state input.old).left (S.state input.new).left
+        (input_limit (asked_by (subcommand_of slh_app (map string_bytes words.now)))) }
+{
+    match respond(rt, alloc, words, files, input) {
+        Ok(reply) => match put_all(output, reply.output.as_slice()) {
+            Ok(()) => reply.status,
+            Err(_) => refuse(errors, Fault::WriteFailed),
+        },
+        Err(fault) => refuse(errors, fault),
+    }
+}
+
+/// Tells the errors of a refusal, and passes over a failure of that.
+pub fn refuse<E: Sink>(errors: &mut E, fault: Fault) -> u8
+    ensures status { result ≡ 2 }
+    ensures told { IsTold (E.state errors.old) (E.state errors.new) (line fault) }
+{
+    let _ = put_all(errors, fault.line().as_bytes());
+    2
+}
+
+/// The answer to the words, or the refusal.
+fn respond<R: AllocGlobal, A: Allocator + Clone, F: Files, S: Source>(
+    rt: &R,
+    alloc: A,
+    words: &[String],
+    files: &mut F,
+    input: &mut S,
+) -> Result<Reply<A>, Fault>
+    ensures done { IfOk result (λ r. Replies (map string_bytes words.now) (F.state files.old) (S.state input.old) (S.state input.new) r.status r.output.items) }
+    ensures refused { IfErr result (Refuses (map string_bytes words.now) (F.state files.old) (F.state files.new) (S.state input.old) (S.state input.new)) }
+    ensures at_most { TakesAtMost (S.state input.old).left (S.state input.new).left
+        (input_limit (asked_by (subcommand_of slh_app (map string_bytes words.now)))) }
+{
+    match parsed(rt.alloc(), words) {
+        Ok(request) => run(alloc, request, files, input),
+        Err(Refusal::Help(error)) => Ok(help(rt.alloc(), alloc, &error)?),
+        Err(Refusal::BadWords) => Err(Fault::BadWords),
+        Err(Refusal::NoMemory) => Err(Fault::NoMemory),
+    }
+}
+
+/// The help that the words ask for.
+fn help<A: Allocator>(global: Global, alloc: A, error: &clap::Error) -> Result<Reply<A>, AllocError>
+    ensures { IfOk result (λ r. r.status ≡ 0) }
+{
+    let text = error.to_string(global)?;
+    Ok(Reply::text(String::from_str(alloc, text.as_str())?))
+}
+
+/// The answer to a request, or the refusal.
+fn run<A: Allocator + Clone, F: Files, S: Source>(
+    alloc: A,
+    request: Request<'_>,
+    files: &mut F,
+    input: &mut S,
+) -> Result<Reply<A>, Fault>
+    ensures done { IfOk result (λ r. IsReply (asked request.entry) (F.state files.old) (S.state input.old) (S.state input.new) r.status r.output.items) }
+    ensures refused { IfErr result (IsRefusal (asked request.entry) (F.state files.old) (F.state files.new) (S.state input.old) (S.state input.new)) }
+    ensures at_most { TakesAtMost (S.state input.old).left (S.state input.new).left (input_limit (Some (asked request.entry))) }
+{
+    match request {
+        Request::Params(Some(name)) => Ok(Reply::text(named_set(alloc, name)?)),
+        Request::Params(None) => Ok(Reply::text(all_sets(alloc)?)),
+        Request::Root(name) => Ok(Reply::text(root(alloc, name, input)?)),
+        Request::Keygen(name) => Ok(Reply::text(keygen(alloc, name, input)?)),
+        Request::Public(path) => Ok(Reply::text(public(alloc, path, files)?)),
+        Request::Check(path) => check(alloc, path, files),
+        Request::Sign(words) => Ok(Reply::done(sign_file(alloc, words, files)?)),
+        Request::Verify(words) => verify_file(alloc, words, files),
+    }
+}

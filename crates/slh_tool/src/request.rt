@@ -1,0 +1,153 @@
+ghost use Rattle.std.specs.Prelude.{◌≡◌, Some, option_map, map, IfOk, IfErr, string_bytes};
+ghost use Rattle.clap.specs.Words.{first_of, found_of, rows_of, subcommand_rows_of};
+ghost use Rattle.slh_tool.specs.Requests.{Asks, IsGround, asked, asked_by, asked_in, asked_of_key, form_asked, form_in, sign_in, verify_in};
+
+use clap::ArgMatches;
+use clap::error::ErrorKind;
+use slh_arguments::slh_command;
+use std::alloc::Global;
+
+/// What the words ask for.
+#[derive(Clone, Copy)]
+pub(crate) enum Request<'a> {
+    Params(Option<&'a str>),
+    Root(&'a str),
+    Keygen(&'a str),
+    Public(&'a str),
+    Check(&'a str),
+    Sign(SignWords<'a>),
+    Verify(VerifyWords<'a>),
+}
+
+/// The options on the form in which a message is signed.
+#[derive(Clone, Copy)]
+pub(crate) struct FormWords<'a> {
+    pub(crate) context: Option<&'a str>,
+    pub(crate) prehash: Option<&'a str>,
+}
+
+/// The options of `sign`.
+#[derive(Clone, Copy)]
+pub(crate) struct SignWords<'a> {
+    pub(crate) key: &'a str,
+    pub(crate) message: &'a str,
+    pub(crate) form: FormWords<'a>,
+    pub(crate) random: Option<&'a str>,
+}
+
+/// The options of `verify`.
+#[derive(Clone, Copy)]
+pub(crate) struct VerifyWords<'a> {
+    pub(crate) key: &'a str,
+    pub(crate) message: &'a str,
+    pub(crate) signature: &'a str,
+    pub(crate) form: FormWords<'a>,
+}
+
+/// Why no request is read of the words.
+#[derive(Drop)]
+pub(crate) enum Refusal {
+    Help(clap::Error),
+    BadWords,
+    NoMemory,
+}
+
+/// The request of the words after the program's name.
+pub(crate) fn parsed<'a>(alloc: Global, words: &'a [String]) -> Result<Request<'a>, Refusal>
+    ensures ok { IfOk result (λ r. Asks (map string_bytes words.entry.now) (asked r)) }
+    ensures err { IfErr result (IsGround (map string_bytes words.entry.now)) }
+{
+    let Ok(command) = slh_command(alloc) else {
+        return Err(Refusal::NoMemory);
+    };
+    match command.try_get_matches_from(words) {
+        Ok(matches) => match request_of(&matches) {
+            Some(request) => Ok(request),
+            None => Err(Refusal::BadWords),
+        },
+        Err(error) => match error.kind() {
+            ErrorKind::DisplayHelp => Err(Refusal::Help(error)),
+            ErrorKind::OutOfMemory => Err(Refusal::NoMemory),
+            _ => Err(Refusal::BadWords),
+        },
+    }
+}
+
+fn request_of<'a>(matches: &ArgMatches<'a>) -> Option<Request<'a>>
+    ensures { option_map asked result ≡ asked_by (subcommand_rows_of matches.now) }
+{
+    match matches.subcommand() {
+        Some((name, values)) => request_in(name, values),
+        None => Some(Request::Params(None)),
+    }
+}
+
+/// The request of a subcommand. `clap` gives a required option a value, so none is missed.
+fn request_in<'a>(name: &str, values: &ArgMatches<'a>) -> Option<Request<'a>>
+    ensures { option_map asked result ≡ asked_in name.now (rows_of (found_of values.now)) }
+{
+    if name == "params" {
+        Some(Request::Params(value(values, "set")))
+    } else if name == "root" {
+        Some(Request::Root(value(values, "set")?))
+    } else if name == "keygen" {
+        Some(Request::Keygen(value(values, "set")?))
+    } else {
+        request_of_key(name, values)
+    }
+}
+
+/// The request of a subcommand on a key file.
+fn request_of_key<'a>(name: &str, values: &ArgMatches<'a>) -> Option<Request<'a>>
+    ensures { option_map asked result ≡ asked_of_key name.now (rows_of (found_of values.now)) }
+{
+    if name == "public" {
+        Some(Request::Public(value(values, "key")?))
+    } else if name == "check" {
+        Some(Request::Check(value(values, "key")?))
+    } else if name == "sign" {
+        sign_request(values)
+    } else if name == "verify" {
+        verify_request(values)
+    } else {
+        None
+    }
+}
+
+fn sign_request<'a>(values: &ArgMatches<'a>) -> Option<Request<'a>>
+    ensures { option_map asked result ≡ sign_in (rows_of (found_of values.now)) }
+{
+    Some(Request::Sign(SignWords {
+        key: value(values, "key")?,
+        message: value(values, "message")?,
+        form: form_words(values),
+        random: value(values, "random"),
+    }))
+}
+
+fn verify_request<'a>(values: &ArgMatches<'a>) -> Option<Request<'a>>
+    ensures { option_map asked result ≡ verify_in (rows_of (found_of values.now)) }
+{
+    Some(Request::Verify(VerifyWords {
+        key: value(values, "key")?,
+        message: value(values, "message")?,
+        signature: value(values, "signature")?,
+        form: form_words(values),
+    }))
+}
+
+fn form_words<'a>(values: &ArgMatches<'a>) -> FormWords<'a>
+    ensures { form_asked result ≡ form_in (rows_of (found_of values.now)) }
+{
+    FormWords {
+        context: value(values, "context"),
+        prehash: value(values, "prehash"),
+    }
+}
+
+/// The value of an option.
+fn value<'a>(values: &ArgMatches<'a>, name: &str) -> Option<&'a str>
+    ensures { option_map (λ s. s.now) result ≡ first_of name.now (rows_of (found_of values.now)) }
+{
+    values.get_str(name)
+}

@@ -1,0 +1,108 @@
+//! Options, damaged files, and files that fail.
+use super::devices::Folder;
+use super::messages::{SIGN, VERIFY, joined, secret_key};
+use super::{Answer, run_over};
+use std::test::Fail;
+
+/// What `sign` says where the message can't be fetched.
+fn refusal(rt: &HostRuntime, key: &[u8], options: &[&str]) -> Result<Answer, Fail> {
+    let files = [("secret", key)];
+    let words = joined(rt, &SIGN, options)?;
+    run_over(rt, words.as_slice(), &mut Folder::new(&files))
+}
+
+#[test]
+fn judges_options_before_the_message(rt: HostRuntime) -> Result<(), Fail> {
+    let secret = secret_key(&rt)?;
+    let cases: [(&[&str], &[u8]); 5] = [
+        (&["--context", "4"], b"slh: 35 BadOption\n"),
+        (&["--context", "4x"], b"slh: 35 BadOption\n"),
+        (
+            &["--random", "303132333435363738393a3b3c3d3e"],
+            b"slh: 35 BadOption\n",
+        ),
+        (&["--prehash", "SHA-256"], b"slh: 35 BadOption\n"),
+        (&[], b"slh: 32 ReadFailed\n"),
+    ];
+    for (options, errors) in cases {
+        let answer = refusal(&rt, secret.as_slice(), options)?;
+        assert_eq!(rt; answer.errors.as_slice(), errors);
+        assert_eq!(rt; answer.status, 2);
+        assert!(rt; answer.output.is_empty());
+    }
+    Ok(())
+}
+
+#[test]
+fn judges_the_key_file_before_options(rt: HostRuntime) -> Result<(), Fail> {
+    let cases: [(&[u8], &[u8]); 4] = [
+        (
+            b"slh-dsa-secret 2\nSLH-DSA-SHA2-128f\n00\n",
+            b"slh: 11 NotAKeyFile\n",
+        ),
+        (
+            b"slh-dsa-secret 1\nSLH-DSA-SHAKE-128f\n",
+            b"slh: 12 UnknownSet\n",
+        ),
+        (
+            b"slh-dsa-secret 1\nSLH-DSA-SHA2-128f\n0g\n",
+            b"slh: 13 BadHex\n",
+        ),
+        (
+            b"slh-dsa-secret 1\nSLH-DSA-SHA2-128f\n00\n",
+            b"slh: 14 BadKeyLength\n",
+        ),
+    ];
+    for (key, errors) in cases {
+        let answer = refusal(&rt, key, &["--context", "4"])?;
+        assert_eq!(rt; answer.errors.as_slice(), errors);
+        assert_eq!(rt; answer.status, 2);
+    }
+    Ok(())
+}
+
+#[test]
+fn takes_no_key_of_the_other_kind(rt: HostRuntime) -> Result<(), Fail> {
+    let secret = secret_key(&rt)?;
+    let files = [("public", secret.as_slice())];
+    let answer = run_over(&rt, &VERIFY, &mut Folder::new(&files))?;
+    assert_eq!(rt;
+        answer.errors.as_slice(),
+        b"slh: 11 NotAKeyFile\n".as_slice()
+    );
+    let mut long = secret;
+    long.push(b'\n')?;
+    let files = [("secret", long.as_slice())];
+    for words in [["check", "--key", "secret"], ["public", "--key", "secret"]] {
+        let answer = run_over(&rt, &words, &mut Folder::new(&files))?;
+        assert_eq!(rt;
+            answer.errors.as_slice(),
+            b"slh: 15 TrailingBytes\n".as_slice()
+        );
+    }
+    Ok(())
+}
+
+#[test]
+fn tells_each_fetch_that_fails(rt: HostRuntime) -> Result<(), Fail> {
+    let secret = secret_key(&rt)?;
+    let files = [("secret", secret.as_slice()), ("abc", b"abc".as_slice())];
+    let mut failed = 0;
+    for fails_at in 1..20u64 {
+        let mut folder = Folder::new(&files);
+        folder.fails_at = fails_at;
+        let answer = run_over(&rt, &SIGN, &mut folder)?;
+        if answer.status == 0 {
+            assert_eq!(rt; answer.output.len(), 17088);
+            break;
+        }
+        assert_eq!(rt;
+            answer.errors.as_slice(),
+            b"slh: 32 ReadFailed\n".as_slice()
+        );
+        failed = fails_at;
+    }
+    // Each of the two files is fetched once for its bytes and once for its end.
+    assert_eq!(rt; failed, 4);
+    Ok(())
+}

@@ -1,0 +1,134 @@
+//! The words of commands, and `params`.
+use super::run;
+use crate::Fault;
+use slh_devices::Reader;
+use std::test::Fail;
+
+const LAST_LINE: &[u8] =
+    b"SLH-DSA-SHA2-256f n=32 h=68 d=17 hp=4 a=9 k=35 m=49 pk=64 sk=128 sig=49856\n";
+
+#[test]
+fn answers_or_refuses_words(rt: HostRuntime) -> Result<(), Fail> {
+    let cases: [(&[&str], &[u8], &[u8]); 9] = [
+        (&["params", "--set", "SLH-DSA-SHA2-256f"], LAST_LINE, b""),
+        (
+            &["params", "--set", "slh-dsa-sha2-256f"],
+            b"",
+            b"slh: 12 UnknownSet\n",
+        ),
+        (
+            &["root", "--set", "SLH-DSA-SHAKE-128f"],
+            b"",
+            b"slh: 12 UnknownSet\n",
+        ),
+        (&["root", "--set", ""], b"", b"slh: 12 UnknownSet\n"),
+        (&["--nothing"], b"", b"slh: 31 BadWords\n"),
+        (&["nothing"], b"", b"slh: 31 BadWords\n"),
+        (&["root"], b"", b"slh: 31 BadWords\n"),
+        (&["params", "--set"], b"", b"slh: 31 BadWords\n"),
+        (
+            &["root", "--set", "a", "--set", "b"],
+            b"",
+            b"slh: 31 BadWords\n",
+        ),
+    ];
+    for (words, output, errors) in cases {
+        let answer = run(&rt, words, &mut Reader::new([].as_slice()))?;
+        assert_eq!(rt; answer.output.as_slice(), output);
+        assert_eq!(rt; answer.errors.as_slice(), errors);
+        assert_eq!(rt; answer.status, if errors.is_empty() { 0 } else { 2 });
+    }
+    Ok(())
+}
+
+#[test]
+fn prints_one_line_for_each_set(rt: HostRuntime) -> Result<(), Fail> {
+    for words in [[].as_slice(), &["params"]] {
+        let answer = run(&rt, words, &mut Reader::new([].as_slice()))?;
+        assert_eq!(rt; answer.status, 0);
+        assert_eq!(rt;
+            answer
+                .output
+                .as_slice()
+                .iter()
+                .filter(|b| **b == b'\n')
+                .count(),
+            6
+        );
+        assert!(rt; answer.output.as_slice().ends_with(LAST_LINE));
+    }
+    Ok(())
+}
+
+#[test]
+fn help_names_the_options_and_an_example(rt: HostRuntime) -> Result<(), Fail> {
+    let cases: [(&[&str], &[&str]); 9] = [
+        (
+            &["--help"],
+            &[
+                "params", "root", "keygen", "public", "check", "sign", "verify",
+            ],
+        ),
+        (
+            &["help"],
+            &[
+                "params", "root", "keygen", "public", "check", "sign", "verify",
+            ],
+        ),
+        (
+            &["params", "--help"],
+            &["--set <NAME>", "Example: slh params"],
+        ),
+        (&["root", "--help"], &["--set <NAME>", "Example: slh root"]),
+        (
+            &["keygen", "--help"],
+            &["--set <NAME>", "Example: slh keygen"],
+        ),
+        (
+            &["public", "--help"],
+            &["--key <FILE>", "Example: slh public"],
+        ),
+        (
+            &["check", "--help"],
+            &["--key <FILE>", "Example: slh check"],
+        ),
+        (
+            &["sign", "--help"],
+            &[
+                "--key <FILE>",
+                "--message <FILE>",
+                "--context <HEX>",
+                "--prehash <NAME>",
+                "--random <HEX>",
+                "Example: slh sign",
+            ],
+        ),
+        (
+            &["verify", "--help"],
+            &[
+                "--key <FILE>",
+                "--message <FILE>",
+                "--signature <FILE>",
+                "--context <HEX>",
+                "--prehash <NAME>",
+                "Example: slh verify",
+            ],
+        ),
+    ];
+    for (words, parts) in cases {
+        let answer = run(&rt, words, &mut Reader::new([].as_slice()))?;
+        let text = str::from_utf8(answer.output.as_slice()).map_err(|_| "help is no text")?;
+        for part in parts {
+            assert!(rt; text.contains(*part), "{part}");
+        }
+        assert_eq!(rt; answer.status, 0);
+        assert!(rt; answer.errors.is_empty());
+    }
+    Ok(())
+}
+
+#[test]
+fn a_fault_has_its_number_and_name(rt: HostRuntime) {
+    assert_eq!(rt; Fault::BadSeeds.number(), 34);
+    assert_eq!(rt; Fault::BadSeeds.name(), "BadSeeds");
+}

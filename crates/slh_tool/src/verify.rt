@@ -1,0 +1,79 @@
+ghost use Rattle.std.specs.Prelude.{◌≡◌, ◌↔◌, IsTrue, IfOk, IfErr, None, Some, OnOk};
+ghost use Rattle.slh_tool.specs.Options.{HasForm};
+ghost use Rattle.slh_tool.specs.Replies.{IsValidIn, JudgesFiles, JudgesWith, RefusesFiles, RefusesVerify, RefusesVerifying, VerifiesMessage};
+ghost use Rattle.slh_tool.specs.Requests.{verify_asked};
+
+use super::fault::Fault;
+use super::keys::public_key;
+use super::options::form_of;
+use super::reading::{digest_file, read_file};
+use super::reply::Reply;
+use super::request::VerifyWords;
+use slh_core::{PreHash, PublicKey, hash_verify_digest, verify};
+use slh_devices::Files;
+use std::alloc::Allocator;
+
+/// Whether the signature of a message file is valid.
+pub(crate) fn verify_file<A: Allocator + Clone, F: Files>(
+    alloc: A,
+    words: VerifyWords<'_>,
+    files: &mut F,
+) -> Result<Reply<A>, Fault>
+    ensures done { IfOk result (λ r. VerifiesMessage (verify_asked words.entry) (F.state files.old) r.status r.output.items) }
+    ensures refused { IfErr result (RefusesVerify (verify_asked words.entry) (F.state files.old) (F.state files.new)) }
+{
+    let key = public_key(alloc.clone()?, files, words.key)?;
+    let answer = verify_with(alloc.clone()?, words, files, &key)?;
+    Ok(Reply::verdict(alloc, answer, "valid\n", "invalid\n")?)
+}
+
+/// Whether the signature of a message file is valid under a key.
+fn verify_with<A: Allocator + Clone, F: Files>(
+    alloc: A,
+    words: VerifyWords<'_>,
+    files: &mut F,
+    key: &PublicKey,
+) -> Result<bool, Fault>
+    ensures done { IfOk result (JudgesWith (verify_asked words.entry) (F.state files.old) key.now) }
+    ensures refused { IfErr result (RefusesVerifying (verify_asked words.entry) (F.state files.old) (F.state files.new)) }
+{
+    let form = form_of(alloc.clone()?, words.form)?;
+    let context = form.context.as_slice();
+    match form.prehash {
+        None => verify_pure(alloc, words, files, key, context),
+        Some(function) => verify_digest(alloc, words, files, key, context, function),
+    }
+}
+
+/// The same in the pure form. The message is held.
+fn verify_pure<A: Allocator + Clone, F: Files>(
+    alloc: A,
+    words: VerifyWords<'_>,
+    files: &mut F,
+    key: &PublicKey,
+    context: &[u8],
+) -> Result<bool, Fault>
+    ensures done { IfOk result (JudgesFiles (verify_asked words.entry) (F.state files.old) key.now context.now None) }
+    ensures refused { IfErr result (RefusesFiles (verify_asked words.entry) (F.state files.old) (F.state files.new)) }
+{
+    let message = read_file(alloc.clone()?, files, words.message)?;
+    let signature = read_file(alloc, files, words.signature)?;
+    Ok(verify(message.as_slice(), context, signature.as_slice(), key))
+}
+
+/// The same in the pre-hash form. The message is hashed by pieces and never held.
+fn verify_digest<A: Allocator, F: Files>(
+    alloc: A,
+    words: VerifyWords<'_>,
+    files: &mut F,
+    key: &PublicKey,
+    context: &[u8],
+    function: PreHash,
+) -> Result<bool, Fault>
+    ensures done { IfOk result (JudgesFiles (verify_asked words.entry) (F.state files.old) key.now context.now (Some function)) }
+    ensures refused { IfErr result (RefusesFiles (verify_asked words.entry) (F.state files.old) (F.state files.new)) }
+{
+    let digest = digest_file(files, words.message, function)?;
+    let signature = read_file(alloc, files, words.signature)?;
+    Ok(hash_verify_digest(&digest, context, signature.as_slice(), key))
+}

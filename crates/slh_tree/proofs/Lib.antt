@@ -1,0 +1,14 @@
+pub mod Branch
+pub mod Authentic
+pub mod PathBytes
+pub mod Blocks
+pub mod Joins
+pub mod FromEnd
+pub mod Covers
+pub mod CoverParts
+pub mod OneCover
+pub mod Known
+pub mod Pushing
+pub mod Hashing
+pub mod NodeByNode
+pub mod CoverByCover

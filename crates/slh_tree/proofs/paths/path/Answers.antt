@@ -1,0 +1,23 @@
+use Rattle.std.proofs.Common.{length, arith}
+use Rattle.slh_tree.proofs.Branch.{sibling_within}
+use Rattle.slh_tree.proofs.PathBytes.{path_below-none, path_below-more, node_fits}
+use Rattle.slh_tree.proofs.paths.path.Goals as goal
+
+pub loop-level-init : goal.loop-level-init
+loop-level-init g c = path_below-none (g.T.Tree.tree c.args.tree.now) c.args.idx c.args.out.now
+
+pub node_over-node-requires-clause-within : goal.node_over-node-requires-clause-within
+node_over-node-requires-clause-within g c =
+    sibling_within c.args.idx (g.T.Tree.tree c.args.tree.now).height c.loop-level.level c.requires.index (omega (arith, c.height-level-end.ensures.value))
+
+pub write_node-requires : goal.write_node-requires
+write_node-requires g c =
+    let t = g.T.Tree.tree c.args.tree.now in
+    node_fits t (g.met.T.Tree.lawful c.args.tree.now) c.args.idx c.loop-level.level c.len.result (length c.loop-level.out) c.node_over-node.result.items c.node_over-node.ensures
+    c.len.ensures.value (omega (arith, c.height-level-end.ensures.value)) (omega (arith, c.requires.length))
+
+pub loop-level-preserved : goal.loop-level-preserved
+loop-level-preserved g c =
+    let t = g.T.Tree.tree c.args.tree.now in
+    path_below-more t (g.met.T.Tree.lawful c.args.tree.now) c.args.idx c.loop-level.level c.len.result c.loop-level.out c.write_node.new.out c.node_over-node.result.items
+    c.node_over-node.ensures c.len.ensures.value c.loop-level.invariant c.write_node.ensures

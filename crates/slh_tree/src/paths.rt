@@ -1,0 +1,89 @@
+//! The authentication path of a leaf, and the climb along a path.
+ghost use Rattle.std.specs.Prelude.{◌≡◌, ◌+◌, ◌*◌, ◌/◌, ◌^◌, ◌<◌, ◌≤◌, ◌++◌, length, take};
+ghost use Rattle.slh_tree.specs.Tree.{root, node};
+ghost use Rattle.slh_tree.specs.Cover.{past_leaf};
+ghost use Rattle.slh_tree.specs.Climb.{climb as climb_of, parent as parent_of, path};
+
+use crate::range::hash_range;
+use crate::record::PathRec;
+use crate::tree::Tree;
+use slh_params::{Node, copy_of, node_of};
+
+/// Writes the authentication path of leaf `idx` into `out`: for each height below the tree's, the sibling of the node
+/// over the leaf, end to end (FIPS 205, AUTH of Algorithms 10 and 16).
+///
+/// Each sibling is made from its own leaves, so that `2^height - 1` leaves are computed, and never leaf `idx` itself.
+pub fn path<T: Tree>(tree: &T, idx: u32, out: &mut [u8])
+    requires index { idx < 2 ^ (T.tree tree.now).height }
+    requires length { length out.old ≡ (T.tree tree.now).height * (T.tree tree.now).width }
+    ensures { out.new ≡ path (T.tree tree.now) idx }
+{
+    for level in 0..tree.height() {
+        let node = node_over(tree, level, (idx >> level) ^ 1);
+        write_node(out, level as usize * node.len(), &node);
+    }
+}
+
+/// The node of height `z` at index `i`, made from its own leaves alone.
+fn node_over<T: Tree>(tree: &T, z: u32, i: u32) -> Node
+    requires height { z < (T.tree tree.now).height }
+    requires within { past_leaf z i ≤ 2 ^ (T.tree tree.now).height }
+    ensures { result.items ≡ node (T.tree tree.now) z i }
+{
+    let height = tree.height();
+    let mut rec = PathRec::for_leaf(height, 0);
+    let size = 1 << z;
+    let first = i * size;
+    let cover = hash_range(tree, first, first + size, &mut rec);
+    copy_of(&cover.nodes[0].node)
+}
+
+/// Writes a node's bytes from `start` on.
+fn write_node(out: &mut [u8], start: usize, node: &Node)
+    requires { start + length node.now.items ≤ length out.old }
+    ensures { take (start + length node.now.items) out.new ≡ take start out.old ++ node.now.items }
+{
+    let end = start + node.len();
+    out[start..end].copy_from_slice(node);
+}
+
+/// The parent of the node of height `level` over leaf `idx`, from that node and its sibling.
+#[tactic(auto, using(crate::proofs::Branch::parent_below))]
+fn parent<T: Tree>(tree: &T, idx: u32, level: u32, node: &Node, sibling: &Node) -> Node
+    requires index { idx < 2 ^ (T.tree tree.now).height }
+    requires level { level < (T.tree tree.now).height }
+    requires high { level < 14 }
+    requires node { length node.now.items ≡ (T.tree tree.now).width }
+    requires sibling { length sibling.now.items ≡ (T.tree tree.now).width }
+    ensures value { result.items ≡ parent_of (T.tree tree.now) (level + 1) (idx / 2 ^ level) node.now.items sibling.now.items }
+    ensures width { length result.items ≡ (T.tree tree.now).width }
+{
+    let index = idx >> level;
+    if index % 2 == 0 {
+        tree.join(level + 1, index / 2, node, sibling)
+    } else {
+        tree.join(level + 1, index / 2, sibling, node)
+    }
+}
+
+/// The root that follows from `leaf` at index `idx` and the path `auth`, which is as long as the tree's paths are
+/// (FIPS 205, the loops of Algorithms 11 and 17).
+///
+/// It joins nodes alone and asks for no leaf. From the tree's own leaf and its path it gives the tree's root.
+pub fn climb<T: Tree>(tree: &T, idx: u32, leaf: &Node, auth: &[u8]) -> Node
+    requires index { idx < 2 ^ (T.tree tree.now).height }
+    requires leaf_width { length leaf.now.items ≡ (T.tree tree.now).width }
+    requires path_width { length auth.now ≡ (T.tree tree.now).height * (T.tree tree.now).width }
+    ensures climbs { result.items ≡ climb_of (T.tree tree.now) idx leaf.now.items auth.now }
+    ensures width { length result.items ≡ (T.tree tree.now).width }
+    ensures authentic { leaf.now.items ≡ (T.tree tree.now).leaf idx → auth.now ≡ path (T.tree tree.now) idx → result.items ≡ root (T.tree tree.now) }
+{
+    let width = leaf.len();
+    let mut node = copy_of(leaf);
+    for level in 0..tree.height() {
+        let start = level as usize * width;
+        let sibling = node_of(&auth[start..start + width]);
+        node = parent(tree, idx, level, &node, &sibling);
+    }
+    node
+}

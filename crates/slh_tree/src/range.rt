@@ -1,0 +1,62 @@
+//! The cover of a range of leaves, and the root.
+ghost use Rattle.std.specs.Prelude.{◌≡◌, ℕ, ◌*◌, ◌^◌, ◌<◌, ◌≤◌, [], ◌∷◌, Some, length};
+ghost use Rattle.slh_tree.specs.Tree.{sibling, root};
+ghost use Rattle.slh_tree.specs.declared.cover.Placed.{Placed};
+ghost use Rattle.slh_tree.specs.Cover.{IsCover, first_leaf, past_leaf};
+ghost use Rattle.slh_tree.specs.Record.{known, LiesInRange};
+
+use crate::cover::{Cover, Placed};
+use crate::record::PathRec;
+use crate::stack::Stack;
+use crate::tree::Tree;
+use slh_params::{Node, copy_of};
+
+/// The cover of the leaves from `lo` to `hi`, `hi` left out, which has at most two nodes of each height; the leaves
+/// below one node give that node alone. The record gains exactly those nodes of its path whose leaves all lie in the
+/// range.
+pub fn hash_range<T: Tree>(tree: &T, lo: u32, hi: u32, rec: &mut PathRec) -> Cover
+    requires order { lo < hi }
+    requires within { hi ≤ 2 ^ (T.tree tree.now).height }
+    requires same_height { rec.old.height ≡ (T.tree tree.now).height }
+    ensures cover { IsCover (T.tree tree.now) lo hi result.nodes.items }
+    ensures lo { result.lo ≡ lo }
+    ensures hi { result.hi ≡ hi }
+    ensures block { (z i : ℕ) → lo ≡ first_leaf z i → hi ≡ past_leaf z i → (p : Placed) × (result.nodes.items ≡ p ∷ []) × (p.z ≡ z) × (p.i ≡ i) }
+    ensures few { length result.nodes.items ≤ 2 * (T.tree tree.now).height }
+    ensures height { rec.new.height ≡ rec.old.height }
+    ensures leaf { rec.new.leaf ≡ rec.old.leaf }
+    ensures noted { (j : ℕ) → j < rec.old.height → LiesInRange lo hi rec.old.leaf j → known rec.new j ≡ Some (sibling (T.tree tree.now) rec.old.leaf j) }
+    ensures kept { (j : ℕ) → (LiesInRange lo hi rec.old.leaf j → ⊥) → known rec.new j ≡ known rec.old j }
+{
+    let _highest = tree.height();
+    let mut stack = Stack::new();
+    for i in lo..hi {
+        let leaf = Placed {
+            z: 0,
+            i,
+            node: tree.leaf(i),
+        };
+        rec.note(&leaf);
+        stack.push(tree, leaf, rec);
+    }
+    stack.into_cover()
+}
+
+/// The one node of a cover of the whole tree.
+pub(crate) fn only_node<T: Tree>(tree: &T, cover: &Cover) -> Node
+    requires { IsCover (T.tree tree.now) 0 (2 ^ (T.tree tree.now).height) cover.now.nodes.items }
+    ensures { result.items ≡ root (T.tree tree.now) }
+{
+    copy_of(&cover.nodes[0].node)
+}
+
+/// The root of the tree, from all its leaves (FIPS 205, Algorithms 9 and 15 at the tree's height and index 0).
+pub fn root<T: Tree>(tree: &T) -> Node
+    ensures value { result.items ≡ root (T.tree tree.now) }
+    ensures width { length result.items ≡ (T.tree tree.now).width }
+{
+    let height = tree.height();
+    let mut rec = PathRec::for_leaf(height, 0);
+    let cover = hash_range(tree, 0, 1 << height, &mut rec);
+    only_node(tree, &cover)
+}

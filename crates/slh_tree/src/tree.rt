@@ -1,0 +1,37 @@
+//! What a Merkle tree is.
+ghost use Rattle.std.specs.Prelude.{◌≡◌, ◌-◌, ◌^◌, ◌<◌, ◌≤◌, length};
+ghost use Rattle.slh_tree.specs.Tree.{MerkleTree, Lawful};
+
+use slh_params::Node;
+
+/// A Merkle tree of height 1 to 14, whose nodes all have one length of at most 32 bytes.
+///
+/// The node of height `z` at index `i` is over the leaves from `i * 2^z` to `(i + 1) * 2^z - 1`. The XMSS trees and the
+/// FORS trees are such trees (FIPS 205, Sections 6 and 8).
+pub trait Tree {
+    /// The height, the length of a node, the leaves and the join.
+    ghost tree: { Self → MerkleTree };
+
+    /// The number of levels above the leaves.
+    fn height(&self) -> u32
+        ensures value { result ≡ (tree self.now).height }
+        ensures low { 1 ≤ result }
+        ensures high { result ≤ 14 };
+
+    /// The leaf at index `i`.
+    fn leaf(&self, i: u32) -> Node
+        requires { i < 2 ^ (tree self.now).height }
+        ensures { result.items ≡ (tree self.now).leaf i };
+
+    /// The node of height `z` at index `i`, from its left and its right child.
+    fn join(&self, z: u32, i: u32, l: &Node, r: &Node) -> Node
+        requires low { 1 ≤ z }
+        requires high { z ≤ (tree self.now).height }
+        requires index { i < 2 ^ ((tree self.now).height - z) }
+        requires left { length l.now.items ≡ (tree self.now).width }
+        requires right { length r.now.items ≡ (tree self.now).width }
+        ensures { result.items ≡ (tree self.now).join z i l.now.items r.now.items };
+
+    /// All nodes have one length.
+    ghost lawful: { (t : Self) → Lawful (tree t) };
+}
