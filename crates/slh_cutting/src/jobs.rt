@@ -49,6 +49,7 @@ pub fn keygen_job(cutting: &Cutting, number: u32) -> JobRange
     requires { number < length (key_generation_jobs cutting.now) }
     ensures job { slice_get (key_generation_jobs cutting.now) number ≡ Some result }
     ensures tree { result.tree ≡ JobTree.Xmss ((params cutting.now.set).d - 1) }
+    ensures leaves { slice_get (signing_jobs cutting.now) number ≡ Some record { tree = JobTree.Xmss 0; lo = result.lo; hi = result.hi } }
     ensures some { result.lo < result.hi }
     ensures within { result.hi ≤ 2 ^ (params cutting.now.set).hp }
 {
