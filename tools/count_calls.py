@@ -1,9 +1,10 @@
 #!/usr/bin/env python3
-"""Counts the hash calls and the compressions of one signature in one thread, for each set.
+"""Counts the hash calls and the compressions of key generation, signing and verifying in one thread, for each set.
 
 It builds the program slh_bench from a copy of the repository in which the hash functions are marked
-`#[inline(never)]`, runs it under valgrind's callgrind, and adds up the calls that callgrind saw.
-Needs `rt` and `valgrind`. Usage: tools/count_calls.py [SET ..]
+`#[inline(never)]`, runs it under valgrind's callgrind, and adds up the calls that callgrind saw: those of one run of a
+task less those of none, which prepares the inputs alone. Needs `rt` and `valgrind`.
+Usage: tools/count_calls.py [keygen|sign|verify] [SET ..]
 """
 import os
 import re
@@ -13,6 +14,7 @@ import sys
 import tempfile
 
 SETS = [f"SLH-DSA-SHA2-{size}{kind}" for size in (128, 192, 256) for kind in "sf"]
+TASKS = ["keygen", "sign", "verify"]
 ROOT = os.path.dirname(os.path.dirname(os.path.abspath(__file__)))
 
 # The functions that are counted, as the built program's symbols have them.
@@ -66,27 +68,40 @@ def calls(profile):
     return counts
 
 
-def count(program, parameter_set, folder):
-    """Calls of F, PRF, H, T and of the two compression functions in one signature."""
+def profiled(program, words, folder):
+    """The calls that a run of the program makes."""
     profile = os.path.join(folder, "profile")
-    command = ["valgrind", "--tool=callgrind", "--callgrind-out-file=" + profile, program, parameter_set]
+    command = ["valgrind", "--tool=callgrind", "--callgrind-out-file=" + profile, program, *words]
     subprocess.run(command, check=True, stdout=subprocess.DEVNULL, stderr=subprocess.DEVNULL)
-    counts = calls(profile)
+    return calls(profile)
+
+
+def count(program, task, parameter_set, folder):
+    """Calls of F, PRF, H, T and of the two compression functions in one run of a task."""
+    prepared, run = (profiled(program, [task, runs, parameter_set], folder) for runs in ("0", "1"))
 
     def of(function, not_from=None):
-        return sum(n for (caller, callee), n in counts.items() if callee == function and caller != not_from)
+        return sum(
+            sign * n
+            for sign, counts in ((1, run), (-1, prepared))
+            for (caller, callee), n in counts.items()
+            if callee == function and caller != not_from
+        )
 
     return [of(F), of(PRF), of(H), of(T, not_from=H), of(SHA_256), of(SHA_512)]
 
 
 def main():
+    words = sys.argv[1:]
+    tasks = [words.pop(0)] if words and words[0] in TASKS else TASKS
     with tempfile.TemporaryDirectory() as folder:
         program = build(folder)
-        print("| set | F | PRF | H | T | SHA-256 | SHA-512 |")
-        print("|---|---|---|---|---|---|---|")
-        for parameter_set in sys.argv[1:] or SETS:
-            row = " | ".join(f"{n:,}" for n in count(program, parameter_set, folder))
-            print(f"| {parameter_set} | {row} |", flush=True)
+        print("| set | task | F | PRF | H | T | SHA-256 | SHA-512 |")
+        print("|---|---|---|---|---|---|---|---|")
+        for parameter_set in words or SETS:
+            for task in tasks:
+                row = " | ".join(f"{n:,}" for n in count(program, task, parameter_set, folder))
+                print(f"| {parameter_set} | {task} | {row} |", flush=True)
 
 
 main()

@@ -1,44 +1,54 @@
-//! Makes one signature of the set that its argument names, so that a profiler can count what one
-//! signature calls. It prints nothing; without an argument it does nothing.
+//! Times key generation, signing or verifying of a parameter set, or the hash functions below them. `tools/benchmark.py`
+//! runs it, and `tools/count_calls.py` does so under a profiler.
+//!
+//! Its words are a task (`keygen`, `sign`, `verify`, `sha256`, `sha512`), a number of runs and a set's name. It prints the
+//! nanoseconds of the shortest run; one of `sha256` or `sha512` hashes 65536 bytes. Without three words it prints nothing.
 #![tactic(auto)]
 
-ghost use Rattle.std.specs.Prelude.{◌≡◌, ◌≤◌, IfOk};
-ghost use Rattle.slh_params.specs.Params.{sig_len};
-ghost use Rattle.slh_params.specs.ParamSet.{params};
+mod task;
 
-use slh_core::{Randomizer, SecretKey, sign};
+use slh_core::SecretKey;
 use slh_params::ParamSet;
+use std::rt::Clock;
+use std::time::{Duration, Instant};
 use std::{env, io};
+use task::{MOST_BYTES, Task, key, sign_message};
 
-/// No set has longer signatures.
-const MOST_BYTES: usize = 50000;
-
-#[tactic(auto, using(slh_params::proofs::Table::sig_len_small))]
-fn sig_len(set: ParamSet) -> usize
-    ensures value { result ≡ sig_len (params set) }
-    ensures fits { result ≤ MOST_BYTES }
-{
-    set.sig_len()
-}
-
-/// Signs "abc" under the key of the bytes 0, 1, 2, ..; what PK.root is changes no count.
-fn sign_once(set: ParamSet) {
-    let mut bytes = [0; 128];
-    for i in 0..128 {
-        bytes[i] = i as u8;
+/// The shortest of several runs. A run whose outcome is wrong counts as the longest.
+fn least_time<C: Clock>(
+    clock: &C,
+    task: Task,
+    sk: &SecretKey,
+    buffer: &mut [u8; MOST_BYTES],
+    runs: u32,
+) -> io::Result<Duration> {
+    let mut least = Duration::MAX;
+    for _ in 0..runs {
+        let start = Instant::now(clock)?;
+        if task.run(sk, buffer) {
+            least = least.min(start.elapsed(clock)?);
+        }
     }
-    let mut buffer = [0; MOST_BYTES];
-    let out = &mut buffer[..sig_len(set)];
-    if let Ok(sk) = SecretKey::from_bytes(set, &bytes[..set.sk_len()]) {
-        let _ = sign(b"abc", b"", &sk, Randomizer::Deterministic, out);
-    }
+    Ok(least)
 }
 
 fn main(rt: HostRuntime) -> io::Result<()> {
-    for word in env::args(&rt)?.skip(1) {
-        if let Some(set) = ParamSet::from_name(word.as_str()) {
-            sign_once(set);
-        }
+    let mut words = env::args(&rt)?.skip(1);
+    let (Some(task), Some(runs), Some(set)) = (words.next(), words.next(), words.next()) else {
+        return Ok(());
+    };
+    let (Some(task), Ok(runs), Some(set)) = (
+        Task::from_name(task.as_str()),
+        runs.parse(),
+        ParamSet::from_name(set.as_str()),
+    ) else {
+        return Ok(());
+    };
+    let sk = key(set);
+    let mut buffer = [0; MOST_BYTES];
+    if matches!(task, Task::Verify) {
+        sign_message(&sk, &mut buffer);
     }
-    Ok(())
+    let time = least_time(&rt, task, &sk, &mut buffer, runs)?;
+    println!(rt; "{}", time.as_nanos())
 }

@@ -1,0 +1,90 @@
+#!/usr/bin/env python3
+"""Times key generation, signing and verifying in one thread, for each set.
+
+It builds the program slh_bench and prints, in milliseconds, the least of several runs of each task, and beside it how
+many times the product of the task's compressions and the time of one compression, taken in the same run, that is.
+The compressions are those that tools/count_calls.py counts. Where OPENSSL names an `openssl` of version 3.5 or later,
+its `speed` is run by turns with ours, and the ratio of the least times is printed. Set OPENSSL_ia32cap=:~0x20000000
+to keep that one from the processor's SHA instructions, which this library does not use.
+Needs `rt`. Usage: tools/benchmark.py [SET ..]
+"""
+import os
+import re
+import subprocess
+import sys
+
+SETS = [f"SLH-DSA-SHA2-{size}{kind}" for size in (128, 192, 256) for kind in "sf"]
+TASKS = ["keygen", "sign", "verify"]
+ROOT = os.path.dirname(os.path.dirname(os.path.abspath(__file__)))
+PROGRAM = os.path.join(ROOT, "crates", "slh_bench", "out", "slh_bench")
+OPENSSL = os.environ.get("OPENSSL")
+TURNS = 3
+
+# Bytes that one run of the tasks sha256 and sha512 hashes, and the blocks that they and their padding fill.
+BLOCKS = {"sha256": 65536 // 64 + 1, "sha512": 65536 // 128 + 1}
+
+# How often one run of a task calls the compression functions of SHA-256 and SHA-512 (tools/count_calls.py).
+COMPRESSIONS = {
+    "SLH-DSA-SHA2-128s": {"keygen": (293886, 0), "sign": (2229170, 0), "verify": (2309, 0)},
+    "SLH-DSA-SHA2-128f": {"keygen": (4590, 0), "sign": (107237, 0), "verify": (6406, 0)},
+    "SLH-DSA-SHA2-192s": {"keygen": (418304, 6654), "sign": (3484862, 325311), "verify": (2695, 687)},
+    "SLH-DSA-SHA2-192f": {"keygen": (6536, 102), "sign": (160306, 10922), "verify": (8726, 913)},
+    "SLH-DSA-SHA2-256s": {"keygen": (274688, 5374), "sign": (2917944, 403706), "verify": (4126, 906)},
+    "SLH-DSA-SHA2-256f": {"keygen": (17168, 334), "sign": (327204, 23870), "verify": (8348, 1103)},
+}
+
+
+def build():
+    """Builds the program where it is missing or older than its sources."""
+    folder = os.path.dirname(os.path.dirname(PROGRAM))
+    subprocess.run(["rt", "run"], cwd=folder, check=True, stdout=subprocess.DEVNULL, stderr=subprocess.DEVNULL)
+
+
+def ours(task, runs, parameter_set):
+    """The nanoseconds of the shortest run."""
+    command = [PROGRAM, task, str(runs), parameter_set]
+    return int(subprocess.run(command, check=True, capture_output=True, text=True).stdout)
+
+
+def openssls(parameter_set):
+    """OpenSSL's nanoseconds for each task, the mean over a second."""
+    command = [OPENSSL, "speed", "-seconds", "1", parameter_set]
+    text = subprocess.run(command, check=True, capture_output=True, text=True).stdout
+    row = re.search(rf"^\s*{parameter_set}\s+([\d.]+)s\s+([\d.]+)s\s+([\d.]+)s", text, re.M)
+    return {task: float(seconds) * 1e9 for task, seconds in zip(TASKS, row.groups())}
+
+
+def measured(parameter_set):
+    """The least times of our tasks and of OpenSSL's, by turns."""
+    small = parameter_set.endswith("s")
+    runs = {"keygen": 3 if small else 30, "sign": 1 if small else 5, "verify": 30, "sha256": 30, "sha512": 30}
+    least, other = {}, {}
+    for _ in range(TURNS):
+        for task, times in runs.items():
+            least[task] = min(ours(task, times, parameter_set), least.get(task, sys.maxsize))
+        for task, time in openssls(parameter_set).items() if OPENSSL else ():
+            other[task] = min(time, other.get(task, time))
+    return least, other
+
+
+def line(parameter_set, task, least, other):
+    """A row of the table."""
+    blocks = zip(("sha256", "sha512"), COMPRESSIONS[parameter_set][task])
+    compressing = sum(count * least[name] / BLOCKS[name] for name, count in blocks)
+    row = f"| {parameter_set} | {task} | {least[task] / 1e6:.3f} | {least[task] / compressing:.2f} |"
+    return row + (f" {other[task] / 1e6:.3f} | {least[task] / other[task]:.2f} |" if other else "")
+
+
+def main():
+    build()
+    print("| set | task | ms | of its compressions' time |" + (" OpenSSL, ms | ratio |" if OPENSSL else ""))
+    print("|---|---|---|---|" + ("---|---|" if OPENSSL else ""))
+    for parameter_set in sys.argv[1:] or SETS:
+        least, other = measured(parameter_set)
+        for task in TASKS:
+            print(line(parameter_set, task, least, other), flush=True)
+        nanoseconds = ", ".join(f"{name} {least[name] / blocks:.0f}" for name, blocks in BLOCKS.items())
+        print(f"  one compression, ns: {nanoseconds}", file=sys.stderr)
+
+
+main()
