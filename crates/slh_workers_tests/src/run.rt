@@ -24,7 +24,10 @@ fn each_answer_is_in_its_place(rt: HostRuntime) -> Result<(), Fail> {
         for jobs in [0u32, 1, 10, 65] {
             let squares = run_all(&rt, rt.alloc(), &Squares::new(jobs), workers, &NoGate)?;
             let wanted = (0..u64::from(jobs)).map(|i| i.wrapping_mul(i));
-            assert!(rt; squares.iter().copied().eq(wanted), "{jobs} jobs, {number} workers");
+            assert!(rt;
+                squares.iter().copied().eq(wanted),
+                "{jobs} jobs, {number} workers"
+            );
         }
     }
     Ok(())
@@ -60,7 +63,11 @@ fn a_refused_job_refuses_the_run(rt: HostRuntime) -> Result<(), Fail> {
         for refused in 0u32..10 {
             let work = Squares { jobs: 10, refused };
             let outcome = run_all(&rt, rt.alloc(), &work, workers, &NoGate);
-            assert_eq!(rt; outcome.err(), Some(RunFault::NoMemory), "job {refused}, {number} workers");
+            assert_eq!(rt;
+                outcome.err(),
+                Some(RunFault::NoMemory),
+                "job {refused}, {number} workers"
+            );
         }
     }
     Ok(())
@@ -73,7 +80,11 @@ fn a_gate_stops_the_run(rt: HostRuntime) -> Result<(), Fail> {
         for job in 0u32..10 {
             let gate = StopAt::new(job);
             let outcome = run_all(&rt, rt.alloc(), &Squares::new(10), workers, &gate);
-            assert_eq!(rt; outcome.err(), Some(RunFault::Stopped), "job {job}, {number} workers");
+            assert_eq!(rt;
+                outcome.err(),
+                Some(RunFault::Stopped),
+                "job {job}, {number} workers"
+            );
         }
         let gate = StopAt::new(10);
         let squares = run_all(&rt, rt.alloc(), &Squares::new(10), workers, &gate)?;
