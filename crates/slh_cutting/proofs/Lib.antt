@@ -1,0 +1,8 @@
+pub mod Sets
+pub mod FirstBad
+pub mod Rising
+pub mod Levels
+pub mod Ranges
+pub mod Ends
+pub mod Trees
+pub mod Numbered

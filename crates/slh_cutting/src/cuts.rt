@@ -1,7 +1,8 @@
 // The cut points of one kind of tree.
-ghost use Rattle.std.specs.Prelude.{◌≡◌, ℕ, ◌+◌, ◌<◌, ◌≤◌, ◌^◌, Some, None, MatchResult, IfOk, OnOk, IfErr};
-ghost use Rattle.slh_cutting.specs.Points.{first_bad, level_points};
-ghost use Rattle.slh_cutting.specs.CutFaults.{cut_points, fault_of};
+ghost use Rattle.std.specs.Prelude.{◌≡◌, ℕ, ◌+◌, ◌-◌, ◌*◌, ◌<◌, ◌≤◌, ◌^◌, ◌↔◌, map, Some, None, MatchResult, IsOk, IfOk, OnOk, IfErr};
+ghost use Rattle.std.specs.List.{range_with_len};
+ghost use Rattle.slh_cutting.specs.Points.{first_bad, level_points, ranges};
+ghost use Rattle.slh_cutting.specs.CutFaults.{cut_points, IsInRule, fault_of};
 
 use crate::fault::{CutFault, CutTree};
 use arrayvec::ArrayVec;
@@ -14,6 +15,11 @@ pub enum Cuts<'a> {
     /// Before each of these leaves, at most 255. They rise, the first is above 0 and the last is a leaf.
     Points(&'a [u32]),
 }
+
+/// The law that levels cut a tree into 2^level ranges of one size. It does nothing: the law is its contract.
+pub fn levels_cut_evenly()
+    ensures { (height level : ℕ) → level ≤ height → ranges 0 (level_points height level) (2 ^ height) ≡ map (λ i. (i * 2 ^ (height - level), (i + 1) * 2 ^ (height - level))) (range_with_len 0 (2 ^ level)) }
+{}
 
 /// The points at which trees are cut: the first leaf of each range but the first.
 pub(crate) type CutPoints = ArrayVec<u32, 255>;
@@ -31,6 +37,7 @@ pub(crate) fn points_of(tree: CutTree, height: u32, cuts: Cuts<'_>) -> Result<Cu
     requires { height ≤ 14 }
     ensures points { IfOk result (λ v. v.items ≡ cut_points height cuts.entry) }
     ensures good { IfOk result (λ v. first_bad (2 ^ height) 0 0 v.items ≡ None) }
+    ensures in_rule { IsOk result ↔ IsInRule height cuts.entry }
     ensures accepted { OnOk result (fault_of tree height cuts.entry ≡ None) }
     ensures refused { IfErr result (λ e. fault_of tree height cuts.entry ≡ Some e) }
 {

@@ -32,13 +32,13 @@ pub fn job(cutting: &Cutting, number: u32) -> JobRange
     ensures within { result.hi ≤ 2 ^ height_of (params cutting.now.set) result.tree }
 {
     let set = cutting.set();
-    let xmss_jobs = times(set.d(), cutting.xmss_ranges());
+    let each = cutting.xmss_ranges();
+    let xmss_jobs = times(set.d(), each);
     if number < xmss_jobs {
-        let each = cutting.xmss_ranges();
         cutting.job_in(JobTree::Xmss((number / each) as u8), number % each)
     } else {
-        let each = cutting.fors_ranges();
         let rest = number - xmss_jobs;
+        let each = cutting.fors_ranges();
         cutting.job_in(JobTree::Fors(rest / each), rest % each)
     }
 }
@@ -49,6 +49,7 @@ pub fn keygen_job(cutting: &Cutting, number: u32) -> JobRange
     requires { number < length (key_generation_jobs cutting.now) }
     ensures job { slice_get (key_generation_jobs cutting.now) number ≡ Some result }
     ensures tree { result.tree ≡ JobTree.Xmss ((params cutting.now.set).d - 1) }
+    ensures leaves { slice_get (signing_jobs cutting.now) number ≡ Some record { tree = JobTree.Xmss 0; lo = result.lo; hi = result.hi } }
     ensures some { result.lo < result.hi }
     ensures within { result.hi ≤ 2 ^ (params cutting.now.set).hp }
 {
