@@ -10,6 +10,7 @@ mod fors_tree;
 mod hypertree;
 mod nodes;
 mod place;
+mod ranges;
 mod wots;
 mod xmss;
 
@@ -18,5 +19,6 @@ pub use fors::{fors_pk_from_sig, fors_sign};
 pub use fors_tree::ForsTree;
 pub use hypertree::{ht_sign, ht_verify, layer_place};
 pub use place::{Place, Public, Seeds};
+pub use ranges::{fors_range, xmss_range};
 pub use wots::{chain, wots_pk, wots_pk_from_sig, wots_sign};
 pub use xmss::{XmssTree, xmss_pk_from_sig, xmss_sign};
