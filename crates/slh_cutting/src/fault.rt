@@ -1,0 +1,46 @@
+// Why trees are not cut as asked for.
+ghost use Rattle.std.specs.Prelude.{◌≡◌, codes};
+
+use thiserror::Error;
+
+/// A kind of tree.
+#[derive(Clone, Copy, PartialEq, Eq, Debug)]
+pub enum CutTree {
+    /// The XMSS trees.
+    Xmss,
+    /// The FORS trees.
+    Fors,
+}
+
+/// Why trees are not cut as asked for.
+#[derive(Clone, Copy, PartialEq, Eq, Debug, Error)]
+pub enum CutFault {
+    /// The levels or the points of one kind of tree are out of rule.
+    #[error("the levels or cut points are out of rule")]
+    BadCutting {
+        /// The kind of tree. XMSS is judged first.
+        tree: CutTree,
+        /// The levels that were asked for, or the index of the first point that is out of rule.
+        place: u32,
+    },
+}
+
+impl CutFault {
+    /// The number of the refusal.
+    pub fn number(&self) -> u8
+        ensures { result ≡ 4 }
+    {
+        match self {
+            CutFault::BadCutting { .. } => 4,
+        }
+    }
+
+    /// The name of the refusal.
+    pub fn name(&self) -> &'static str
+        ensures { result.now ≡ codes "BadCutting" }
+    {
+        match self {
+            CutFault::BadCutting { .. } => "BadCutting",
+        }
+    }
+}
