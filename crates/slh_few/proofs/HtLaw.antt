@@ -32,6 +32,16 @@ layer_root p sk pk m t i l at x ea ex =
     rw (add-one l) (ap (λ a. xmss_key p pk a x (xmss_sig p sk pk a x)) ea
     ∙ ap (λ y. xmss_key p pk (layer_place p t i l) y (xmss_sig p sk pk (layer_place p t i l) y)) ex)
 
+-- above layer 0, a layer signs the root of the tree below it
+pub signed_at-root : (s : ParamSet) (sk pk m : List ℕ) (t i l : ℕ) → i < 2 ^ (params s).hp
+    → signed_at (params s) sk pk m t i (suc l) ≡ root (xmss_tree (params s) sk pk l (layer_place (params s) t i l).tree)
+unfolding signed_at
+signed_at-root s sk pk m t i l h =
+    let p = params s in
+    let at = layer_place p t i l in
+    xmss_key-xmss_sig s sk pk at (signed_at p sk pk m t i l) (layer_place-pair p t i l h)
+    ∙ ap (λ j. root (xmss_tree p sk pk j at.tree)) (layer_place-layer p t i l)
+
 -- below layer 0 is the message
 pub root_below-start : (p : Params) (pk m : List ℕ) (t i : ℕ) (sig : List ℕ) → m ≡ root_below p pk m t i sig 0
 unfolding root_below

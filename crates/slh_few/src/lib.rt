@@ -6,6 +6,7 @@
 
 mod base_w;
 mod fors;
+mod fors_parts;
 mod fors_tree;
 mod hypertree;
 mod nodes;
@@ -16,6 +17,7 @@ mod xmss;
 
 pub use base_w::digits;
 pub use fors::{fors_pk_from_sig, fors_sign};
+pub use fors_parts::{MOST_TREES, fors_indices, fors_roots, fors_secret};
 pub use fors_tree::ForsTree;
 pub use hypertree::{ht_sign, ht_verify, layer_place};
 pub use place::{Place, Public, Seeds};
