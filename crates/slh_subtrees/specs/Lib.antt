@@ -1,0 +1,3 @@
+pub mod Joined
+pub mod SigningTrees
+pub mod Answers
