@@ -1,0 +1,6 @@
+pub mod FirstBad
+pub mod Levels
+pub mod Ranges
+pub mod Ends
+pub mod Trees
+pub mod Numbered

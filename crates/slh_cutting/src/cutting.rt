@@ -94,14 +94,33 @@ impl Cutting {
         ensures some { result.lo < result.hi }
         ensures within { result.hi ≤ 2 ^ height_of (params self.now.set) tree }
     {
-        let (points, height) = match tree {
-            JobTree::Xmss(_) => (self.xmss.as_slice(), self.set.hp()),
-            JobTree::Fors(_) => (self.fors.as_slice(), self.set.a()),
-        };
+        let points = self.points(tree);
         JobRange {
             tree,
             lo: range_start(points, r as usize),
-            hi: range_end(points, height, r as usize),
+            hi: range_end(points, self.height(tree), r as usize),
+        }
+    }
+
+    // The points at which the tree is cut.
+    fn points(&self, tree: JobTree) -> &[u32]
+        ensures points { result.now ≡ cut_points_of self.now tree }
+        ensures end_to_end { EndToEnd 0 (2 ^ height_of (params self.now.set) tree) (tree_ranges self.now tree) }
+    {
+        match tree {
+            JobTree::Xmss(_) => self.xmss.as_slice(),
+            JobTree::Fors(_) => self.fors.as_slice(),
+        }
+    }
+
+    // The height of the tree.
+    fn height(&self, tree: JobTree) -> u32
+        ensures value { result ≡ height_of (params self.now.set) tree }
+        ensures low { result ≤ 14 }
+    {
+        match tree {
+            JobTree::Xmss(_) => self.set.hp(),
+            JobTree::Fors(_) => self.set.a(),
         }
     }
 }

@@ -32,13 +32,13 @@ pub fn job(cutting: &Cutting, number: u32) -> JobRange
     ensures within { result.hi ≤ 2 ^ height_of (params cutting.now.set) result.tree }
 {
     let set = cutting.set();
-    let xmss_jobs = times(set.d(), cutting.xmss_ranges());
+    let each = cutting.xmss_ranges();
+    let xmss_jobs = times(set.d(), each);
     if number < xmss_jobs {
-        let each = cutting.xmss_ranges();
         cutting.job_in(JobTree::Xmss((number / each) as u8), number % each)
     } else {
-        let each = cutting.fors_ranges();
         let rest = number - xmss_jobs;
+        let each = cutting.fors_ranges();
         cutting.job_in(JobTree::Fors(rest / each), rest % each)
     }
 }

@@ -1,0 +1,6 @@
+use Rattle.std.proofs.Common.{sym, ◌∙◌}
+use Rattle.slh_cutting.proofs.Numbered.{length-key_generation_jobs}
+use Rattle.slh_cutting.proofs.jobs.keygen_jobs.Goals as goal
+
+pub returns-clause-jobs : goal.returns-clause-jobs
+returns-clause-jobs c = c.xmss_ranges.ensures.count ∙ sym (length-key_generation_jobs c.args.cutting.now)
