@@ -1,18 +1,16 @@
 -- Several workers over one board.
 use Rattle.std.specs.Prelude.{◌≡◌, ◌≢◌, ℕ, ◌+◌, ◌≤◌, List, length, true, false}
 use Rattle.std.specs.List.{All, sum_by}
-use Rattle.slh_board.specs.Seats.{BoardState, SeatState}
+use Rattle.slh_board.specs.Seats.{BoardState, SeatState, new_seat}
 use Rattle.slh_board.specs.Counts.{times}
 use Rattle.slh_board.specs.declared.seat.Mark.TheVariants.{Fresh}
 use Rattle.slh_workers.specs.Answers.{numbers, AllRight}
-use Rattle.slh_workers.specs.Ends.{IsFresh}
 
--- Fresh seats of a board, one for each of the workers numbered from first on
+-- Seats of a board as it gave them, one for each of the workers numbered from first on
 pub record IsReady (board : BoardState) (count first : ℕ) (seats : List SeatState) : Type 0 where
   pub some : 1 ≤ length seats
   pub few : first + length seats ≤ 64
-  pub mine : All (λ s. s.board ≡ board) seats
-  pub fresh : All IsFresh seats
+  pub new : All (λ s. s ≡ new_seat board) seats
   pub jobs : board.jobs ≡ count
 
 -- a seat whose worker has ended, with memory: only a gate that may stop has raised it, and else it is marked

@@ -162,10 +162,10 @@ fn run_seat<A: Allocator, W: Work, G: Gate>(
     ensures { IfOk result (λ r. RanSeats board.now (G.may_stop gate.now) (W.is_right work.now) (W.jobs work.now) 1 r.0.items r.1.items) }
 {
     let WorkerEnd { answers, end } = work_off(alloc, board, &mut seats[0], work, worker, gate);
-    match end {
-        End::Done | End::Stopped | End::GateStop => Ok((seats, answers)),
-        End::NoMemory => Err(NoMemory),
+    if end == End::NoMemory {
+        return Err(NoMemory);
     }
+    Ok((seats, answers))
 }
 
 // Takes the second half of the seats off, with an allocator for the thread that gets them.

@@ -1,4 +1,4 @@
-use Rattle.std.proofs.Common.{◌≡◌, ◌-◌}
+use Rattle.std.proofs.Common.{◌≡◌, ◌-◌, ◌++◌}
 use Rattle.slh_workers.specs.Answers.{AllRight, numbers}
 use Rattle.slh_workers.specs.Ends.{IsFresh, IsAnswered}
 use Rattle.slh_workers.proofs.Draws.{next_above}
