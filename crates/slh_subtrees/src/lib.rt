@@ -8,7 +8,12 @@
 mod hashed_range;
 mod joined_tree;
 mod joining;
+mod joins;
+mod ranges;
 mod signing_trees;
+mod top_tree;
+mod trees_of_ranges;
 
 pub use joined_tree::JoinedTree;
+pub use joins::{join_top_tree, join_trees};
 pub use signing_trees::SigningTrees;
