@@ -26,7 +26,7 @@ pub answered_more : {T : Type 0} (right : ℕ → T → Type 0) (number : ℕ) (
     → after ≡ before ++ numbers xs → later ≡ after ++ number ∷ [] → AddsAnswer right number xs ys → later ≡ before ++ numbers ys
 answered_more right number before after later xs ys was e (out, good, f) =
     e ∙ ap (λ v. v ++ number ∷ []) was ∙ append_assoc before (numbers xs) (number ∷ [])
-        ∙ ap (λ v. before ++ v) (sym (map-append (λ a. a.0) xs ((number, out) ∷ []))) ∙ ap (λ v. before ++ numbers v) (sym f)
+    ∙ ap (λ v. before ++ v) (sym (map-append (λ a. a.0) xs ((number, out) ∷ []))) ∙ ap (λ v. before ++ numbers v) (sym f)
 
 pub right_more : {T : Type 0} (right : ℕ → T → Type 0) (n number : ℕ) (xs ys : List (ℕ × T))
     → AllRight right n xs → number < n → AddsAnswer right number xs ys → AllRight right n ys

@@ -21,9 +21,9 @@ All-back P (x ∷ xs) ys h = All-back P xs ys (All-tail P x (xs ++ ys) h)
 
 -- a worker that has memory leaves its seat marked, or raised by its gate
 pub has_ended : (may_stop : Type 0) (end : End) (seat : SeatState) → end ≢ NoMemory → EndFits may_stop end seat → HasEnded may_stop seat
-has_ended may_stop Done seat memory (mark, calm) = (λ up. absurd (let no : true ≡ false = sym up ∙ calm in cc), λ down same. let no : DoneMark ≡ FreshMark = sym mark ∙ same in cc)
-has_ended may_stop Stopped seat memory (mark, calm) = (λ up. absurd (let no : true ≡ false = sym up ∙ calm in cc), λ down same. let no : StoppedMark ≡ FreshMark = sym mark ∙ same in cc)
-has_ended may_stop GateStop seat memory (mark, up, may) = (λ _. may, λ down. absurd (let no : true ≡ false = sym up ∙ down in cc))
+has_ended may_stop Done seat memory (mark, calm) = (λ up. absurd (let differ : true ≡ false = sym up ∙ calm in cc), λ down same. let differ : DoneMark ≡ FreshMark = sym mark ∙ same in cc)
+has_ended may_stop Stopped seat memory (mark, calm) = (λ up. absurd (let differ : true ≡ false = sym up ∙ calm in cc), λ down same. let differ : StoppedMark ≡ FreshMark = sym mark ∙ same in cc)
+has_ended may_stop GateStop seat memory (mark, up, may) = (λ _. may, λ down. absurd (let differ : true ≡ false = sym up ∙ down in cc))
 has_ended may_stop NoMemory seat memory fits = absurd (memory refl)
 
 -- nothing is lost where nothing may be
@@ -36,8 +36,8 @@ answers_all : (may_stop : Type 0) (end : End) (seat : SeatState) (answered : Lis
     → seat.raised ≡ false → answered ≡ seat.drawn
 answers_all may_stop Done seat answered fits is calm = none_lost 0 seat.drawn answered refl is
 answers_all may_stop Stopped seat answered fits is calm = none_lost 0 seat.drawn answered refl is
-answers_all may_stop GateStop seat answered (mark, up, may) is calm = absurd (let no : true ≡ false = sym up ∙ calm in cc)
-answers_all may_stop NoMemory seat answered (mark, up) is calm = absurd (let no : true ≡ false = sym up ∙ calm in cc)
+answers_all may_stop GateStop seat answered (mark, up, may) is calm = absurd (let differ : true ≡ false = sym up ∙ calm in cc)
+answers_all may_stop NoMemory seat answered (mark, up) is calm = absurd (let differ : true ≡ false = sym up ∙ calm in cc)
 
 -- the only seat's worker has ended
 pub ran_one : {T : Type 0} (board : BoardState) (may_stop : Type 0) (right : ℕ → T → Type 0) (jobs : ℕ) (before : List ℕ) (seats : List SeatState) (end : End) (seat : SeatState)
@@ -94,6 +94,6 @@ ran_both board may_stop right jobs low high count kept others seats xs ys answer
           let front : All (λ (s : SeatState). s.raised ≡ false) kept = All-front (λ (s : SeatState). s.raised ≡ false) kept others calm in
           let back : All (λ (s : SeatState). s.raised ≡ false) others = All-back (λ (s : SeatState). s.raised ≡ false) kept others calm in
           ap (times x) (map-append (λ p. p.0) xs ys) ∙ times-append x (numbers xs) (numbers ys)
-              ∙ ap (λ v. v + times x (numbers ys)) (a.draws front x) ∙ ap (λ v. sum_by (λ (s : SeatState). times x s.drawn) kept + v) (b.draws back x)
-              ∙ sym (sum_by-append (λ (s : SeatState). times x s.drawn) kept others);
+          ∙ ap (λ v. v + times x (numbers ys)) (a.draws front x) ∙ ap (λ v. sum_by (λ (s : SeatState). times x s.drawn) kept + v) (b.draws back x)
+          ∙ sym (sum_by-append (λ (s : SeatState). times x s.drawn) kept others);
     })))

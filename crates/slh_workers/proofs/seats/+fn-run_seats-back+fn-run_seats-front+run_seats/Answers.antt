@@ -13,7 +13,7 @@ join-one-requires-after_bounds g t c κs within =
     = ready_front _ _ _ _ _ _ c.requires c.in-Ok.ensures.halves c.in-Ok.ensures.some.0 in
     let back : IsReady c.args.board.now (g.W.Work.jobs c.args.work.now) (c.args.first + c.len-2.result) c.in-Ok.others.items
     = ready_back c.args.board.now (g.W.Work.jobs c.args.work.now) c.args.first (c.args.first + c.len-2.result) c.args.seats.items c.second_half.new.seats.items
-        c.in-Ok.others.items c.requires c.in-Ok.ensures.halves c.in-Ok.ensures.some.1 (omega (arith, c.len-2.ensures)) in
+    c.in-Ok.others.items c.requires c.in-Ok.ensures.halves c.in-Ok.ensures.some.1 (omega (arith, c.len-2.ensures)) in
     search rules
 
 pub returns : goal.returns
