@@ -32,6 +32,6 @@ levels_good height level low few =
     let some : 0 < 2 ^ level = pow_pos level in
     let all : 2 ^ height ≡ 2 ^ level * size = ap (λ v. 2 ^ v) (let q : height ≡ level + (height - level) = omega arith in q) ∙ pow-add 2 level (height - level) in
     let fits : (0 + 1 + (2 ^ level - 1)) * size ≤ 2 ^ height =
-        omega (arith, all, ap (λ v. v * size) (let e : 0 + 1 + (2 ^ level - 1) ≡ 2 ^ level = omega (arith, some) in e)) in
+    omega (arith, all, ap (λ v. v * size) (let e : 0 + 1 + (2 ^ level - 1) ≡ 2 ^ level = omega (arith, some) in e)) in
     let good = multiples_good size (2 ^ height) 0 (2 ^ level - 1) (pow_pos (height - level)) (omega arith) fits in
     subst (λ v. first_bad (2 ^ height) v 0 (level_points height level) ≡ None) (let z : 0 * size ≡ 0 = omega arith in z) good

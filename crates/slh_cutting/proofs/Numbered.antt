@@ -56,9 +56,9 @@ range-between c tree points r lo hi same ends here e f =
     let short : r < length (cut_points_of c tree) + 1 = omega (arith, length-tree_jobs c tree) in
     let there : r < length (tree_ranges c tree) = omega (arith, length-ranges 0 (cut_points_of c tree) leaves) in
     let lo_is : lo ≡ (get_or (tree_ranges c tree) r (0, 0)).0 =
-        e ∙ ap (λ v. get_or (0 ∷ v) r 0) same ∙ sym (lo-ranges 0 (cut_points_of c tree) leaves r (0, 0) short) in
+    e ∙ ap (λ v. get_or (0 ∷ v) r 0) same ∙ sym (lo-ranges 0 (cut_points_of c tree) leaves r (0, 0) short) in
     let hi_is : hi ≡ (get_or (tree_ranges c tree) r (0, 0)).1 =
-        f ∙ ap (λ v. get_or (v ++ leaves ∷ []) r 0) same ∙ sym (hi-ranges 0 (cut_points_of c tree) leaves r (0, 0) short) in
+    f ∙ ap (λ v. get_or (v ++ leaves ∷ []) r 0) same ∙ sym (hi-ranges 0 (cut_points_of c tree) leaves r (0, 0) short) in
     let fits = end_to_end-at 0 leaves (tree_ranges c tree) r (0, 0) ends there in
     let none : JobRange = record { tree = tree; lo = 0; hi = 0 } in
     record {
@@ -73,7 +73,7 @@ signing_jobs-xmss : (c : CutTrees) (layer r : ℕ) (d : JobRange) → layer < (p
     → get_or (signing_jobs c) (layer * (length c.xmss + 1) + r) d ≡ get_or (tree_jobs c (Xmss layer)) r d
 signing_jobs-xmss c layer r d there here =
     let few : layer * (length c.xmss + 1) + r < length (xmss_part c) =
-        omega (arith, length-xmss_part c, below_pieces (length c.xmss + 1) (params c.set).d layer r there here) in
+    omega (arith, length-xmss_part c, below_pieces (length c.xmss + 1) (params c.set).d layer r there here) in
     get_or_append_left (xmss_part c) (fors_part c) d (layer * (length c.xmss + 1) + r) few
     ∙ at-pieces (λ v. tree_jobs c (Xmss v)) (length c.xmss + 1) 0 (params c.set).d layer r d (λ t. length-tree_jobs c (Xmss t)) there here
     ∙ ap (λ v. get_or (tree_jobs c (Xmss v)) r d) (let q : 0 + layer ≡ layer = omega arith in q)
@@ -129,7 +129,7 @@ job-xmss c n d each x d_is is below at =
     let some : 0 < each = omega (arith, is) in
     let there : n / each < (params c.set).d = omega (arith, piece_below each d n some below, d_is) in
     let number : n ≡ n / each * (length c.xmss + 1) + n % each =
-        (let q : n ≡ n / each * each + n % each = omega arith in q) ∙ ap (λ v. n / each * v + n % each) is in
+    (let q : n ≡ n / each * each + n % each = omega arith in q) ∙ ap (λ v. n / each * v + n % each) is in
     ap (λ v. slice_get (signing_jobs c) v) number ∙ slice_get-tree c (Xmss (n / each)) (n % each) there (remainder-below c (Xmss (n / each)) n each is) ∙ at
 
 -- what is left of the number of a FORS tree's job
@@ -157,7 +157,7 @@ pub job-fors : (c : CutTrees) (n m each : ℕ) (x : JobRange) → IsForsRest c n
 job-fors c n m each x rest is at =
     let some : 0 < each = omega (arith, is) in
     let left : m ≡ m / each * (length c.fors + 1) + m % each =
-        (let q : m ≡ m / each * each + m % each = omega arith in q) ∙ ap (λ v. m / each * v + m % each) is in
+    (let q : m ≡ m / each * each + m % each = omega arith in q) ∙ ap (λ v. m / each * v + m % each) is in
     let number : n ≡ (params c.set).d * (length c.xmss + 1) + m / each * (length c.fors + 1) + m % each = omega (arith, left, rest.after) in
     ap (λ v. slice_get (signing_jobs c) v) number
     ∙ slice_get-tree c (Fors (m / each)) (m % each) (tree-fors c n m each rest is) (remainder-below c (Fors (m / each)) m each is) ∙ at

@@ -18,16 +18,16 @@ returns-then-number-xmss_jobs-clause-job c =
 pub returns-else-number-xmss_jobs-clause-job : goal.returns-else-number-xmss_jobs-clause-job
 returns-else-number-xmss_jobs-clause-job c =
     let rest : IsForsRest c.args.cutting.now c.args.number (c.args.number - c.times-xmss_jobs.result) =
-        fors_rest c.args.cutting.now c.args.number c.d.result c.xmss_ranges-each.result c.times-xmss_jobs.result
-        (c.d.ensures ∙ ap (λ s. (params s).d) c.set-set.ensures) c.xmss_ranges-each.ensures.count c.times-xmss_jobs.ensures.product
-        c.if-number-xmss_jobs.false c.requires in
+    fors_rest c.args.cutting.now c.args.number c.d.result c.xmss_ranges-each.result c.times-xmss_jobs.result
+    (c.d.ensures ∙ ap (λ s. (params s).d) c.set-set.ensures) c.xmss_ranges-each.ensures.count c.times-xmss_jobs.ensures.product
+    c.if-number-xmss_jobs.false c.requires in
     job-fors c.args.cutting.now c.args.number _ c.fors_ranges-each.result c.job_in-else-number-xmss_jobs.result rest c.fors_ranges-each.ensures.count
     c.job_in-else-number-xmss_jobs.ensures.job
 
 pub returns-else-number-xmss_jobs-clause-tree : goal.returns-else-number-xmss_jobs-clause-tree
 returns-else-number-xmss_jobs-clause-tree c =
     let rest : IsForsRest c.args.cutting.now c.args.number (c.args.number - c.times-xmss_jobs.result) =
-        fors_rest c.args.cutting.now c.args.number c.d.result c.xmss_ranges-each.result c.times-xmss_jobs.result
-        (c.d.ensures ∙ ap (λ s. (params s).d) c.set-set.ensures) c.xmss_ranges-each.ensures.count c.times-xmss_jobs.ensures.product
-        c.if-number-xmss_jobs.false c.requires in
+    fors_rest c.args.cutting.now c.args.number c.d.result c.xmss_ranges-each.result c.times-xmss_jobs.result
+    (c.d.ensures ∙ ap (λ s. (params s).d) c.set-set.ensures) c.xmss_ranges-each.ensures.count c.times-xmss_jobs.ensures.product
+    c.if-number-xmss_jobs.false c.requires in
     rw c.job_in-else-number-xmss_jobs.ensures.tree (tree-fors c.args.cutting.now c.args.number _ _ rest c.fors_ranges-each.ensures.count)
