@@ -1,3 +1,5 @@
 pub mod Merging
-pub mod Places
+pub mod Numbering
 pub mod Parts
+pub mod Places
+pub mod TopCovers

@@ -57,5 +57,5 @@ pub fn join_top_tree<R: Threads + Sync, A: Allocator + Clone + Send + Sync, G: G
 {
     let work = TopRanges { seeds, cutting };
     let covers = run_all(rt, alloc, &work, workers, gate)?;
-    Ok(gathered_top(seeds, &covers))
+    Ok(gathered_top(seeds, cutting, &covers))
 }

@@ -1,8 +1,9 @@
 // The XMSS tree of the top layer.
-ghost use Rattle.std.specs.Prelude.{◌≡◌, ◌<◌, ◌≤◌, ◌^◌, Some, length, slice_get};
+ghost use Rattle.std.specs.Prelude.{◌≡◌, ℕ, ◌<◌, ◌≤◌, ◌^◌, Some, length, slice_get, slice_index_or};
 ghost use Rattle.slh_params.specs.ParamSet.{params};
 ghost use Rattle.slh_tree.specs.Tree.{root};
-ghost use Rattle.slh_tree.specs.Cover.{IsCover, AreCovers};
+ghost use Rattle.slh_tree.specs.Cover.{IsCover};
+ghost use Rattle.slh_tree.specs.declared.cover.Cover.{Cover};
 ghost use Rattle.slh_cutting.specs.Jobs.{key_generation_jobs};
 ghost use Rattle.slh_cutting.specs.declared.range.JobRange.{JobRange};
 ghost use Rattle.slh_subtrees.specs.TopTree.{top_tree, IsTopAnswer};
@@ -53,10 +54,14 @@ fn top_range(seeds: &Seeds<'_>, lo: u32, hi: u32) -> Cover
 }
 
 /// The root of the tree, from the covers of its ranges.
-pub(crate) fn gathered_top(seeds: &Seeds<'_>, covers: &[Cover]) -> Node
-    requires { AreCovers (top_tree seeds.now) 0 covers.now }
+pub(crate) fn gathered_top(seeds: &Seeds<'_>, cutting: &Cutting, covers: &[Cover]) -> Node
+    requires set { cutting.now.set ≡ seeds.now.set }
+    requires count { length covers.now ≡ length (key_generation_jobs cutting.now) }
+    requires each { (n : ℕ) (job : JobRange) (c : Cover) → slice_get (key_generation_jobs cutting.now) n ≡ Some job → IsTopAnswer (top_tree seeds.now) job (slice_index_or covers.now n c) }
     ensures { result.items ≡ root (top_tree seeds.now) }
 {
+    // The ranges lie end to end, which its contract says.
+    let _ranges = cutting.xmss_ranges();
     let mut path = PathRec::for_leaf(seeds.set.hp(), 0);
     let top = seeds.set.d() as u8 - 1;
     gather(&XmssTree::new(seeds, top, 0), covers, &mut path)

@@ -1,5 +1,5 @@
 // The trees of a signature from all their ranges.
-ghost use Rattle.std.specs.Prelude.{◌≡◌, ◌+◌, ◌<◌, ◌^◌, length, map, IfOk};
+ghost use Rattle.std.specs.Prelude.{◌≡◌, ◌+◌, ◌<◌, ◌≤◌, ◌^◌, length, map, take, drop, IfOk};
 ghost use Rattle.slh_params.specs.ParamSet.{params};
 ghost use Rattle.slh_cutting.specs.Jobs.{IsTreeOf, height_of, tree_ranges, tree_jobs};
 ghost use Rattle.slh_cutting.specs.Points.{EndToEnd};
@@ -58,6 +58,15 @@ fn range_count(cutting: &Cutting, tree: JobTree) -> u32
     }
 }
 
+/// So many of the list, from place `first` on.
+fn part<X>(all: &[X], first: u32, count: u32) -> &[X]
+    requires { first + count ≤ length all.now }
+    ensures { result.now ≡ take count (drop first all.now) }
+{
+    let start = first as usize;
+    &all[start..start + count as usize]
+}
+
 /// One tree, from the covers and the records of the ranges of all trees.
 fn tree_of_ranges(
     trees: &SigningTrees<'_>,
@@ -71,9 +80,9 @@ fn tree_of_ranges(
     requires answers { AreAnswers trees.now cutting.now covers.now records.now }
     ensures { IsJoined (tree_in trees.now tree) (leaf_in trees.now tree) result }
 {
-    let first = cutting.first_job(tree) as usize;
-    let end = first + range_count(cutting, tree) as usize;
-    trees.joined(tree, &covers[first..end], &records[first..end])
+    let first = cutting.first_job(tree);
+    let count = range_count(cutting, tree);
+    trees.joined(tree, part(covers, first, count), part(records, first, count))
 }
 
 /// All trees, from the covers and the records of all their ranges.
