@@ -1,3 +1,4 @@
+pub mod Apart
 pub mod Merging
 pub mod Numbering
 pub mod Parts
