@@ -2,14 +2,14 @@
 use Rattle.std.proofs.Common.{◌≡◌, ℕ, ◌+◌, ◌^◌, ◌<◌, ◌≤◌, List, [], ◌∷◌, length, get_or, None, refl, arith, suc, zero}
 use Rattle.std.proofs.lemmas.Nat.{pow_pos}
 use Rattle.slh_cutting.specs.Points.{first_bad, ranges, EndToEnd}
-use Rattle.slh_cutting.proofs.FirstBad.{good_head}
+use Rattle.slh_cutting.proofs.FirstBad.{IsGoodHead, good_head}
 
 pub end_to_end-ranges : (first leaves at : ℕ) (ps : List ℕ) → first < leaves → first_bad leaves first at ps ≡ None
     → EndToEnd first leaves (ranges first ps leaves)
 end_to_end-ranges first leaves at [] some good = (refl, some, refl)
 end_to_end-ranges first leaves at (p ∷ ps) some good =
-    let parts = good_head leaves first at p ps good in
-    (refl, parts.0, end_to_end-ranges p leaves (at + 1) ps parts.1 parts.2)
+    let parts : IsGoodHead leaves first at p ps = good_head leaves first at p ps good in
+    (refl, parts.above, end_to_end-ranges p leaves (at + 1) ps parts.below parts.rest)
 
 -- good points cut a tree into ranges that lie end to end
 pub end_to_end-good : (height : ℕ) (ps : List ℕ) → first_bad (2 ^ height) 0 0 ps ≡ None → EndToEnd 0 (2 ^ height) (ranges 0 ps (2 ^ height))

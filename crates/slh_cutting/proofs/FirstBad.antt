@@ -36,10 +36,21 @@ both_true : (a b : Bool) → (a && b) ≡ true → (a ≡ true) × (b ≡ true)
 both_true true b h = (refl, h)
 both_true false b h = absurd cc
 
-pub good_head : (leaves before at p : ℕ) (ps : List ℕ) → first_bad leaves before at (p ∷ ps) ≡ None
-    → (before < p) × (p < leaves) × (first_bad leaves p (at + 1) ps ≡ None)
+-- what is known of a first point that is not bad
+pub record IsGoodHead (leaves before at p : ℕ) (ps : List ℕ) : Type 0 where
+  pub few : at < 255
+  pub above : before < p
+  pub below : p < leaves
+  pub rest : first_bad leaves p (at + 1) ps ≡ None
+
+pub good_head : (leaves before at p : ℕ) (ps : List ℕ) → first_bad leaves before at (p ∷ ps) ≡ None → IsGoodHead leaves before at p ps
 good_head leaves before at p ps good =
     let parts = none_of_test (nat_lt at 255 && (nat_lt before p && nat_lt p leaves)) (first_bad leaves p (at + 1) ps) at good in
     let tests = both_true (nat_lt at 255) (nat_lt before p && nat_lt p leaves) parts.0 in
     let order = both_true (nat_lt before p) (nat_lt p leaves) tests.1 in
-    (ltb-true before p order.0, ltb-true p leaves order.1, parts.1)
+    record {
+      few = ltb-true at 255 tests.0;
+      above = ltb-true before p order.0;
+      below = ltb-true p leaves order.1;
+      rest = parts.1;
+    }

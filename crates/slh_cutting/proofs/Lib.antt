@@ -1,4 +1,6 @@
+pub mod Sets
 pub mod FirstBad
+pub mod Rising
 pub mod Levels
 pub mod Ranges
 pub mod Ends

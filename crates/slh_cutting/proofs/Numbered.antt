@@ -1,8 +1,9 @@
 -- A job by its number.
 use Rattle.std.proofs.Common.{◌≡◌, ℕ, ◌+◌, ◌-◌, ◌*◌, ◌^◌, ◌/◌, ◌%◌, ◌<◌, ◌≤◌, List, [], ◌∷◌, ◌++◌, length, length-append, get_or, Some, sym, ◌∙◌, ap, subst, arith}
 use Rattle.std.specs.List.{flat_map, range_with_len, slice_get}
-use Rattle.std.proofs.lemmas.List.{length-map, get_or-map, get_or_append_left, get_or-append-add}
-use Rattle.std.proofs.lemmas.Option.{slice_get-get_or}
+use Rattle.std.specs.Option.{option_map}
+use Rattle.std.proofs.lemmas.List.{length-map, get_or_append_left, get_or-append-add}
+use Rattle.std.proofs.lemmas.Option.{slice_get-get_or, slice_get-map, slice_get_within}
 use Rattle.slh_params.specs.ParamSet.{params}
 use Rattle.slh_cutting.specs.CutTrees.{CutTrees}
 use Rattle.slh_cutting.specs.Points.{EndToEnd}
@@ -10,6 +11,7 @@ use Rattle.slh_cutting.specs.Jobs.{IsTreeOf, height_of, cut_points_of, tree_rang
 use Rattle.slh_cutting.specs.declared.range.JobTree.{JobTree}
 use Rattle.slh_cutting.specs.declared.range.JobTree.TheVariants.{Xmss, Fors}
 use Rattle.slh_cutting.specs.declared.range.JobRange.{JobRange}
+use Rattle.slh_cutting.proofs.Sets.{d_some}
 use Rattle.slh_cutting.proofs.Ranges.{length-ranges, lo-ranges, hi-ranges}
 use Rattle.slh_cutting.proofs.Trees.{length-pieces, at-pieces, below_pieces, piece_below}
 use Rattle.slh_cutting.proofs.Ends.{end_to_end-at}
@@ -43,6 +45,7 @@ length-signing_jobs c =
 
 -- range r of a tree, as a job
 pub record IsRange (c : CutTrees) (tree : JobTree) (r lo hi : ℕ) : Type 0 where
+  pub leaves : slice_get (tree_ranges c tree) r ≡ Some (lo, hi)
   pub job : slice_get (tree_jobs c tree) r ≡ Some (in_tree tree (lo, hi))
   pub some : lo < hi
   pub within : hi ≤ 2 ^ height_of (params c.set) tree
@@ -60,11 +63,13 @@ range-between c tree points r lo hi same ends here e f =
     let hi_is : hi ≡ (get_or (tree_ranges c tree) r (0, 0)).1 =
     f ∙ ap (λ v. get_or (v ++ leaves ∷ []) r 0) same ∙ sym (hi-ranges 0 (cut_points_of c tree) leaves r (0, 0) short) in
     let fits = end_to_end-at 0 leaves (tree_ranges c tree) r (0, 0) ends there in
-    let none : JobRange = record { tree = tree; lo = 0; hi = 0 } in
+    let pair : (lo, hi) ≡ get_or (tree_ranges c tree) r (0, 0) =
+    ap (λ v. (v, hi)) lo_is ∙ ap (λ v. ((get_or (tree_ranges c tree) r (0, 0)).0, v)) hi_is in
+    let leaves_at : slice_get (tree_ranges c tree) r ≡ Some (lo, hi) =
+    slice_get-get_or (tree_ranges c tree) r (0, 0) there ∙ ap Some (sym pair) in
     record {
-      job = slice_get-get_or (tree_jobs c tree) r none here
-          ∙ ap Some (get_or-map (in_tree tree) (tree_ranges c tree) r (0, 0) none there
-          ∙ sym (ap (λ v. in_tree tree (v, hi)) lo_is ∙ ap (λ v. in_tree tree ((get_or (tree_ranges c tree) r (0, 0)).0, v)) hi_is));
+      leaves = leaves_at;
+      job = slice_get-map (in_tree tree) (tree_ranges c tree) r ∙ ap (λ v. option_map (in_tree tree) v) leaves_at;
       some = omega (arith, lo_is, hi_is, fits.0);
       within = omega (arith, hi_is, fits.1);
     }
@@ -161,3 +166,12 @@ job-fors c n m each x rest is at =
     let number : n ≡ (params c.set).d * (length c.xmss + 1) + m / each * (length c.fors + 1) + m % each = omega (arith, left, rest.after) in
     ap (λ v. slice_get (signing_jobs c) v) number
     ∙ slice_get-tree c (Fors (m / each)) (m % each) (tree-fors c n m each rest is) (remainder-below c (Fors (m / each)) m each is) ∙ at
+
+-- a range of the XMSS tree of layer 0 is the signing job of its number
+pub job-layer_zero : (c : CutTrees) (r lo hi : ℕ) → slice_get (tree_ranges c (Xmss 0)) r ≡ Some (lo, hi)
+    → slice_get (signing_jobs c) r ≡ Some (in_tree (Xmss 0) (lo, hi))
+job-layer_zero c r lo hi at =
+    let within : r < length (tree_ranges c (Xmss 0)) = slice_get_within (tree_ranges c (Xmss 0)) r (lo, hi) at in
+    let here : r < length (tree_jobs c (Xmss 0)) = omega (arith, within, length-map (tree_ranges c (Xmss 0)) (in_tree (Xmss 0))) in
+    ap (λ v. slice_get (signing_jobs c) v) (let e : r ≡ 0 + r = omega arith in e) ∙ slice_get-first c (Xmss 0) 0 r (let e : 0 ≡ 0 * (length c.xmss + 1) = omega arith in e) (d_some c.set) here
+    ∙ slice_get-map (in_tree (Xmss 0)) (tree_ranges c (Xmss 0)) r ∙ ap (λ v. option_map (in_tree (Xmss 0)) v) at

@@ -1,5 +1,6 @@
 -- Where trees are cut, and when they are not.
-use Rattle.std.specs.Prelude.{ℕ, ◌^◌, ◌&&◌, if◌then◌else◌, nat_le, List, Option, Some, None}
+use Rattle.std.specs.Prelude.{ℕ, ◌≤◌, ◌^◌, ◌&&◌, if◌then◌else◌, nat_le, List, [], ◌∷◌, ◌++◌, length, Option, Some, None}
+use Rattle.std.specs.List.Sorted.{IsStrictlyIncreasing}
 use Rattle.std.specs.Option.{option_map, option_or}
 use Rattle.slh_params.specs.Params.{Params}
 use Rattle.slh_cutting.specs.Points.{first_bad, level_points}
@@ -14,6 +15,11 @@ use Rattle.slh_cutting.specs.declared.fault.CutFault.TheVariants.{BadCutting}
 abbrev pub cut_points : ℕ → Cuts → List ℕ
 cut_points height (Levels level) = level_points height level
 cut_points height (Points points) = points.now
+
+-- trees of this height may be cut so: at most 8 levels, or at most 255 points, all of them rising between 0 and the number of leaves
+abbrev pub IsInRule : ℕ → Cuts → Type 0
+IsInRule height (Levels level) = (level ≤ height) × (level ≤ 8)
+IsInRule height (Points points) = IsStrictlyIncreasing (0 ∷ points.now ++ 2 ^ height ∷ []) × (length points.now ≤ 255)
 
 -- what is wrong with the cuts of the trees of one kind, if anything is
 abbrev pub fault_of : CutTree → ℕ → Cuts → Option CutFault

@@ -1,13 +1,14 @@
 // The cut points of one kind of tree.
-ghost use Rattle.std.specs.Prelude.{◌≡◌, ℕ, ◌+◌, ◌<◌, ◌≤◌, ◌^◌, Some, None, MatchResult, IfOk, OnOk, IfErr};
-ghost use Rattle.slh_cutting.specs.Points.{first_bad, level_points};
-ghost use Rattle.slh_cutting.specs.CutFaults.{cut_points, fault_of};
+ghost use Rattle.std.specs.Prelude.{◌≡◌, ℕ, ◌+◌, ◌-◌, ◌*◌, ◌<◌, ◌≤◌, ◌^◌, ◌↔◌, map, Some, None, MatchResult, IsOk, IfOk, OnOk, IfErr};
+ghost use Rattle.std.specs.List.{range_with_len};
+ghost use Rattle.slh_cutting.specs.Points.{first_bad, level_points, ranges};
+ghost use Rattle.slh_cutting.specs.CutFaults.{cut_points, IsInRule, fault_of};
 
 use crate::fault::{CutFault, CutTree};
 use arrayvec::ArrayVec;
 
 /// How the trees of one kind are cut into ranges of leaves.
-#[derive(Clone, Copy)]
+#[derive(Clone, Copy, PartialEq, Eq, Debug)]
 pub enum Cuts<'a> {
     /// Into 2^level ranges of one size. The level is at most the height of the trees, and at most 8.
     Levels(u32),
@@ -15,8 +16,19 @@ pub enum Cuts<'a> {
     Points(&'a [u32]),
 }
 
+/// The law that levels cut a tree into 2^level ranges of one size. It does nothing: the law is its contract.
+pub fn levels_cut_evenly()
+    ensures { (height level : ℕ) → level ≤ height → ranges 0 (level_points height level) (2 ^ height) ≡ map (λ i. (i * 2 ^ (height - level), (i + 1) * 2 ^ (height - level))) (range_with_len 0 (2 ^ level)) }
+{}
+
+/// The most cut points that a tree has.
+const MAX_POINTS: usize = 255;
+
+/// The most levels that a tree is cut by.
+const MAX_LEVEL: u32 = 8;
+
 /// The points at which trees are cut: the first leaf of each range but the first.
-pub(crate) type CutPoints = ArrayVec<u32, 255>;
+pub(crate) type CutPoints = ArrayVec<u32, MAX_POINTS>;
 
 /// How many leaves a tree of this height has.
 pub(crate) fn leaf_count(height: u32) -> u32
@@ -31,12 +43,13 @@ pub(crate) fn points_of(tree: CutTree, height: u32, cuts: Cuts<'_>) -> Result<Cu
     requires { height ≤ 14 }
     ensures points { IfOk result (λ v. v.items ≡ cut_points height cuts.entry) }
     ensures good { IfOk result (λ v. first_bad (2 ^ height) 0 0 v.items ≡ None) }
+    ensures in_rule { IsOk result ↔ IsInRule height cuts.entry }
     ensures accepted { OnOk result (fault_of tree height cuts.entry ≡ None) }
     ensures refused { IfErr result (λ e. fault_of tree height cuts.entry ≡ Some e) }
 {
     match cuts {
         Cuts::Levels(level) => {
-            if level <= height && level <= 8 {
+            if level <= height && level <= MAX_LEVEL {
                 Ok(level_cuts(height, level))
             } else {
                 Err(CutFault::BadCutting { tree, place: level })
@@ -74,7 +87,7 @@ fn kept_points(height: u32, points: &[u32]) -> Result<CutPoints, u32>
     let mut before = 0;
     for point in points {
         let at = kept.len();
-        if at >= 255 || *point <= before || *point >= leaves {
+        if at >= MAX_POINTS || *point <= before || *point >= leaves {
             return Err(at as u32);
         }
         kept.push(*point);

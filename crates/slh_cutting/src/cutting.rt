@@ -1,8 +1,8 @@
 // The cutting of all trees of a parameter set.
-ghost use Rattle.std.specs.Prelude.{◌≡◌, ℕ, ◌+◌, ◌<◌, ◌≤◌, ◌^◌, ◌∷◌, ◌++◌, [], length, Some, None, IfOk, OnOk, IfErr, slice_get, slice_index_or};
+ghost use Rattle.std.specs.Prelude.{◌≡◌, ℕ, ◌+◌, ◌<◌, ◌≤◌, ◌^◌, ◌↔◌, ◌∷◌, ◌++◌, [], length, Some, None, IsOk, IfOk, OnOk, IfErr, slice_get, slice_index_or};
 ghost use Rattle.slh_params.specs.ParamSet.{params};
 ghost use Rattle.slh_cutting.specs.Points.{EndToEnd, ranges};
-ghost use Rattle.slh_cutting.specs.CutFaults.{cut_points, cut_fault};
+ghost use Rattle.slh_cutting.specs.CutFaults.{cut_points, IsInRule, cut_fault};
 ghost use Rattle.slh_cutting.specs.Jobs.{IsTreeOf, height_of, cut_points_of, tree_ranges, tree_jobs, signing_jobs, first_job_of};
 
 use crate::cuts::{CutPoints, Cuts, leaf_count, points_of};
@@ -37,6 +37,7 @@ impl Cutting {
     /// trees, are out of rule.
     pub fn new(set: ParamSet, xmss: Cuts<'_>, fors: Cuts<'_>) -> Result<Cutting, CutFault>
         ensures points { IfOk result (λ c. c ≡ record { set = set; xmss = cut_points (params set).hp xmss.entry; fors = cut_points (params set).a fors.entry }) }
+        ensures in_rule { IsOk result ↔ IsInRule (params set).hp xmss.entry × IsInRule (params set).a fors.entry }
         ensures accepted { OnOk result (cut_fault (params set) xmss.entry fors.entry ≡ None) }
         ensures refused { IfErr result (λ e. cut_fault (params set) xmss.entry fors.entry ≡ Some e) }
     {
@@ -89,8 +90,9 @@ impl Cutting {
     /// The range `r` of the tree as a job.
     pub(crate) fn job_in(&self, tree: JobTree, r: u32) -> JobRange
         requires { r < length (tree_jobs self.now tree) }
-        ensures job { slice_get (tree_jobs self.now tree) r ≡ Some result }
         ensures tree { result.tree ≡ tree }
+        ensures leaves { slice_get (tree_ranges self.now tree) r ≡ Some (result.lo, result.hi) }
+        ensures job { slice_get (tree_jobs self.now tree) r ≡ Some result }
         ensures some { result.lo < result.hi }
         ensures within { result.hi ≤ 2 ^ height_of (params self.now.set) tree }
     {

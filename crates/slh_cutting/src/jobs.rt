@@ -20,7 +20,7 @@ pub fn keygen_jobs(cutting: &Cutting) -> u32
     ensures jobs { result ≡ length (key_generation_jobs cutting.now) }
     ensures ranges { result ≡ length cutting.now.xmss + 1 }
 {
-    cutting.xmss_ranges()
+    times(1, cutting.xmss_ranges())
 }
 
 /// The signing job of this number: first come the ranges of the XMSS trees, from layer 0 on, and then those of the FORS trees.
@@ -49,6 +49,7 @@ pub fn keygen_job(cutting: &Cutting, number: u32) -> JobRange
     requires { number < length (key_generation_jobs cutting.now) }
     ensures job { slice_get (key_generation_jobs cutting.now) number ≡ Some result }
     ensures tree { result.tree ≡ JobTree.Xmss ((params cutting.now.set).d - 1) }
+    ensures leaves { slice_get (signing_jobs cutting.now) number ≡ Some record { tree = JobTree.Xmss 0; lo = result.lo; hi = result.hi } }
     ensures some { result.lo < result.hi }
     ensures within { result.hi ≤ 2 ^ (params cutting.now.set).hp }
 {

@@ -11,7 +11,7 @@ mod fault;
 mod jobs;
 mod range;
 
-pub use cuts::Cuts;
+pub use cuts::{Cuts, levels_cut_evenly};
 pub use cutting::Cutting;
 pub use fault::{CutFault, CutTree};
 pub use jobs::{job, keygen_job, keygen_jobs, sign_jobs};

@@ -15,4 +15,4 @@ returns c =
     let range = range-between c.args.self.now c.args.tree c.points-points.result.now c.args.r c.range_start.result c.range_end.result
     c.points-points.ensures.points c.points-points.ensures.end_to_end c.requires c.range_start.ensures
     (c.range_end.ensures ∙ ap (λ v. get_or (c.points-points.result.now ++ 2 ^ v ∷ []) c.args.r 0) c.height.ensures.value) in
-    record { job = range.job; tree = refl; some = range.some; within = range.within }
+    record { tree = refl; leaves = range.leaves; job = range.job; some = range.some; within = range.within }
