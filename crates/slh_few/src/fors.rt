@@ -15,8 +15,8 @@ use slh_hash::{SeededHash, SeededTreeHash};
 use slh_params::{AdrsType, Node, ParamSet, node_of};
 use slh_tree::{climb, path};
 
-/// The length of a secret and its path.
-fn part_len(set: ParamSet) -> usize
+/// The length of a tree's part of a signature, a secret and its path: (1 + a) * n bytes.
+pub fn fors_part_len(set: ParamSet) -> usize
     ensures value { result ≡ fors_part_len (params set) }
     ensures small { result < 3000 }
 {
@@ -51,7 +51,7 @@ fn put_tree(seeded_tree: &SeededForsTree, i: u32, out: &mut [u8], start: usize)
         (fors_secret p sk pk t.idx_tree t.idx_leaf (t.tree_no * 2 ^ p.a + i)
         ++ path_of (fors_tree p sk pk t.idx_tree t.idx_leaf t.tree_no) i) }
 {
-    let end = start + part_len(seeded_tree.tree.seeds.set);
+    let end = start + fors_part_len(seeded_tree.tree.seeds.set);
     sign_tree(seeded_tree, i, &mut out[start..end]);
 }
 
@@ -72,7 +72,7 @@ pub fn fors_sign(seeds: &Seeds, idx_tree: u64, idx_leaf: u32, md: &[u8], out: &m
         (λ j. root_of (fors_tree p sk pk idx_tree idx_leaf j)) }
 {
     let indices = fors_indices(seeds.set, md);
-    let size = part_len(seeds.set);
+    let size = fors_part_len(seeds.set);
     let seeded = SeededHash::new(seeds.set, seeds.pk_seed);
     let joins = SeededTreeHash::new(seeds.set, seeds.pk_seed);
     for j in 0..seeds.set.k() {
@@ -139,7 +139,7 @@ fn root_at(
         result.items ≡ climb_of (fors_tree p [] pk idx_tree idx_leaf j) i
         (fors_leaf p pk idx_tree idx_leaf (j * 2 ^ p.a + i) (take p.n own)) (drop p.n own) }
 {
-    let size = part_len(public.set);
+    let size = fors_part_len(public.set);
     let start = j as usize * size;
     root_from(
         public,
