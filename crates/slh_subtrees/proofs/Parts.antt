@@ -15,10 +15,9 @@ use Rattle.slh_cutting.specs.Jobs.{height_of, tree_ranges, tree_jobs, signing_jo
 use Rattle.slh_cutting.specs.declared.range.JobTree.{JobTree}
 use Rattle.slh_cutting.specs.declared.range.JobTree.TheVariants.{Xmss, Fors}
 use Rattle.slh_cutting.specs.declared.range.JobRange.{JobRange}
-use Rattle.slh_subtrees.specs.Joined.{IsHashed, AreHashed}
+use Rattle.slh_subtrees.specs.Joined.{AreHashed}
 use Rattle.slh_subtrees.specs.Answers.{tree_in, leaf_in, IsAnswer, AreAnswers}
 use Rattle.slh_subtrees.specs.declared.signing_trees.SigningTrees.{SigningTrees}
-use Rattle.slh_subtrees.proofs.Merging.{no_leaves}
 
 -- the cover of this range
 pub record IsCoverOf (t : MerkleTree) (range : ℕ × ℕ) (c : Cover) : Type 0 where

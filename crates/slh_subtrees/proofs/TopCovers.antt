@@ -1,5 +1,5 @@
 -- The covers of the ranges of the top tree.
-use Rattle.std.proofs.Common.{◌≡◌, ℕ, ◌-◌, ◌^◌, List, Some, length, get_or, sym, ◌∙◌, ap}
+use Rattle.std.proofs.Common.{◌≡◌, ℕ, ◌-◌, ◌^◌, List, Some, length, get_or, ◌∙◌, ap}
 use Rattle.std.specs.List.{slice_get}
 use Rattle.std.proofs.lemmas.List.{length-map}
 use Rattle.slh_params.specs.ParamSet.{params}

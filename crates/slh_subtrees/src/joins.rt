@@ -30,7 +30,9 @@ pub fn join_trees<R: Threads + Sync, A: Allocator + Clone + Send + Sync, G: Gate
     gate: &G,
 ) -> Result<Vec<JoinedTree, A>, RunFault>
     requires set { cutting.now.set ≡ trees.now.seeds.set }
-    ensures joined { IfOk result (λ xs. AreJoined (params trees.now.seeds.set) trees.now.seeds.sk_seed.now trees.now.seeds.pk_seed.now trees.now.idx_tree trees.now.idx_leaf trees.now.md.now xs.items) }
+    ensures joined { let t = trees.now in let p = params t.seeds.set in
+        let sk = t.seeds.sk_seed.now in let pk = t.seeds.pk_seed.now in
+        IfOk result (λ xs. AreJoined p sk pk t.idx_tree t.idx_leaf t.md.now xs.items) }
     ensures stopped { IfErr result (λ fault. fault ≡ Stopped → G.may_stop gate.now) }
 {
     let parts = alloc.clone().map_err(NoMemory::from)?;
@@ -52,7 +54,9 @@ pub fn join_top_tree<R: Threads + Sync, A: Allocator + Clone + Send + Sync, G: G
     gate: &G,
 ) -> Result<Node, RunFault>
     requires set { cutting.now.set ≡ seeds.now.set }
-    ensures root { let p = params seeds.now.set in IfOk result (λ x. x.items ≡ root (xmss_tree p seeds.now.sk_seed.now seeds.now.pk_seed.now (p.d - 1) 0)) }
+    ensures root { let p = params seeds.now.set in let sk = seeds.now.sk_seed.now in
+        let pk = seeds.now.pk_seed.now in
+        IfOk result (λ node. node.items ≡ root (xmss_tree p sk pk (p.d - 1) 0)) }
     ensures stopped { IfErr result (λ fault. fault ≡ Stopped → G.may_stop gate.now) }
 {
     let work = TopRanges { seeds, cutting };

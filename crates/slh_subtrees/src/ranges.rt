@@ -22,7 +22,9 @@ impl<'w, 's> Work for TreeRanges<'w, 's> {
 
     ghost jobs = { λ w. length (signing_jobs w.cutting.now) };
 
-    ghost is_right = { λ w n x. (job : JobRange) → slice_get (signing_jobs w.cutting.now) n ≡ Some job → IsAnswer w.trees.now job x.cover x.path };
+    ghost is_right = { λ w n x. (job : JobRange)
+        → slice_get (signing_jobs w.cutting.now) n ≡ Some job
+        → IsAnswer w.trees.now job x.cover x.path };
 
     fn count(&self) -> u32 {
         sign_jobs(self.cutting)

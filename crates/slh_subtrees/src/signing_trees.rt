@@ -8,15 +8,7 @@ use crate::hashed_range::HashedRange;
 use crate::joined_tree::JoinedTree;
 use crate::joining::joined;
 use slh_cutting::JobTree;
-use slh_few::{
-    ForsTree,
-    Seeds,
-    XmssTree,
-    fors_indices,
-    fors_range,
-    layer_place,
-    xmss_range,
-};
+use slh_few::{ForsTree, Seeds, XmssTree, fors_indices, fors_range, layer_place, xmss_range};
 use slh_tree::{Cover, PathRec};
 
 /// What the trees of one signature are made from: the seeds, the place of the key at layer 0 that signs, and the part of the
@@ -33,7 +25,8 @@ pub struct SigningTrees<'a> {
     pub md: &'a [u8],
     indices: [u32; 64],
     ghost leaf: { idx_leaf < 2 ^ (params seeds.set).hp },
-    ghost asked: { (j : ℕ) → j < (params seeds.set).k → slice_index indices j ≡ fors_index (params seeds.set) md.now j },
+    ghost asked: { (j : ℕ) → j < (params seeds.set).k
+        → slice_index indices j ≡ fors_index (params seeds.set) md.now j },
 }
 
 impl<'a> SigningTrees<'a> {
@@ -67,7 +60,8 @@ impl<'a> SigningTrees<'a> {
         requires within { hi ≤ 2 ^ height_of (params self.now.seeds.set) tree }
         ensures lo { result.cover.lo ≡ lo }
         ensures hi { result.cover.hi ≡ hi }
-        ensures hashed { IsHashed (tree_in self.now tree) (leaf_in self.now tree) result.cover result.path }
+        ensures hashed { let t = self.now in
+            IsHashed (tree_in t tree) (leaf_in t tree) result.cover result.path }
     {
         match tree {
             JobTree::Xmss(layer) => self.hashed_xmss(layer, lo, hi),
@@ -80,7 +74,8 @@ impl<'a> SigningTrees<'a> {
         requires within { hi ≤ 2 ^ (params self.now.seeds.set).hp }
         ensures lo { result.cover.lo ≡ lo }
         ensures hi { result.cover.hi ≡ hi }
-        ensures hashed { IsHashed (tree_in self.now (JobTree.Xmss layer)) (leaf_in self.now (JobTree.Xmss layer)) result.cover result.path }
+        ensures hashed { let tree = JobTree.Xmss layer in
+            IsHashed (tree_in self.now tree) (leaf_in self.now tree) result.cover result.path }
     {
         let at = layer_place(self.seeds.set, self.idx_tree, self.idx_leaf, layer);
         let mut path = PathRec::for_leaf(self.seeds.set.hp(), at.pair);
@@ -94,7 +89,8 @@ impl<'a> SigningTrees<'a> {
         requires within { hi ≤ 2 ^ (params self.now.seeds.set).a }
         ensures lo { result.cover.lo ≡ lo }
         ensures hi { result.cover.hi ≡ hi }
-        ensures hashed { IsHashed (tree_in self.now (JobTree.Fors number)) (leaf_in self.now (JobTree.Fors number)) result.cover result.path }
+        ensures hashed { let tree = JobTree.Fors number in
+            IsHashed (tree_in self.now tree) (leaf_in self.now tree) result.cover result.path }
     {
         let mut path = PathRec::for_leaf(self.seeds.set.a(), self.index(number));
         let cover = fors_range(
@@ -121,7 +117,8 @@ impl<'a> SigningTrees<'a> {
     /// The root of the tree and the path of its leaf, from the covers and the records of all its ranges.
     pub(crate) fn joined(&self, tree: JobTree, covers: &[Cover], records: &[PathRec]) -> JoinedTree
         requires tree { IsTreeOf (params self.now.seeds.set) tree }
-        requires hashed { AreHashed (tree_in self.now tree) (leaf_in self.now tree) covers.now records.now }
+        requires hashed { let t = self.now in
+            AreHashed (tree_in t tree) (leaf_in t tree) covers.now records.now }
         ensures { IsJoined (tree_in self.now tree) (leaf_in self.now tree) result }
     {
         let seeds = &self.seeds;

@@ -27,7 +27,9 @@ impl<'w, 's> Work for TopRanges<'w, 's> {
 
     ghost jobs = { λ w. length (key_generation_jobs w.cutting.now) };
 
-    ghost is_right = { λ w n x. (job : JobRange) → slice_get (key_generation_jobs w.cutting.now) n ≡ Some job → IsTopAnswer (top_tree w.seeds.now) job x };
+    ghost is_right = { λ w n x. (job : JobRange)
+        → slice_get (key_generation_jobs w.cutting.now) n ≡ Some job
+        → IsTopAnswer (top_tree w.seeds.now) job x };
 
     fn count(&self) -> u32 {
         keygen_jobs(self.cutting)
@@ -57,7 +59,9 @@ fn top_range(seeds: &Seeds<'_>, lo: u32, hi: u32) -> Cover
 pub(crate) fn gathered_top(seeds: &Seeds<'_>, cutting: &Cutting, covers: &[Cover]) -> Node
     requires set { cutting.now.set ≡ seeds.now.set }
     requires count { length covers.now ≡ length (key_generation_jobs cutting.now) }
-    requires each { (n : ℕ) (job : JobRange) (c : Cover) → slice_get (key_generation_jobs cutting.now) n ≡ Some job → IsTopAnswer (top_tree seeds.now) job (slice_index_or covers.now n c) }
+    requires each { (n : ℕ) (job : JobRange) (c : Cover)
+        → slice_get (key_generation_jobs cutting.now) n ≡ Some job
+        → IsTopAnswer (top_tree seeds.now) job (slice_index_or covers.now n c) }
     ensures { result.items ≡ root (top_tree seeds.now) }
 {
     // The ranges lie end to end, which its contract says.

@@ -21,7 +21,8 @@ pub(crate) fn apart<A: Allocator + Clone>(
     alloc: A,
     ranges: Vec<HashedRange, A>,
 ) -> Result<(Vec<Cover, A>, Vec<PathRec, A>), NoMemory>
-    ensures { IfOk result (λ v. (v.0.items ≡ map (λ x. x.cover) ranges.items) × (v.1.items ≡ map (λ x. x.path) ranges.items)) }
+    ensures { IfOk result (λ v. (v.0.items ≡ map (λ x. x.cover) ranges.items)
+        × (v.1.items ≡ map (λ x. x.path) ranges.items)) }
 {
     let mut covers = Vec::new(alloc.clone()?);
     let mut records = Vec::new(alloc);
@@ -50,7 +51,8 @@ fn range_count(cutting: &Cutting, tree: JobTree) -> u32
     ensures count { result ≡ length (tree_jobs cutting.now tree) }
     ensures some { 0 < result }
     ensures few { result ≤ 256 }
-    ensures end_to_end { EndToEnd 0 (2 ^ height_of (params cutting.now.set) tree) (tree_ranges cutting.now tree) }
+    ensures end_to_end { let cut = cutting.now in
+        EndToEnd 0 (2 ^ height_of (params cut.set) tree) (tree_ranges cut tree) }
 {
     match tree {
         JobTree::Xmss(_) => cutting.xmss_ranges(),
@@ -82,7 +84,11 @@ fn tree_of_ranges(
 {
     let first = cutting.first_job(tree);
     let count = range_count(cutting, tree);
-    trees.joined(tree, part(covers, first, count), part(records, first, count))
+    trees.joined(
+        tree,
+        part(covers, first, count),
+        part(records, first, count),
+    )
 }
 
 /// All trees, from the covers and the records of all their ranges.
@@ -95,7 +101,9 @@ pub(crate) fn trees_of_ranges<A: Allocator>(
 ) -> Result<Vec<JoinedTree, A>, NoMemory>
     requires set { cutting.now.set ≡ trees.now.seeds.set }
     requires answers { AreAnswers trees.now cutting.now covers.now records.now }
-    ensures { IfOk result (λ xs. AreJoined (params trees.now.seeds.set) trees.now.seeds.sk_seed.now trees.now.seeds.pk_seed.now trees.now.idx_tree trees.now.idx_leaf trees.now.md.now xs.items) }
+    ensures { let t = trees.now in let p = params t.seeds.set in
+        let sk = t.seeds.sk_seed.now in let pk = t.seeds.pk_seed.now in
+        IfOk result (λ xs. AreJoined p sk pk t.idx_tree t.idx_leaf t.md.now xs.items) }
 {
     let set = cutting.set();
     let mut joined = Vec::new(alloc);

@@ -1,6 +1,5 @@
 use Rattle.std.proofs.Common.{◌<◌, length, get_or, arith, sym, subst, ◌∙◌}
 use Rattle.slh_tree.specs.Record.{KnownPath}
-use Rattle.slh_tree.specs.declared.cover.Cover.{Cover}
 use Rattle.slh_subtrees.specs.Joined.{IsHashed}
 use Rattle.slh_subtrees.proofs.Merging.{merged_more, path_of, no_leaves}
 use Rattle.slh_subtrees.proofs.joining.joined.Goals as goal
@@ -33,7 +32,7 @@ loop-record-preserved g c =
     let within : k < length c.args.covers.now = omega (arith, c.loop-record-test.true, c.requires.hashed.count) in
     merged_more t c.args.leaf c.args.covers.now k c.loop-record.path other c.merge.new.self c.loop-record.invariant
     (λ d. let At : KnownPath → Type 0 = λ r. IsHashed t c.args.leaf (get_or c.args.covers.now k d) r in
-        subst At (sym c.record-item.is) (c.requires.hashed.each k d other within))
+    subst At (sym c.record-item.is) (c.requires.hashed.each k d other within))
     c.merge.ensures.height c.merge.ensures.leaf c.merge.ensures.taken
 
 pub returns : goal.returns

@@ -1,4 +1,4 @@
-use Rattle.std.proofs.Common.{◌≡◌, List, length, take, drop, arith, sym, ◌∙◌, subst}
+use Rattle.std.proofs.Common.{List, take, drop, arith, sym, subst}
 use Rattle.slh_tree.specs.Record.{KnownPath}
 use Rattle.slh_tree.specs.declared.cover.Cover.{Cover}
 use Rattle.slh_subtrees.specs.Joined.{AreHashed}
