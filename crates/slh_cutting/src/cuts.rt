@@ -8,7 +8,7 @@ use crate::fault::{CutFault, CutTree};
 use arrayvec::ArrayVec;
 
 /// How the trees of one kind are cut into ranges of leaves.
-#[derive(Clone, Copy)]
+#[derive(Clone, Copy, PartialEq, Eq, Debug)]
 pub enum Cuts<'a> {
     /// Into 2^level ranges of one size. The level is at most the height of the trees, and at most 8.
     Levels(u32),
@@ -21,8 +21,14 @@ pub fn levels_cut_evenly()
     ensures { (height level : ℕ) → level ≤ height → ranges 0 (level_points height level) (2 ^ height) ≡ map (λ i. (i * 2 ^ (height - level), (i + 1) * 2 ^ (height - level))) (range_with_len 0 (2 ^ level)) }
 {}
 
+/// The most cut points that a tree has.
+const MAX_POINTS: usize = 255;
+
+/// The most levels that a tree is cut by.
+const MAX_LEVEL: u32 = 8;
+
 /// The points at which trees are cut: the first leaf of each range but the first.
-pub(crate) type CutPoints = ArrayVec<u32, 255>;
+pub(crate) type CutPoints = ArrayVec<u32, MAX_POINTS>;
 
 /// How many leaves a tree of this height has.
 pub(crate) fn leaf_count(height: u32) -> u32
@@ -43,7 +49,7 @@ pub(crate) fn points_of(tree: CutTree, height: u32, cuts: Cuts<'_>) -> Result<Cu
 {
     match cuts {
         Cuts::Levels(level) => {
-            if level <= height && level <= 8 {
+            if level <= height && level <= MAX_LEVEL {
                 Ok(level_cuts(height, level))
             } else {
                 Err(CutFault::BadCutting { tree, place: level })
@@ -81,7 +87,7 @@ fn kept_points(height: u32, points: &[u32]) -> Result<CutPoints, u32>
     let mut before = 0;
     for point in points {
         let at = kept.len();
-        if at >= 255 || *point <= before || *point >= leaves {
+        if at >= MAX_POINTS || *point <= before || *point >= leaves {
             return Err(at as u32);
         }
         kept.push(*point);

@@ -20,7 +20,7 @@ pub fn keygen_jobs(cutting: &Cutting) -> u32
     ensures jobs { result ≡ length (key_generation_jobs cutting.now) }
     ensures ranges { result ≡ length cutting.now.xmss + 1 }
 {
-    cutting.xmss_ranges()
+    times(1, cutting.xmss_ranges())
 }
 
 /// The signing job of this number: first come the ranges of the XMSS trees, from layer 0 on, and then those of the FORS trees.

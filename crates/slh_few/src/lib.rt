@@ -11,6 +11,7 @@ mod fors_tree;
 mod hypertree;
 mod nodes;
 mod place;
+mod ranges;
 mod wots;
 mod xmss;
 
@@ -20,5 +21,6 @@ pub use fors_parts::{MOST_TREES, fors_indices, fors_roots, fors_secret};
 pub use fors_tree::ForsTree;
 pub use hypertree::{ht_sign, ht_verify, layer_place, xmss_sig_len};
 pub use place::{Place, Public, Seeds};
+pub use ranges::{fors_range, xmss_range};
 pub use wots::{MOST_WOTS_SIG_LEN, chain, wots_pk, wots_pk_from_sig, wots_sig_len, wots_sign};
 pub use xmss::{XmssTree, xmss_pk_from_sig, xmss_sign};
