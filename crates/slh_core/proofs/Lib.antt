@@ -1,3 +1,4 @@
 pub mod Parts
 pub mod Lengths
 pub mod Messages
+pub mod Valid

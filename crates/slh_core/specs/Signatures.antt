@@ -49,6 +49,10 @@ signature sk msg opt_rand =
 abbrev pub signature_by : Key → List ℕ → Randomizer → List ℕ
 signature_by sk msg randomizer = signature sk msg (opt_rand randomizer (pk_seed (public_of sk)))
 
+-- the R of that signature
+abbrev pub r_by : Key → List ℕ → Randomizer → List ℕ
+r_by sk msg randomizer = PRF_msg (params sk.set) (sk_prf sk) (opt_rand randomizer (pk_seed (public_of sk))) msg
+
 -- the length of a FORS signature
 abbrev pub fors_sig_len : Params → ℕ
 fors_sig_len p = p.k * fors_part_len p

@@ -1,14 +1,8 @@
 ghost use Rattle.std.specs.Prelude.{◌≡◌, ◌↔◌, ◌≤◌, [], ◌∷◌, IsSome, IfSome, length};
 
-/// The first byte of M' in the pure form.
-pub(crate) const PURE: u8 = 0;
-
-/// The first byte of M' in the pre-hash form.
-pub(crate) const PRE_HASH: u8 = 1;
-
 /// The first two bytes of M': its form, and the length of the context. `None` for a context of over 255
 /// bytes, which has no M'.
-pub(crate) fn head_of(form: u8, ctx: &[u8]) -> Option<[u8; 2]>
+fn head_of(form: u8, ctx: &[u8]) -> Option<[u8; 2]>
     ensures accepted { IsSome result ↔ (length ctx.now ≤ 255) }
     ensures head { IfSome result (λ head. head ≡ form ∷ length ctx.now ∷ []) }
 {
@@ -16,4 +10,23 @@ pub(crate) fn head_of(form: u8, ctx: &[u8]) -> Option<[u8; 2]>
         return None;
     }
     Some([form, ctx.len() as u8])
+}
+
+/// The first two bytes of M' in the pure form, 0 and the length of the context (FIPS 205, Algorithm 22,
+/// line 8); the context and the message follow them. `None` for a context of over 255 bytes.
+pub fn pure_head(ctx: &[u8]) -> Option<[u8; 2]>
+    ensures accepted { IsSome result ↔ (length ctx.now ≤ 255) }
+    ensures head { IfSome result (λ head. head ≡ 0 ∷ length ctx.now ∷ []) }
+{
+    head_of(0, ctx)
+}
+
+/// The first two bytes of M' in the pre-hash form, 1 and the length of the context (Algorithm 23, line 25);
+/// the context, the function's object identifier and the digest follow them. `None` for a context of over
+/// 255 bytes.
+pub fn pre_hash_head(ctx: &[u8]) -> Option<[u8; 2]>
+    ensures accepted { IsSome result ↔ (length ctx.now ≤ 255) }
+    ensures head { IfSome result (λ head. head ≡ 1 ∷ length ctx.now ∷ []) }
+{
+    head_of(1, ctx)
 }

@@ -6,7 +6,7 @@ ghost use Rattle.slh_core.specs.Cut.{idx_tree, idx_leaf};
 use slh_params::{ParamSet, to_int};
 
 /// The most bytes that a message digest has in any set.
-pub(crate) const MAX_DIGEST_LEN: usize = 49;
+pub const MAX_DIGEST_LEN: usize = 49;
 
 /// The key pair that signs a message digest: a tree of layer 0 and a leaf of it.
 #[derive(Clone, Copy)]

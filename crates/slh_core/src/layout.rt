@@ -5,7 +5,7 @@ ghost use Rattle.slh_core.specs.Signatures.{fors_sig_len};
 use slh_params::ParamSet;
 
 /// The length of the FORS signature in a signature, in bytes.
-pub(crate) fn fors_sig_len(set: ParamSet) -> usize
+pub fn fors_sig_len(set: ParamSet) -> usize
     ensures { result ≡ fors_sig_len (params set) }
 {
     set.k() as usize * ((1 + set.a() as usize) * set.n())

@@ -2,19 +2,23 @@
 //! signing and verifying.
 #![tactic(auto)]
 
-pub use cut::{Cut, cut_digest};
+pub use context::{pre_hash_head, pure_head};
+pub use cut::{Cut, MAX_DIGEST_LEN, cut_digest};
 pub use fault::{KeyFault, KeygenFault, SignFault};
 pub use generation::{check_pair, keygen_internal};
+pub use layout::fors_sig_len;
 pub use message_digest::MessageDigest;
 pub use pre_hash::PreHash;
-pub use pre_hash_form::{hash_sign, hash_sign_digest, hash_verify, hash_verify_digest};
+pub use pre_hash_form::{
+    hash_sign, hash_sign_digest, hash_verify, hash_verify_digest, pre_hash_digest,
+};
 pub use pre_hasher::PreHasher;
 pub use public_key::PublicKey;
 pub use pure_form::{sign, verify};
 pub use random::{FromRng, RandomBytes, SourceFault, keygen};
 pub use randomizer::Randomizer;
 pub use secret_key::SecretKey;
-pub use signing::sign_internal;
+pub use signing::{randomized_digest, sign_internal};
 pub use verifying::verify_internal;
 
 mod context;

@@ -7,7 +7,7 @@ ghost use Rattle.slh_core.specs.PreHash.{PH};
 ghost use Rattle.slh_core.specs.Randomizers.{HasLength};
 ghost use Rattle.slh_core.specs.Signatures.{signature_by, IsValid};
 
-use super::context::{PRE_HASH, head_of};
+use super::context::pre_hash_head;
 use super::fault::SignFault;
 use super::message_digest::MessageDigest;
 use super::pre_hash::PreHash;
@@ -37,7 +37,7 @@ pub fn hash_sign_digest(
     ensures authentic { OnOk result (IsGeneratedKey sk.now
         → IsValid (public_of sk.now) (pre_hash_message ctx.now digest.now.function digest.now.bytes) out.new) }
 {
-    let Some(head) = head_of(PRE_HASH, ctx) else {
+    let Some(head) = pre_hash_head(ctx) else {
         return Err(SignFault::ContextTooLong);
     };
     let oid = digest.function().oid();
@@ -45,8 +45,8 @@ pub fn hash_sign_digest(
     Ok(())
 }
 
-/// The digest of a message.
-fn digest_of(msg: &[u8], function: PreHash) -> MessageDigest
+/// The digest of a message under `function`.
+pub fn pre_hash_digest(msg: &[u8], function: PreHash) -> MessageDigest
     ensures { result ≡ record { function = function; bytes = PH function msg.now } }
 {
     let mut hasher = PreHasher::new(function);
@@ -74,7 +74,7 @@ pub fn hash_sign(
     ensures authentic { OnOk result (IsGeneratedKey sk.now
         → IsValid (public_of sk.now) (pre_hash_message ctx.now function (PH function msg.now)) out.new) }
 {
-    hash_sign_digest(&digest_of(msg, function), ctx, sk, randomizer, out)
+    hash_sign_digest(&pre_hash_digest(msg, function), ctx, sk, randomizer, out)
 }
 
 /// Whether the bytes are a valid signature of a message that has this digest, under a context (FIPS 205,
@@ -83,7 +83,7 @@ pub fn hash_verify_digest(digest: &MessageDigest, ctx: &[u8], sig: &[u8], pk: &P
     ensures { IsTrue result ↔ ((length ctx.now ≤ 255)
         × IsValid pk.now (pre_hash_message ctx.now digest.now.function digest.now.bytes) sig.now) }
 {
-    match head_of(PRE_HASH, ctx) {
+    match pre_hash_head(ctx) {
         Some(head) => {
             let oid = digest.function().oid();
             verify_internal(&[&head, ctx, &oid, digest.bytes()], sig, pk)
@@ -98,5 +98,5 @@ pub fn hash_verify(msg: &[u8], ctx: &[u8], function: PreHash, sig: &[u8], pk: &P
     ensures { IsTrue result ↔ ((length ctx.now ≤ 255)
         × IsValid pk.now (pre_hash_message ctx.now function (PH function msg.now)) sig.now) }
 {
-    hash_verify_digest(&digest_of(msg, function), ctx, sig, pk)
+    hash_verify_digest(&pre_hash_digest(msg, function), ctx, sig, pk)
 }

@@ -6,7 +6,7 @@ ghost use Rattle.slh_core.specs.Messages.{pure_message};
 ghost use Rattle.slh_core.specs.Randomizers.{HasLength};
 ghost use Rattle.slh_core.specs.Signatures.{signature_by, IsValid};
 
-use super::context::{PURE, head_of};
+use super::context::pure_head;
 use super::fault::SignFault;
 use super::public_key::PublicKey;
 use super::randomizer::Randomizer;
@@ -33,7 +33,7 @@ pub fn sign(
     ensures authentic { OnOk result (IsGeneratedKey sk.now
         → IsValid (public_of sk.now) (pure_message ctx.now msg.now) out.new) }
 {
-    let Some(head) = head_of(PURE, ctx) else {
+    let Some(head) = pure_head(ctx) else {
         return Err(SignFault::ContextTooLong);
     };
     sign_internal(&[&head, ctx, msg], sk, randomizer, out);
@@ -46,7 +46,7 @@ pub fn verify(msg: &[u8], ctx: &[u8], sig: &[u8], pk: &PublicKey) -> bool
     ensures { IsTrue result ↔ ((length ctx.now ≤ 255)
         × IsValid pk.now (pure_message ctx.now msg.now) sig.now) }
 {
-    match head_of(PURE, ctx) {
+    match pure_head(ctx) {
         Some(head) => verify_internal(&[&head, ctx, msg], sig, pk),
         None => false,
     }

@@ -1,10 +1,10 @@
-ghost use Rattle.std.specs.Prelude.{◌≡◌, ◌+◌, length, take, drop};
+ghost use Rattle.std.specs.Prelude.{◌≡◌, ◌+◌, length};
 ghost use Rattle.slh_params.specs.Params.{m, sig_len};
 ghost use Rattle.slh_params.specs.ParamSet.{params};
 ghost use Rattle.slh_hash.specs.Keyed.{joined};
-ghost use Rattle.slh_core.specs.Keys.{public_of, pk_root, IsGeneratedKey};
+ghost use Rattle.slh_core.specs.Keys.{public_of, IsGeneratedKey};
 ghost use Rattle.slh_core.specs.Randomizers.{HasLength};
-ghost use Rattle.slh_core.specs.Signatures.{fors_sig_len, signature_of_digest, root_of_parts, signature_by, IsValid};
+ghost use Rattle.slh_core.specs.Signatures.{r_by, digest_of, signature_of_digest, signature_by, IsValid};
 
 use super::cut::{MAX_DIGEST_LEN, cut_digest};
 use super::layout::fors_sig_len;
@@ -12,18 +12,14 @@ use super::randomizer::Randomizer;
 use super::secret_key::SecretKey;
 use slh_few::{Public, Seeds, fors_pk_from_sig, fors_sign, ht_sign};
 use slh_hash::{h_msg, prf_msg};
+use slh_params::Node;
 
 /// Writes what follows R in the signature of a digest (FIPS 205, Algorithm 19, lines 6 to 18).
-#[tactic(auto, unfolding(crate::specs::Signatures::signature_of_digest, crate::specs::Signatures::root_of_parts, crate::specs::Keys::IsGeneratedKey, crate::specs::Keys::top_root))]
+#[tactic(auto, unfolding(crate::specs::Signatures::signature_of_digest))]
 fn sign_digest(sk: &SecretKey, digest: &[u8], out: &mut [u8])
     requires digest { length digest.now ≡ m (params sk.now.set) }
     requires out { length out.old + (params sk.now.set).n ≡ sig_len (params sk.now.set) }
-    ensures value { out.new ≡ signature_of_digest sk.now digest.now }
-    ensures authentic { IsGeneratedKey sk.now
-        → root_of_parts (public_of sk.now) digest.now
-        (take (fors_sig_len (params sk.now.set)) out.new)
-        (drop (fors_sig_len (params sk.now.set)) out.new)
-        ≡ pk_root (public_of sk.now) }
+    ensures { out.new ≡ signature_of_digest sk.now digest.now }
 {
     let set = sk.set();
     let pk_seed = sk.pk_seed();
@@ -46,6 +42,27 @@ fn sign_digest(sk: &SecretKey, digest: &[u8], out: &mut [u8])
     ht_sign(&seeds, cut.idx_tree, cut.idx_leaf, &key, tree);
 }
 
+/// R for the message of the parts put end to end, n bytes; its digest of m bytes under R is written into
+/// `digest` (FIPS 205, Algorithm 19, lines 2 to 5).
+pub fn randomized_digest(
+    parts: &[&[u8]],
+    sk: &SecretKey,
+    randomizer: Randomizer,
+    digest: &mut [u8],
+) -> Node
+    requires randomizer { HasLength randomizer (params sk.now.set).n }
+    requires digest { length digest.old ≡ m (params sk.now.set) }
+    ensures r { result.items ≡ r_by sk.now (joined parts.now) randomizer.entry }
+    ensures len { length result.items ≡ (params sk.now.set).n }
+    ensures digest { digest.new ≡ digest_of (public_of sk.now) result.items (joined parts.now) }
+{
+    let set = sk.set();
+    let opt_rand = randomizer.opt_rand(sk.pk_seed());
+    let r = prf_msg(set, sk.sk_prf(), opt_rand, parts);
+    h_msg(set, r.as_slice(), sk.pk_seed(), sk.pk_root(), parts, digest);
+    r
+}
+
 /// Writes the signature of the parts put end to end, `sig_len` bytes (FIPS 205, Algorithm 19).
 #[tactic(auto, unfolding(crate::specs::Signatures::signature))]
 pub fn sign_internal(parts: &[&[u8]], sk: &SecretKey, randomizer: Randomizer, out: &mut [u8])
@@ -55,11 +72,9 @@ pub fn sign_internal(parts: &[&[u8]], sk: &SecretKey, randomizer: Randomizer, ou
     ensures authentic { IsGeneratedKey sk.now → IsValid (public_of sk.now) (joined parts.now) out.new }
 {
     let set = sk.set();
-    let opt_rand = randomizer.opt_rand(sk.pk_seed());
-    let r = prf_msg(set, sk.sk_prf(), opt_rand, parts);
     let mut buffer = [0; MAX_DIGEST_LEN];
     let digest = &mut buffer[..set.m()];
-    h_msg(set, r.as_slice(), sk.pk_seed(), sk.pk_root(), parts, digest);
+    let r = randomized_digest(parts, sk, randomizer, digest);
     let (front, rest) = out.split_at_mut(set.n());
     front.copy_from_slice(r.as_slice());
     sign_digest(sk, digest, rest);

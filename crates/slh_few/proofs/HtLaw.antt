@@ -1,11 +1,13 @@
 -- The root that a hypertree signature gives is that of the top tree.
-use Rattle.std.proofs.Common.{◌≡◌, ℕ, zero, suc, ◌+◌, ◌-◌, ◌*◌, ◌^◌, ◌<◌, ◌≤◌, List, refl, ap, ◌∙◌, arith, add-one}
+use Rattle.std.proofs.Common.{◌≡◌, ℕ, zero, suc, ◌+◌, ◌-◌, ◌*◌, ◌^◌, ◌<◌, ◌≤◌, List, ◌++◌, refl, ap, sym, ◌∙◌, arith, add-one}
 use Rattle.std.proofs.Math.Nat.{div-eq_of_lt}
 use Rattle.slh_params.specs.Params.{Params, h}
 use Rattle.slh_params.specs.ParamSet.{params}
 use Rattle.slh_params.specs.declared.param_set.ParamSet.{ParamSet}
 use Rattle.slh_tree.specs.Tree.{root}
+use Rattle.slh_tree.specs.Climb.{path}
 use Rattle.slh_few.specs.Parts.{end_to_end, part}
+use Rattle.slh_few.specs.Wots.{wots_sig}
 use Rattle.slh_few.specs.Xmss.{xmss_tree, xmss_sig, xmss_key, xmss_sig_len}
 use Rattle.slh_few.specs.Hypertree.{layer_place, signed_at, layer_sig, ht_sig, root_below, ht_key}
 use Rattle.slh_few.specs.declared.place.Place.{Place}
@@ -31,6 +33,25 @@ unfolding signed_at
 layer_root p sk pk m t i l at x ea ex =
     rw (add-one l) (ap (λ a. xmss_key p pk a x (xmss_sig p sk pk a x)) ea
     ∙ ap (λ y. xmss_key p pk (layer_place p t i l) y (xmss_sig p sk pk (layer_place p t i l) y)) ex)
+
+-- above layer 0, a layer signs the root of the tree below it
+pub signed_at-root : (s : ParamSet) (sk pk m : List ℕ) (t i l : ℕ) → i < 2 ^ (params s).hp
+    → signed_at (params s) sk pk m t i (suc l) ≡ root (xmss_tree (params s) sk pk l (layer_place (params s) t i l).tree)
+unfolding signed_at
+signed_at-root s sk pk m t i l h =
+    let p = params s in
+    let at = layer_place p t i l in
+    xmss_key-xmss_sig s sk pk at (signed_at p sk pk m t i l) (layer_place-pair p t i l h)
+    ∙ ap (λ j. root (xmss_tree p sk pk j at.tree)) (layer_place-layer p t i l)
+
+-- a layer's signature is its WOTS+ signature, then the path of the leaf that signs
+pub layer_sig-parts : (p : Params) (sk pk m : List ℕ) (t i l : ℕ)
+    → wots_sig p sk pk (layer_place p t i l) (signed_at p sk pk m t i l) ++ path (xmss_tree p sk pk l (layer_place p t i l).tree) (layer_place p t i l).pair
+    ≡ layer_sig p sk pk m t i l
+unfolding xmss_sig
+layer_sig-parts p sk pk m t i l =
+    let at = layer_place p t i l in
+    ap (λ j. wots_sig p sk pk at (signed_at p sk pk m t i l) ++ path (xmss_tree p sk pk j at.tree) at.pair) (sym (layer_place-layer p t i l))
 
 -- below layer 0 is the message
 pub root_below-start : (p : Params) (pk m : List ℕ) (t i : ℕ) (sig : List ℕ) → m ≡ root_below p pk m t i sig 0

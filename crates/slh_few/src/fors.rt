@@ -5,32 +5,18 @@ ghost use Rattle.slh_params.specs.ParamSet.{params};
 ghost use Rattle.slh_hash.specs.Seeded.{IsSeeded};
 ghost use Rattle.slh_tree.specs.Tree.{root as root_of};
 ghost use Rattle.slh_tree.specs.Climb.{path as path_of, climb as climb_of};
-ghost use Rattle.slh_few.specs.Fors.{fors_tree, fors_leaf, fors_secret, fors_index, fors_part_len, fors_sig, fors_key, compressed_roots};
+ghost use Rattle.slh_few.specs.Fors.{fors_tree, fors_leaf, fors_secret, fors_part_len, fors_sig, fors_key, compressed_roots};
 ghost use Rattle.slh_few.specs.Parts.{part};
 
+use crate::fors_parts::{fors_indices, fors_roots};
 use crate::fors_tree::{ForsTree, SeededForsTree, fors_adrs, index_in_forest};
 use crate::place::{Public, Seeds};
-use slh_hash::{SeededHash, SeededTreeHash, TStream};
-use slh_params::{AdrsType, Node, ParamSet, base_2b, node_of};
+use slh_hash::{SeededHash, SeededTreeHash};
+use slh_params::{AdrsType, Node, ParamSet, node_of};
 use slh_tree::{climb, path};
 
-/// The most FORS trees of any set.
-const MOST_TREES: usize = 64;
-
-/// The leaf of each tree that a digest asks for, with zeros after them.
-fn indices_of(set: ParamSet, md: &[u8]) -> [u32; MOST_TREES]
-    requires { length md.now ≡ md_len (params set) }
-    ensures { (j : ℕ) → j < (params set).k → slice_index result j
-        ≡ fors_index (params set) md.now j }
-{
-    let mut indices = [0; MOST_TREES];
-    let count = set.k() as usize;
-    base_2b(md, set.a(), &mut indices[..count]);
-    indices
-}
-
-/// The length of a secret and its path.
-fn part_len(set: ParamSet) -> usize
+/// The length of a tree's part of a signature, a secret and its path: (1 + a) * n bytes.
+pub fn fors_part_len(set: ParamSet) -> usize
     ensures value { result ≡ fors_part_len (params set) }
     ensures small { result < 3000 }
 {
@@ -65,7 +51,7 @@ fn put_tree(seeded_tree: &SeededForsTree, i: u32, out: &mut [u8], start: usize)
         (fors_secret p sk pk t.idx_tree t.idx_leaf (t.tree_no * 2 ^ p.a + i)
         ++ path_of (fors_tree p sk pk t.idx_tree t.idx_leaf t.tree_no) i) }
 {
-    let end = start + part_len(seeded_tree.tree.seeds.set);
+    let end = start + fors_part_len(seeded_tree.tree.seeds.set);
     sign_tree(seeded_tree, i, &mut out[start..end]);
 }
 
@@ -85,8 +71,8 @@ pub fn fors_sign(seeds: &Seeds, idx_tree: u64, idx_leaf: u32, md: &[u8], out: &m
         ≡ compressed_roots p pk idx_tree idx_leaf
         (λ j. root_of (fors_tree p sk pk idx_tree idx_leaf j)) }
 {
-    let indices = indices_of(seeds.set, md);
-    let size = part_len(seeds.set);
+    let indices = fors_indices(seeds.set, md);
+    let size = fors_part_len(seeds.set);
     let seeded = SeededHash::new(seeds.set, seeds.pk_seed);
     let joins = SeededTreeHash::new(seeds.set, seeds.pk_seed);
     for j in 0..seeds.set.k() {
@@ -153,7 +139,7 @@ fn root_at(
         result.items ≡ climb_of (fors_tree p [] pk idx_tree idx_leaf j) i
         (fors_leaf p pk idx_tree idx_leaf (j * 2 ^ p.a + i) (take p.n own)) (drop p.n own) }
 {
-    let size = part_len(public.set);
+    let size = fors_part_len(public.set);
     let start = j as usize * size;
     root_from(
         public,
@@ -182,10 +168,9 @@ pub fn fors_pk_from_sig(
         result.items ≡ fors_key p pk idx_tree idx_leaf md.now sig.now }
     ensures len { length result.items ≡ (params public.now.set).n }
 {
-    let indices = indices_of(public.set, md);
+    let indices = fors_indices(public.set, md);
     let seeded = SeededHash::new(public.set, public.pk_seed);
-    let adrs = fors_adrs(idx_tree, idx_leaf, AdrsType::ForsRoots, 0, 0);
-    let mut roots = TStream::new(public.set, public.pk_seed, &adrs);
+    let mut roots = fors_roots(public, idx_tree, idx_leaf);
     for j in 0..public.set.k() {
         let i = indices[j as usize];
         let root = root_at(public, &seeded, idx_tree, idx_leaf, j, i, sig);

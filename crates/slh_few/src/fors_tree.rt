@@ -67,7 +67,8 @@ impl<'a> ForsTree<'a> {
         Self::at(seeds, idx_tree, idx_leaf, tree_no)
     }
 
-    fn at(seeds: &Seeds<'a>, idx_tree: u64, idx_leaf: u32, tree_no: u32) -> Self
+    /// The same, by its fields.
+    pub(crate) fn at(seeds: &Seeds<'a>, idx_tree: u64, idx_leaf: u32, tree_no: u32) -> Self
         requires { tree_no < (params seeds.now.set).k }
         ensures seeds { result.seeds ≡ seeds.now }
         ensures idx_tree { result.idx_tree ≡ idx_tree }

@@ -43,8 +43,8 @@ pub fn layer_place(set: ParamSet, idx_tree: u64, idx_leaf: u32, layer: u8) -> Pl
     at
 }
 
-/// The length of the signature of one layer.
-fn layer_len(set: ParamSet) -> usize
+/// The length of the signature of one layer: (len + h') * n bytes.
+pub fn xmss_sig_len(set: ParamSet) -> usize
     ensures value { result ≡ xmss_sig_len (params set) }
     ensures small { result < 3000 }
 {
@@ -61,7 +61,7 @@ fn put_layer(seeds: &Seeds, at: Place, msg: &Node, out: &mut [u8], start: usize)
         take (start + xmss_sig_len p) out.new ≡ take start out.old
         ++ xmss_sig p sk pk at msg.now.items }
 {
-    let end = start + layer_len(seeds.set);
+    let end = start + xmss_sig_len(seeds.set);
     xmss_sign(seeds, at, msg, &mut out[start..end]);
 }
 
@@ -79,7 +79,7 @@ fn sign_layer(seeds: &Seeds, at: Place, msg: &Node, out: &mut [u8], start: usize
         result.items ≡ xmss_key p pk at msg.now.items (xmss_sig p sk pk at msg.now.items) }
     ensures len { length result.items ≡ (params seeds.now.set).n }
 {
-    let end = start + layer_len(seeds.set);
+    let end = start + xmss_sig_len(seeds.set);
     let public = Public {
         set: seeds.set,
         pk_seed: seeds.pk_seed,
@@ -105,7 +105,7 @@ pub fn ht_sign(seeds: &Seeds, idx_tree: u64, idx_leaf: u32, msg: &Node, out: &mu
         ht_key p pk msg.now.items idx_tree idx_leaf out.new
         ≡ root_of (xmss_tree p sk pk (p.d - 1) 0) }
 {
-    let size = layer_len(seeds.set);
+    let size = xmss_sig_len(seeds.set);
     let top = seeds.set.d() as u8 - 1;
     let mut at = Place {
         layer: 0,
@@ -132,7 +132,7 @@ fn root_from(public: &Public, at: Place, msg: &Node, sig: &[u8], layer: usize) -
         result.items ≡ xmss_key p pk at msg.now.items (part (xmss_sig_len p) sig.now layer) }
     ensures len { length result.items ≡ (params public.now.set).n }
 {
-    let size = layer_len(public.set);
+    let size = xmss_sig_len(public.set);
     let start = layer * size;
     xmss_pk_from_sig(public, at, msg, &sig[start..start + size])
 }

@@ -1,10 +1,11 @@
--- F, PRF and T give n bytes.
-use Rattle.std.proofs.Common.{◌≡◌, ◌==◌, if◌then◌else◌, ℕ, ◌≤◌, true, false, List, length, arith}
+-- F, PRF, T and PRF_msg give n bytes.
+use Rattle.std.proofs.Common.{◌≡◌, ◌==◌, if◌then◌else◌, ℕ, ◌≤◌, true, false, List, ◌++◌, length, arith}
 use Rattle.std.proofs.lemmas.List.{length-take-le}
 use Rattle.slh_params.specs.Address.{Address}
 use Rattle.slh_params.specs.Params.{Params}
 use Rattle.slh_hash.specs.HashFunctions.{HashFunction, IsSized, SHA_256, SHA_512, category_function, sized_256, sized_512}
 use Rattle.slh_hash.specs.Hash.{F, PRF, T, tweaked, tweaked_hash}
+use Rattle.slh_hash.specs.Keyed.{hmac, key_block, xor_each, PRF_msg}
 
 pub sized_category : (p : Params) → IsSized (category_function p)
 sized_category p = elim (p.n == 16) as (λ b. IsSized (if b then SHA_256 else SHA_512)) [ true ↦ sized_256 | false ↦ sized_512 ]
@@ -23,3 +24,14 @@ length-PRF p pk sk a h = length-tweaked_hash SHA_256 sized_256 p pk a sk h
 pub length-T : (p : Params) (pk : List ℕ) (a : Address) (x : List ℕ) → p.n ≤ 32 → length (T p pk a x) ≡ p.n
 unfolding T
 length-T p pk a x h = length-tweaked_hash (category_function p) (sized_category p) p pk a x h
+
+length-hmac : (f : HashFunction) → IsSized f → (key text : List ℕ) → length (hmac f key text) ≡ f.size
+unfolding hmac
+length-hmac f h key text = h.digests (xor_each 0x5c (key_block f key) ++ f.hash (xor_each 0x36 (key_block f key) ++ text))
+
+pub length-PRF_msg : (p : Params) (sk_prf opt_rand msg : List ℕ) → p.n ≤ 32 → length (PRF_msg p sk_prf opt_rand msg) ≡ p.n
+unfolding PRF_msg
+length-PRF_msg p sk_prf opt_rand msg h =
+    let f : HashFunction = category_function p in
+    let sized : IsSized f = sized_category p in
+    length-take-le p.n _ (omega (arith, h, length-hmac f sized sk_prf (opt_rand ++ msg), sized.low))

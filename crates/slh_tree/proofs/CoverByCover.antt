@@ -100,7 +100,7 @@ module _ (t : MerkleTree) (cs : List Cover) (all : AreCovers t 0 cs) (k : ℕ) (
       now.noted j below (omega (arith, gathered_all le)) off
 
 -- a node lies in a range or not
-lies_in_or_not : (lo hi i j : ℕ) → LiesInRange lo hi i j ⊎ (LiesInRange lo hi i j → ⊥)
+pub lies_in_or_not : (lo hi i j : ℕ) → LiesInRange lo hi i j ⊎ (LiesInRange lo hi i j → ⊥)
 lies_in_or_not lo hi i j =
     elim (cases_lt (first_leaf j (sibling_index i j)) lo) [
       | inl before ↦ inr (λ lies. omega (arith, lies.from))

@@ -15,7 +15,7 @@ root_at-root-requires-clause-leaf c =
     let p = params c.args.public.now.set in
     let At : ℕ → Type 0 = λ i. i < 2 ^ p.a in
     let b : c.loop-j.j < p.k = omega (arith, c.k-j-end.ensures) in
-    subst At (sym (c.indices_of-indices.ensures c.loop-j.j b)) (index_lt p c.args.md.now c.loop-j.j)
+    subst At (sym (c.fors_indices-indices.ensures c.loop-j.j b)) (index_lt p c.args.md.now c.loop-j.j)
 
 pub root_at-root-requires-clause-sig : goal.root_at-root-requires-clause-sig
 root_at-root-requires-clause-sig c =
@@ -26,8 +26,8 @@ root_at-root-requires-clause-sig c =
 pub loop-j-init : goal.loop-j-init
 loop-j-init c =
     let p = params c.args.public.now.set in
-    rw (end_to_end-none (λ j. fors_root p c.args.public.now.pk_seed.now c.args.idx_tree c.args.idx_leaf c.args.md.now j (part (fors_part_len p) c.args.sig.now j)), sym c.fors_adrs-adrs.ensures)
-    c.new-roots.ensures
+    rw (end_to_end-none (λ j. fors_root p c.args.public.now.pk_seed.now c.args.idx_tree c.args.idx_leaf c.args.md.now j (part (fors_part_len p) c.args.sig.now j)))
+    c.fors_roots-roots.ensures
 
 pub loop-j-preserved : goal.loop-j-preserved
 loop-j-preserved c =
@@ -37,7 +37,7 @@ loop-j-preserved c =
     let j = c.loop-j.j in
     let b : c.loop-j.j < p.k = omega (arith, c.k-j-end.ensures) in
     let x : c.root_at-root.result.items ≡ fors_root p pk c.args.idx_tree c.args.idx_leaf md j (part (fors_part_len p) c.args.sig.now j) =
-    rw (c.indices_of-indices.ensures c.loop-j.j b) at c.root_at-root.ensures in
+    rw (c.fors_indices-indices.ensures c.loop-j.j b) at c.root_at-root.ensures in
     rw (end_to_end-more (λ j. fors_root p pk c.args.idx_tree c.args.idx_leaf md j (part (fors_part_len p) c.args.sig.now j)) c.loop-j.j, sym x)
     (c.absorb.ensures _ _ _ _ c.loop-j.invariant)
 

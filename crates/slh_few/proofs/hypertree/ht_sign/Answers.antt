@@ -27,7 +27,7 @@ sign_layer-root-requires-clause-out c =
     let p = params c.args.seeds.now.set in
     let b : c.loop-layer.layer < p.d = omega (arith, c.d.ensures) in
     let q : length c.loop-layer.out ≡ p.d * xmss_sig_len p = omega (arith, c.requires.out) in
-    rw c.layer_len-size.ensures.value (part_fits c.loop-layer.layer p.d (xmss_sig_len p) (length c.loop-layer.out) b q)
+    rw c.xmss_sig_len-size.ensures.value (part_fits c.loop-layer.layer p.d (xmss_sig_len p) (length c.loop-layer.out) b q)
 
 pub loop-layer-preserved : goal.loop-layer-preserved
 loop-layer-preserved c =
@@ -49,7 +49,7 @@ loop-layer-preserved c =
       done = writes-more (layer_sig p sk pk m t i) l (xmss_sig_len p) c.loop-layer.out c.sign_layer-root.new.out (xmss_sig p sk pk at x)
           (layer_made p sk pk m t i l at x c.loop-layer.invariant.place c.loop-layer.invariant.root)
           (length-xmss_sig s sk pk at x) c.loop-layer.invariant.done
-          (ap (λ k. take (l * xmss_sig_len p + k) c.sign_layer-root.new.out) (length-xmss_sig s sk pk at x) ∙ rw c.layer_len-size.ensures.value at c.sign_layer-root.ensures.written);
+          (ap (λ k. take (l * xmss_sig_len p + k) c.sign_layer-root.new.out) (length-xmss_sig s sk pk at x) ∙ rw c.xmss_sig_len-size.ensures.value at c.sign_layer-root.ensures.written);
     }
 
 pub put_layer-requires-clause-out : goal.put_layer-requires-clause-out
@@ -59,7 +59,7 @@ put_layer-requires-clause-out c =
     let e : c.d.result - 1 ≡ c.loop-layer.layer = omega arith in
     let b : c.loop-layer.layer < p.d = omega (arith, c.d.ensures, top_layer s, e) in
     let q : length c.loop-layer.out ≡ p.d * xmss_sig_len p = omega (arith, c.requires.out) in
-    rw (e, c.layer_len-size.ensures.value) (part_fits c.loop-layer.layer p.d (xmss_sig_len p) (length c.loop-layer.out) b q)
+    rw (e, c.xmss_sig_len-size.ensures.value) (part_fits c.loop-layer.layer p.d (xmss_sig_len p) (length c.loop-layer.out) b q)
 
 pub returns-clause-signature : goal.returns-clause-signature
 unfolding ht_sig
@@ -77,7 +77,7 @@ returns-clause-signature c =
     let e : c.d.result - 1 ≡ l = omega arith in
     let all : l + 1 ≡ p.d = omega (arith, c.d.ensures, top_layer s, e) in
     let written : take (l * xmss_sig_len p + xmss_sig_len p) c.put_layer.new.out ≡ take (l * xmss_sig_len p) c.loop-layer.out ++ xmss_sig p sk pk at x =
-    rw (e, c.layer_len-size.ensures.value) at c.put_layer.ensures in
+    rw (e, c.xmss_sig_len-size.ensures.value) at c.put_layer.ensures in
     let done : take ((l + 1) * xmss_sig_len p) c.put_layer.new.out ≡ end_to_end (layer_sig p sk pk m t i) (l + 1) =
     writes-more (layer_sig p sk pk m t i) l (xmss_sig_len p) c.loop-layer.out c.put_layer.new.out (xmss_sig p sk pk at x)
     (layer_made p sk pk m t i l at x c.loop-layer.invariant.place c.loop-layer.invariant.root)

@@ -1,0 +1,74 @@
+//! The covers of ranges of leaves of the two kinds of trees, for a tree that several calls share.
+ghost use Rattle.std.specs.Prelude.{◌≡◌, ℕ, ◌^◌, ◌≤◌, ◌<◌, Some};
+ghost use Rattle.slh_params.specs.ParamSet.{params};
+ghost use Rattle.slh_tree.specs.Cover.{IsCover};
+ghost use Rattle.slh_tree.specs.Record.{known, LiesInRange};
+ghost use Rattle.slh_tree.specs.Tree.{sibling};
+ghost use Rattle.slh_few.specs.Xmss.{xmss_tree};
+ghost use Rattle.slh_few.specs.Fors.{fors_tree};
+
+use crate::fors_tree::SeededForsTree;
+use crate::place::Seeds;
+use crate::xmss::XmssTree;
+use slh_hash::{SeededHash, SeededTreeHash};
+use slh_tree::{Cover, PathRec, hash_range};
+
+/// The cover of the leaves from `lo` to `hi`, `hi` left out, of tree `tree` of layer `layer`. The record, of a leaf of
+/// that tree, gains exactly those nodes of its path whose leaves all lie in the range.
+#[tactic(auto, unfolding(crate::specs::Trees::xmss_tree_of))]
+pub fn xmss_range(seeds: &Seeds, layer: u8, tree: u64, lo: u32, hi: u32, rec: &mut PathRec) -> Cover
+    requires order { lo < hi }
+    requires within { hi ≤ 2 ^ (params seeds.now.set).hp }
+    requires same_height { rec.old.height ≡ (params seeds.now.set).hp }
+    ensures cover { let p = params seeds.now.set in let sk = seeds.now.sk_seed.now in
+        let pk = seeds.now.pk_seed.now in
+        IsCover (xmss_tree p sk pk layer tree) lo hi result.nodes.items }
+    ensures lo { result.lo ≡ lo }
+    ensures hi { result.hi ≡ hi }
+    ensures height { rec.new.height ≡ rec.old.height }
+    ensures leaf { rec.new.leaf ≡ rec.old.leaf }
+    ensures noted { let p = params seeds.now.set in let sk = seeds.now.sk_seed.now in
+        let pk = seeds.now.pk_seed.now in
+        (j : ℕ) → j < p.hp → LiesInRange lo hi rec.old.leaf j
+        → known rec.new j ≡ Some (sibling (xmss_tree p sk pk layer tree) rec.old.leaf j) }
+    ensures kept { (j : ℕ) → (LiesInRange lo hi rec.old.leaf j → ⊥)
+        → known rec.new j ≡ known rec.old j }
+{
+    hash_range(&XmssTree::new(seeds, layer, tree), lo, hi, rec)
+}
+
+/// The same of FORS tree `tree_no` of the key at leaf `idx_leaf` of tree `idx_tree`. The hash states are made once.
+#[tactic(auto, unfolding(crate::specs::Trees::fors_tree_of))]
+pub fn fors_range(
+    seeds: &Seeds,
+    idx_tree: u64,
+    idx_leaf: u32,
+    tree_no: u32,
+    lo: u32,
+    hi: u32,
+    rec: &mut PathRec,
+) -> Cover
+    requires tree { tree_no < (params seeds.now.set).k }
+    requires order { lo < hi }
+    requires within { hi ≤ 2 ^ (params seeds.now.set).a }
+    requires same_height { rec.old.height ≡ (params seeds.now.set).a }
+    ensures cover { let p = params seeds.now.set in let sk = seeds.now.sk_seed.now in
+        let pk = seeds.now.pk_seed.now in
+        IsCover (fors_tree p sk pk idx_tree idx_leaf tree_no) lo hi result.nodes.items }
+    ensures lo { result.lo ≡ lo }
+    ensures hi { result.hi ≡ hi }
+    ensures height { rec.new.height ≡ rec.old.height }
+    ensures leaf { rec.new.leaf ≡ rec.old.leaf }
+    ensures noted { let p = params seeds.now.set in let sk = seeds.now.sk_seed.now in
+        let pk = seeds.now.pk_seed.now in
+        (j : ℕ) → j < p.a → LiesInRange lo hi rec.old.leaf j
+        → known rec.new j
+        ≡ Some (sibling (fors_tree p sk pk idx_tree idx_leaf tree_no) rec.old.leaf j) }
+    ensures kept { (j : ℕ) → (LiesInRange lo hi rec.old.leaf j → ⊥)
+        → known rec.new j ≡ known rec.old j }
+{
+    let seeded = SeededHash::new(seeds.set, seeds.pk_seed);
+    let joins = SeededTreeHash::new(seeds.set, seeds.pk_seed);
+    let tree = SeededForsTree::new(&seeded, &joins, seeds, idx_tree, idx_leaf, tree_no);
+    hash_range(&tree, lo, hi, rec)
+}

@@ -1,0 +1,6 @@
+pub mod Apart
+pub mod Merging
+pub mod Numbering
+pub mod Parts
+pub mod Places
+pub mod TopCovers

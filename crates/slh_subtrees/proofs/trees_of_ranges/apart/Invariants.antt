@@ -1,0 +1,13 @@
+use Rattle.std.proofs.Common.{◌≡◌, ◌++◌, map}
+use Rattle.std.specs.Vec.Iter.{into_iter_items}
+use Rattle.slh_subtrees.proofs.trees_of_ranges.apart.Given as goal
+
+abbrev pub invariant-loop-range : goal.invariant-loop-range
+invariant-loop-range g l =
+    record {
+      can : (goal.iterator-loop-range g).can_next l.range-iterator;
+      ends : (goal.iterator-loop-range g).is_finite l.range-iterator;
+      seen : l.yielded ++ into_iter_items l.range-iterator ≡ l.fn.ranges.items;
+      covers : l.covers.items ≡ map (λ x. x.cover) l.yielded;
+      records : l.records.items ≡ map (λ x. x.path) l.yielded;
+    }

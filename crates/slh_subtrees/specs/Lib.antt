@@ -1,0 +1,4 @@
+pub mod Joined
+pub mod SigningTrees
+pub mod Answers
+pub mod TopTree

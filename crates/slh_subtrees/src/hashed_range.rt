@@ -1,0 +1,10 @@
+// What is made of a range of leaves.
+
+use slh_tree::{Cover, PathRec};
+
+/// The cover of a range of a tree's leaves, and those nodes of the signing leaf's path whose leaves lie in the range.
+#[derive(Drop)]
+pub(crate) struct HashedRange {
+    pub(crate) cover: Cover,
+    pub(crate) path: PathRec,
+}

@@ -1,0 +1,26 @@
+// One tree from its ranges.
+ghost use Rattle.std.specs.Prelude.{◌^◌, ◌<◌};
+ghost use Rattle.slh_subtrees.specs.Joined.{AreHashed, IsJoined};
+
+use crate::joined_tree::JoinedTree;
+use slh_tree::{Cover, PathRec, Tree, gather};
+
+/// The root of the tree and the path of `leaf`, from covers that, put end to end, span the tree, and for each cover the record
+/// of those nodes of the path whose leaves lie in its range.
+pub(crate) fn joined<T: Tree>(
+    tree: &T,
+    leaf: u32,
+    covers: &[Cover],
+    records: &[PathRec],
+) -> JoinedTree
+    requires leaf { leaf < 2 ^ (T.tree tree.now).height }
+    requires hashed { AreHashed (T.tree tree.now) leaf covers.now records.now }
+    ensures { IsJoined (T.tree tree.now) leaf result }
+{
+    let mut path = PathRec::for_leaf(tree.height(), leaf);
+    for record in records {
+        path.merge(record);
+    }
+    let root = gather(tree, covers, &mut path);
+    JoinedTree { root, path }
+}

@@ -1,0 +1,65 @@
+// The trees of a signature, and the tree of a key, by several threads.
+ghost use Rattle.std.specs.Prelude.{◌≡◌, ◌-◌, IfOk, IfErr};
+ghost use Rattle.slh_params.specs.ParamSet.{params};
+ghost use Rattle.slh_tree.specs.Tree.{root};
+ghost use Rattle.slh_few.specs.Xmss.{xmss_tree};
+ghost use Rattle.slh_workers.specs.declared.fault.RunFault.TheVariants.{Stopped};
+ghost use Rattle.slh_subtrees.specs.SigningTrees.{AreJoined};
+
+use crate::joined_tree::JoinedTree;
+use crate::ranges::TreeRanges;
+use crate::signing_trees::SigningTrees;
+use crate::top_tree::{TopRanges, gathered_top};
+use crate::trees_of_ranges::{apart, trees_of_ranges};
+use slh_cutting::Cutting;
+use slh_few::Seeds;
+use slh_params::Node;
+use slh_workers::{Gate, NoMemory, RunFault, Workers, run_all};
+use std::alloc::Allocator;
+use std::thread::Threads;
+
+/// The roots and the paths of the d + k trees of a signature, the XMSS trees from layer 0 on and then the FORS trees, by workers
+/// that share the ranges of their leaves. Refuses `NoMemory` where a growth was refused, and else `Stopped` where the gate stopped
+/// the run. Waits only for the threads that it started.
+pub fn join_trees<R: Threads + Sync, A: Allocator + Clone + Send + Sync, G: Gate>(
+    rt: &R,
+    alloc: A,
+    trees: &SigningTrees<'_>,
+    workers: Workers,
+    cutting: &Cutting,
+    gate: &G,
+) -> Result<Vec<JoinedTree, A>, RunFault>
+    requires set { cutting.now.set ≡ trees.now.seeds.set }
+    ensures joined { let t = trees.now in let p = params t.seeds.set in
+        let sk = t.seeds.sk_seed.now in let pk = t.seeds.pk_seed.now in
+        IfOk result (λ xs. AreJoined p sk pk t.idx_tree t.idx_leaf t.md.now xs.items) }
+    ensures stopped { IfErr result (λ fault. fault ≡ Stopped → G.may_stop gate.now) }
+{
+    let parts = alloc.clone().map_err(NoMemory::from)?;
+    let places = alloc.clone().map_err(NoMemory::from)?;
+    let work = TreeRanges { trees, cutting };
+    let ranges = run_all(rt, alloc, &work, workers, gate)?;
+    let (covers, records) = apart(parts, ranges)?;
+    Ok(trees_of_ranges(places, trees, cutting, &covers, &records)?)
+}
+
+/// The root of the XMSS tree of the top layer, n bytes, by workers that share the ranges of its leaves: the second half of the
+/// public key (FIPS 205, Algorithm 18). The refusals are those of `join_trees`.
+pub fn join_top_tree<R: Threads + Sync, A: Allocator + Clone + Send + Sync, G: Gate>(
+    rt: &R,
+    alloc: A,
+    seeds: &Seeds<'_>,
+    workers: Workers,
+    cutting: &Cutting,
+    gate: &G,
+) -> Result<Node, RunFault>
+    requires set { cutting.now.set ≡ seeds.now.set }
+    ensures root { let p = params seeds.now.set in let sk = seeds.now.sk_seed.now in
+        let pk = seeds.now.pk_seed.now in
+        IfOk result (λ node. node.items ≡ root (xmss_tree p sk pk (p.d - 1) 0)) }
+    ensures stopped { IfErr result (λ fault. fault ≡ Stopped → G.may_stop gate.now) }
+{
+    let work = TopRanges { seeds, cutting };
+    let covers = run_all(rt, alloc, &work, workers, gate)?;
+    Ok(gathered_top(seeds, cutting, &covers))
+}

@@ -1,0 +1,137 @@
+// What the trees of one signature are made from.
+ghost use Rattle.std.specs.Prelude.{◌≡◌, ℕ, ◌^◌, ◌<◌, ◌≤◌, length, slice_index};
+ghost use Rattle.slh_params.specs.Params.{md_len};
+ghost use Rattle.slh_params.specs.ParamSet.{params};
+ghost use Rattle.slh_few.specs.Fors.{fors_index};
+
+use crate::hashed_range::HashedRange;
+use crate::joined_tree::JoinedTree;
+use crate::joining::joined;
+use slh_cutting::JobTree;
+use slh_few::{ForsTree, Seeds, XmssTree, fors_indices, fors_range, layer_place, xmss_range};
+use slh_tree::{Cover, PathRec};
+
+/// What the trees of one signature are made from: the seeds, the place of the key at layer 0 that signs, and the part of the
+/// message digest that FORS signs.
+#[derive(Drop)]
+pub struct SigningTrees<'a> {
+    /// The parameter set, and SK.seed and PK.seed of n bytes each.
+    pub seeds: Seeds<'a>,
+    /// The tree of layer 0.
+    pub idx_tree: u64,
+    /// Its leaf.
+    pub idx_leaf: u32,
+    /// The part of the message digest that FORS signs, of md_len bytes.
+    pub md: &'a [u8],
+    indices: [u32; 64],
+    ghost leaf: { idx_leaf < 2 ^ (params seeds.set).hp },
+    ghost asked: { (j : ℕ) → j < (params seeds.set).k
+        → slice_index indices j ≡ fors_index (params seeds.set) md.now j },
+}
+
+impl<'a> SigningTrees<'a> {
+    ghost use Rattle.slh_cutting.specs.Jobs.{IsTreeOf, height_of};
+    ghost use Rattle.slh_subtrees.specs.Joined.{IsHashed, AreHashed, IsJoined};
+    ghost use Rattle.slh_subtrees.specs.Answers.{tree_in, leaf_in};
+
+    /// The trees of the signature by the key at leaf `idx_leaf` of tree `idx_tree`, of a digest whose first part is `md`, of
+    /// md_len bytes.
+    pub fn new(seeds: &Seeds<'a>, idx_tree: u64, idx_leaf: u32, md: &'a [u8]) -> SigningTrees<'a>
+        requires leaf { idx_leaf < 2 ^ (params seeds.now.set).hp }
+        requires md { length md.now ≡ md_len (params seeds.now.set) }
+        ensures seeds { result.seeds ≡ seeds.now }
+        ensures idx_tree { result.idx_tree ≡ idx_tree }
+        ensures idx_leaf { result.idx_leaf ≡ idx_leaf }
+        ensures md { result.md.now ≡ md.now }
+    {
+        SigningTrees {
+            seeds: *seeds,
+            idx_tree,
+            idx_leaf,
+            md,
+            indices: fors_indices(seeds.set, md),
+        }
+    }
+
+    /// What is made of the leaves from `lo` to `hi`, `hi` left out, of the tree.
+    pub(crate) fn hashed(&self, tree: JobTree, lo: u32, hi: u32) -> HashedRange
+        requires tree { IsTreeOf (params self.now.seeds.set) tree }
+        requires some { lo < hi }
+        requires within { hi ≤ 2 ^ height_of (params self.now.seeds.set) tree }
+        ensures lo { result.cover.lo ≡ lo }
+        ensures hi { result.cover.hi ≡ hi }
+        ensures hashed { let t = self.now in
+            IsHashed (tree_in t tree) (leaf_in t tree) result.cover result.path }
+    {
+        match tree {
+            JobTree::Xmss(layer) => self.hashed_xmss(layer, lo, hi),
+            JobTree::Fors(number) => self.hashed_fors(number, lo, hi),
+        }
+    }
+
+    fn hashed_xmss(&self, layer: u8, lo: u32, hi: u32) -> HashedRange
+        requires some { lo < hi }
+        requires within { hi ≤ 2 ^ (params self.now.seeds.set).hp }
+        ensures lo { result.cover.lo ≡ lo }
+        ensures hi { result.cover.hi ≡ hi }
+        ensures hashed { let tree = JobTree.Xmss layer in
+            IsHashed (tree_in self.now tree) (leaf_in self.now tree) result.cover result.path }
+    {
+        let at = layer_place(self.seeds.set, self.idx_tree, self.idx_leaf, layer);
+        let mut path = PathRec::for_leaf(self.seeds.set.hp(), at.pair);
+        let cover = xmss_range(&self.seeds, layer, at.tree, lo, hi, &mut path);
+        HashedRange { cover, path }
+    }
+
+    fn hashed_fors(&self, number: u32, lo: u32, hi: u32) -> HashedRange
+        requires tree { number < (params self.now.seeds.set).k }
+        requires some { lo < hi }
+        requires within { hi ≤ 2 ^ (params self.now.seeds.set).a }
+        ensures lo { result.cover.lo ≡ lo }
+        ensures hi { result.cover.hi ≡ hi }
+        ensures hashed { let tree = JobTree.Fors number in
+            IsHashed (tree_in self.now tree) (leaf_in self.now tree) result.cover result.path }
+    {
+        let mut path = PathRec::for_leaf(self.seeds.set.a(), self.index(number));
+        let cover = fors_range(
+            &self.seeds,
+            self.idx_tree,
+            self.idx_leaf,
+            number,
+            lo,
+            hi,
+            &mut path,
+        );
+        HashedRange { cover, path }
+    }
+
+    /// The leaf of FORS tree `number` that the digest asks for.
+    fn index(&self, number: u32) -> u32
+        requires { number < (params self.now.seeds.set).k }
+        ensures value { result ≡ fors_index (params self.now.seeds.set) self.now.md.now number }
+        ensures small { result < 2 ^ (params self.now.seeds.set).a }
+    {
+        self.indices[number as usize]
+    }
+
+    /// The root of the tree and the path of its leaf, from the covers and the records of all its ranges.
+    pub(crate) fn joined(&self, tree: JobTree, covers: &[Cover], records: &[PathRec]) -> JoinedTree
+        requires tree { IsTreeOf (params self.now.seeds.set) tree }
+        requires hashed { let t = self.now in
+            AreHashed (tree_in t tree) (leaf_in t tree) covers.now records.now }
+        ensures { IsJoined (tree_in self.now tree) (leaf_in self.now tree) result }
+    {
+        let seeds = &self.seeds;
+        match tree {
+            JobTree::Xmss(layer) => {
+                let at = layer_place(seeds.set, self.idx_tree, self.idx_leaf, layer);
+                let xmss = XmssTree::new(seeds, layer, at.tree);
+                joined(&xmss, at.pair, covers, records)
+            }
+            JobTree::Fors(number) => {
+                let fors = ForsTree::new(seeds, self.idx_tree, self.idx_leaf, number);
+                joined(&fors, self.index(number), covers, records)
+            }
+        }
+    }
+}

@@ -1,0 +1,115 @@
+// The trees of a signature from all their ranges.
+ghost use Rattle.std.specs.Prelude.{◌≡◌, ◌+◌, ◌<◌, ◌≤◌, ◌^◌, length, map, take, drop, IfOk};
+ghost use Rattle.slh_params.specs.ParamSet.{params};
+ghost use Rattle.slh_cutting.specs.Jobs.{IsTreeOf, height_of, tree_ranges, tree_jobs};
+ghost use Rattle.slh_cutting.specs.Points.{EndToEnd};
+ghost use Rattle.slh_subtrees.specs.Joined.{IsJoined};
+ghost use Rattle.slh_subtrees.specs.SigningTrees.{AreJoined, numbered};
+ghost use Rattle.slh_subtrees.specs.Answers.{AreAnswers, tree_in, leaf_in};
+
+use crate::hashed_range::HashedRange;
+use crate::joined_tree::JoinedTree;
+use crate::signing_trees::SigningTrees;
+use slh_cutting::{Cutting, JobTree};
+use slh_params::ParamSet;
+use slh_tree::{Cover, PathRec};
+use slh_workers::NoMemory;
+use std::alloc::Allocator;
+
+/// The covers and the records of the ranges, each in their order.
+pub(crate) fn apart<A: Allocator + Clone>(
+    alloc: A,
+    ranges: Vec<HashedRange, A>,
+) -> Result<(Vec<Cover, A>, Vec<PathRec, A>), NoMemory>
+    ensures { IfOk result (λ v. (v.0.items ≡ map (λ x. x.cover) ranges.items)
+        × (v.1.items ≡ map (λ x. x.path) ranges.items)) }
+{
+    let mut covers = Vec::new(alloc.clone()?);
+    let mut records = Vec::new(alloc);
+    for range in ranges {
+        covers.push(range.cover)?;
+        records.push(range.path)?;
+    }
+    Ok((covers, records))
+}
+
+/// Tree number `c` of a signature.
+fn tree_numbered(set: ParamSet, c: u32) -> JobTree
+    requires { c < (params set).d + (params set).k }
+    ensures value { result ≡ numbered (params set) c }
+    ensures tree { IsTreeOf (params set) result }
+{
+    if c < set.d() {
+        JobTree::Xmss(c as u8)
+    } else {
+        JobTree::Fors(c - set.d())
+    }
+}
+
+/// How many ranges the tree has.
+fn range_count(cutting: &Cutting, tree: JobTree) -> u32
+    ensures count { result ≡ length (tree_jobs cutting.now tree) }
+    ensures some { 0 < result }
+    ensures few { result ≤ 256 }
+    ensures end_to_end { let cut = cutting.now in
+        EndToEnd 0 (2 ^ height_of (params cut.set) tree) (tree_ranges cut tree) }
+{
+    match tree {
+        JobTree::Xmss(_) => cutting.xmss_ranges(),
+        JobTree::Fors(_) => cutting.fors_ranges(),
+    }
+}
+
+/// So many of the list, from place `first` on.
+fn part<X>(all: &[X], first: u32, count: u32) -> &[X]
+    requires { first + count ≤ length all.now }
+    ensures { result.now ≡ take count (drop first all.now) }
+{
+    let start = first as usize;
+    &all[start..start + count as usize]
+}
+
+/// One tree, from the covers and the records of the ranges of all trees.
+fn tree_of_ranges(
+    trees: &SigningTrees<'_>,
+    cutting: &Cutting,
+    tree: JobTree,
+    covers: &[Cover],
+    records: &[PathRec],
+) -> JoinedTree
+    requires set { cutting.now.set ≡ trees.now.seeds.set }
+    requires tree { IsTreeOf (params cutting.now.set) tree }
+    requires answers { AreAnswers trees.now cutting.now covers.now records.now }
+    ensures { IsJoined (tree_in trees.now tree) (leaf_in trees.now tree) result }
+{
+    let first = cutting.first_job(tree);
+    let count = range_count(cutting, tree);
+    trees.joined(
+        tree,
+        part(covers, first, count),
+        part(records, first, count),
+    )
+}
+
+/// All trees, from the covers and the records of all their ranges.
+pub(crate) fn trees_of_ranges<A: Allocator>(
+    alloc: A,
+    trees: &SigningTrees<'_>,
+    cutting: &Cutting,
+    covers: &[Cover],
+    records: &[PathRec],
+) -> Result<Vec<JoinedTree, A>, NoMemory>
+    requires set { cutting.now.set ≡ trees.now.seeds.set }
+    requires answers { AreAnswers trees.now cutting.now covers.now records.now }
+    ensures { let t = trees.now in let p = params t.seeds.set in
+        let sk = t.seeds.sk_seed.now in let pk = t.seeds.pk_seed.now in
+        IfOk result (λ xs. AreJoined p sk pk t.idx_tree t.idx_leaf t.md.now xs.items) }
+{
+    let set = cutting.set();
+    let mut joined = Vec::new(alloc);
+    for c in 0..set.d() + set.k() {
+        let tree = tree_numbered(set, c);
+        joined.push(tree_of_ranges(trees, cutting, tree, covers, records))?;
+    }
+    Ok(joined)
+}

@@ -1,0 +1,4 @@
+pub mod Places
+pub mod Draws
+pub mod Seated
+pub mod Covered

@@ -1,0 +1,21 @@
+use Rattle.std.proofs.Common.{rules, arith, ◌≡◌, ◌≤◌, length, false, subst, sym, ap, ◌∙◌}
+use Rattle.std.proofs.Math.ListN.{length-replicate}
+use Rattle.slh_board.specs.Seats.{new_seat}
+use Rattle.slh_workers.specs.Answers.{InPlace}
+use Rattle.slh_workers.specs.Runs.{RanSeats}
+use Rattle.slh_workers.proofs.Places.{right_by_place}
+use Rattle.slh_workers.proofs.Covered.{draws_cover}
+use Rattle.slh_workers.proofs.run.run_all.Goals as goal
+
+pub by_number-requires-clause-covers : goal.by_number-requires-clause-covers
+by_number-requires-clause-covers g c =
+    draws_cover c.in_ok-board.board (g.G.Gate.may_stop c.args.gate.now) (g.W.Work.is_right c.args.work.now) c.count-count.result (length c.in_ok-board.seats.items) c.finish.result.drawn
+    c.finish.result.stopped c.in_ok-seats.seats.items c.in_ok-seats.answers.items
+    (subst (λ n. RanSeats c.in_ok-board.board (g.G.Gate.may_stop c.args.gate.now) (g.W.Work.is_right c.args.work.now) n (length c.in_ok-board.seats.items) c.in_ok-seats.seats.items c.in_ok-seats.answers.items) (sym c.count-count.ensures) c.in_ok-seats.ensures)
+    (let some : length c.in_ok-board.seats.items ≡ c.number.result = ap length c.in_ok-board.ensures.seats ∙ length-replicate c.number.result (new_seat c.in_ok-board.board) in omega (arith, some, c.number.ensures.within)) (search rules) c.finish.ensures.stopped c.finish.ensures.seen (search rules)
+    c.finish.ensures.each_once
+
+pub returns-clause-right : goal.returns-clause-right
+returns-clause-right g c =
+    right_by_place (g.W.Work.is_right c.args.work.now) (g.W.Work.jobs c.args.work.now) c.in_ok-seats.answers.items c.in_ok-by_number.field-0.items c.in_ok-seats.ensures.all_right
+    (subst (λ n. InPlace n c.in_ok-seats.answers.items c.in_ok-by_number.field-0.items) c.count-count.ensures c.in_ok-by_number.ensures)

@@ -1,0 +1,28 @@
+-- How a worker ended, and what its seat then is.
+use Rattle.std.specs.Prelude.{◌≡◌, ℕ, ◌≤◌, List, ◌++◌, length, Bool, true, false}
+use Rattle.slh_board.specs.Seats.{SeatState}
+use Rattle.slh_board.specs.declared.seat.Mark.TheVariants.{Fresh as FreshMark, Done as DoneMark, Stopped as StoppedMark}
+use Rattle.slh_workers.specs.declared.seats.End.{End}
+use Rattle.slh_workers.specs.declared.seats.End.TheVariants.{Done, Stopped, GateStop, NoMemory}
+
+-- a seat that may work: it was told no end, and stopped nothing
+abbrev pub IsFresh : SeatState → Type 0
+IsFresh seat = (seat.mark ≡ FreshMark) × (seat.raised ≡ false)
+
+-- the end is Done exactly where the seat is done, Stopped exactly where it is stopped, and else the seat is raised; GateStop comes only where the gate may stop
+abbrev pub EndFits : Type 0 → End → SeatState → Type 0
+EndFits may_stop Done seat = (seat.mark ≡ DoneMark) × (seat.raised ≡ false)
+EndFits may_stop Stopped seat = (seat.mark ≡ StoppedMark) × (seat.raised ≡ false)
+EndFits may_stop GateStop seat = (seat.mark ≡ FreshMark) × (seat.raised ≡ true) × may_stop
+EndFits may_stop NoMemory seat = (seat.mark ≡ FreshMark) × (seat.raised ≡ true)
+
+-- how many of the last numbers drawn may lack their answers
+abbrev pub may_lack : End → ℕ
+may_lack Done = 0
+may_lack Stopped = 0
+may_lack GateStop = 1
+may_lack NoMemory = 1
+
+-- what was drawn since before is answered, in its order, but for the last at most few numbers
+abbrev pub IsAnswered : ℕ → List ℕ → List ℕ → List ℕ → Type 0
+IsAnswered few before after answered = (lost : List ℕ) × (length lost ≤ few) × (after ≡ before ++ answered ++ lost)

@@ -1,0 +1,5 @@
+pub mod Gates
+pub mod RunFault
+pub mod Answers
+pub mod Ends
+pub mod Runs

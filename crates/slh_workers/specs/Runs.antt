@@ -1,0 +1,26 @@
+-- Several workers over one board.
+use Rattle.std.specs.Prelude.{◌≡◌, ◌≢◌, ℕ, ◌+◌, ◌≤◌, List, length, true, false}
+use Rattle.std.specs.List.{All, sum_by}
+use Rattle.slh_board.specs.Seats.{BoardState, SeatState, new_seat}
+use Rattle.slh_board.specs.Counts.{times}
+use Rattle.slh_board.specs.declared.seat.Mark.TheVariants.{Fresh}
+use Rattle.slh_workers.specs.Answers.{numbers, AllRight}
+
+-- Seats of a board as it gave them, one for each of the workers numbered from first on
+pub record IsReady (board : BoardState) (count first : ℕ) (seats : List SeatState) : Type 0 where
+  pub some : 1 ≤ length seats
+  pub few : first + length seats ≤ 64
+  pub new : All (λ s. s ≡ new_seat board) seats
+  pub jobs : board.jobs ≡ count
+
+-- a seat whose worker has ended, with memory: only a gate that may stop has raised it, and else it is marked
+abbrev pub HasEnded : Type 0 → SeatState → Type 0
+HasEnded may_stop seat = (seat.raised ≡ true → may_stop) × (seat.raised ≡ false → seat.mark ≢ Fresh)
+
+-- What the workers at count seats have: right answers, and where no seat is raised one to each number that the seats drew
+pub record RanSeats {T : Type 0} (board : BoardState) (may_stop : Type 0) (right : ℕ → T → Type 0) (jobs count : ℕ) (seats : List SeatState) (answers : List (ℕ × T)) : Type 0 where
+  pub count_is : length seats ≡ count
+  pub mine : All (λ s. s.board ≡ board) seats
+  pub ended : All (HasEnded may_stop) seats
+  pub all_right : AllRight right jobs answers
+  pub draws : All (λ s. s.raised ≡ false) seats → (x : ℕ) → times x (numbers answers) ≡ sum_by (λ (s : SeatState). times x s.drawn) seats

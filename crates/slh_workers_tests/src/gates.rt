@@ -1,0 +1,56 @@
+// Gates for tests.
+use crate::works::turns_until;
+use slh_workers::{Gate, Go};
+use std::sync::atomic::{AtomicU64, Ordering};
+
+// Answers Stop at one job, and counts its calls.
+#[derive(Drop)]
+pub struct StopAt {
+    pub job: u32,
+    pub entered: AtomicU64,
+    pub left: AtomicU64,
+}
+
+impl StopAt {
+    pub fn new(job: u32) -> StopAt {
+        StopAt {
+            job,
+            entered: AtomicU64::new(0),
+            left: AtomicU64::new(0),
+        }
+    }
+}
+
+impl Gate for StopAt {
+    ghost may_stop = { λ _. Unit {0} };
+
+    fn enter(&self, _worker: u8, job: u32) -> Go {
+        self.entered.fetch_add(1, Ordering::SeqCst);
+        if job == self.job { Go::Stop } else { Go::On }
+    }
+
+    fn leave(&self, _worker: u8, _job: u32) {
+        self.left.fetch_add(1, Ordering::SeqCst);
+    }
+}
+
+// Two jobs wait for each other; then job 0 may run, and the other is told Stop.
+#[derive(Drop)]
+pub struct BothThenStop {
+    pub entered: AtomicU64,
+    pub gave_up: AtomicU64,
+}
+
+impl Gate for BothThenStop {
+    ghost may_stop = { λ _. Unit {0} };
+
+    fn enter(&self, _worker: u8, job: u32) -> Go {
+        self.entered.fetch_add(1, Ordering::SeqCst);
+        if !turns_until(&self.entered, 2) {
+            self.gave_up.fetch_add(1, Ordering::SeqCst);
+        }
+        if job == 0 { Go::On } else { Go::Stop }
+    }
+
+    fn leave(&self, _worker: u8, _job: u32) {}
+}

@@ -1,0 +1,11 @@
+//! Tests of the workers: works and gates that watch what is called, and runs on one and more threads.
+#![tactic(auto)]
+
+#[cfg(test)]
+mod gates;
+#[cfg(test)]
+mod run;
+#[cfg(test)]
+mod work_off;
+#[cfg(test)]
+mod works;
