@@ -1,0 +1,4 @@
+pub mod GrammarLaws
+pub mod Json
+pub mod Loop
+pub mod NameLaws

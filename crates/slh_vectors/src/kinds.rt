@@ -1,0 +1,31 @@
+//! What a test is of.
+
+ghost use Rattle.std.specs.Prelude.{◌≡◌};
+ghost use Rattle.slh_vectors.specs.Cases.{test_view, kind_of, set_of};
+ghost use Rattle.slh_vectors.specs.Names.{kind_name};
+
+use crate::test::Test;
+use slh_params::ParamSet;
+
+impl Test {
+    /// The text of the member `kind`.
+    pub fn kind(&self) -> &'static str
+        ensures { result.now ≡ kind_name (kind_of (test_view self.now)) }
+    {
+        match self {
+            Test::Keygen(_) => "keygen",
+            Test::Sign(_) => "sign",
+            Test::Verify(_) => "verify",
+        }
+    }
+
+    pub fn set(&self) -> ParamSet
+        ensures { result ≡ set_of (test_view self.now) }
+    {
+        match self {
+            Test::Keygen(test) => test.set,
+            Test::Sign(test) => test.set,
+            Test::Verify(test) => test.set,
+        }
+    }
+}

@@ -1,0 +1,13 @@
+//! Vector files: tests of key generation, signing and verifying, their outcomes and the report on them.
+#![tactic(auto)]
+
+pub use fault::{Member, VectorFault};
+pub use reading::read_vectors;
+pub use test::{Form, Input, KeygenTest, Kind, Seeds, SignTest, Test, VerifyTest};
+
+mod fault;
+mod kinds;
+mod members;
+mod names;
+mod reading;
+mod test;

@@ -1,0 +1,79 @@
+//! The tests of a vector file.
+
+ghost use Rattle.std.specs.Prelude.{◌≡◌, ◌*◌, ◌≢◌, length};
+ghost use Rattle.slh_params.specs.ParamSet.{params};
+ghost use Rattle.slh_vectors.specs.Sizes.{AreSeeds};
+
+use slh_core::PreHash;
+use slh_params::ParamSet;
+
+/// What a test is of.
+#[derive(Clone, Copy, Debug, PartialEq, Eq)]
+pub enum Kind {
+    Keygen,
+    Sign,
+    Verify,
+}
+
+/// How the message is taken.
+#[derive(Clone, Copy, Debug, PartialEq, Eq)]
+pub enum Form {
+    Internal,
+    Pure,
+    PreHash(PreHash),
+}
+
+#[derive(Debug, Drop)]
+pub struct Seeds {
+    pub sk_seed: Vec<u8>,
+    pub sk_prf: Vec<u8>,
+    pub pk_seed: Vec<u8>,
+}
+
+/// What is signed. The context of an internal message is empty.
+#[derive(Debug, Drop)]
+pub struct Input {
+    pub form: Form,
+    pub message: Vec<u8>,
+    pub context: Vec<u8>,
+}
+
+#[derive(Debug, Drop)]
+pub struct KeygenTest {
+    pub set: ParamSet,
+    pub seeds: Seeds,
+    pub sk: Vec<u8>,
+    pub pk: Vec<u8>,
+    pub ghost seeds_sized: { AreSeeds set seeds },
+    pub ghost sk_sized: { length sk.items ≡ 4 * (params set).n },
+    pub ghost pk_sized: { length pk.items ≡ 2 * (params set).n },
+}
+
+/// No random bytes stand for the deterministic variant.
+#[derive(Debug, Drop)]
+pub struct SignTest {
+    pub set: ParamSet,
+    pub sk: Vec<u8>,
+    pub input: Input,
+    pub random: Vec<u8>,
+    pub signature: Vec<u8>,
+    pub ghost sk_sized: { length sk.items ≡ 4 * (params set).n },
+    pub ghost random_sized: { (length random.items ≢ 0) → length random.items ≡ (params set).n },
+}
+
+#[derive(Debug, Drop)]
+pub struct VerifyTest {
+    pub set: ParamSet,
+    pub pk: Vec<u8>,
+    pub input: Input,
+    pub signature: Vec<u8>,
+    pub valid: bool,
+    pub ghost pk_sized: { length pk.items ≡ 2 * (params set).n },
+}
+
+#[derive(Debug, Drop)]
+pub enum Test {
+    Keygen(KeygenTest),
+    Sign(SignTest),
+    Verify(VerifyTest),
+}
