@@ -2,3 +2,5 @@ pub mod GrammarLaws
 pub mod Json
 pub mod Loop
 pub mod NameLaws
+pub mod PutLines
+pub mod Texts

@@ -3,6 +3,7 @@ pub mod Sizes
 pub mod Names
 pub mod Reading
 pub mod Grammar
+pub mod Report
 -- cited by public clauses
 pub use Rattle.slh_core.specs.Keys
 pub use Rattle.slh_core.specs.Signatures

@@ -2,12 +2,16 @@
 #![tactic(auto)]
 
 pub use fault::{Member, VectorFault};
+pub use lines::report;
+pub use outcome::Outcome;
 pub use reading::read_vectors;
 pub use test::{Form, Input, KeygenTest, Kind, Seeds, SignTest, Test, VerifyTest};
 
 mod fault;
 mod kinds;
+mod lines;
 mod members;
 mod names;
+mod outcome;
 mod reading;
 mod test;

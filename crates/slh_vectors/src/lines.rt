@@ -1,0 +1,123 @@
+ghost use Rattle.std.specs.Prelude.{◌≡◌, ◌+◌, ◌<◌, ◌^◌, ◌++◌, ℕ, List, length, map, codes, OnOk, Result};
+ghost use Rattle.std.specs.Fmt.{decimal};
+ghost use Rattle.std.specs.List.{count_by};
+ghost use Rattle.slh_devices.specs.Devices.{CountsFailure};
+ghost use Rattle.slh_vectors.specs.Cases.{test_view, views};
+ghost use Rattle.slh_vectors.specs.Report.{Puts, counts_text, fails, line_text, lines_from, passes, report_text};
+
+use super::outcome::Outcome;
+use super::test::Test;
+use slh_devices::{Sink, WriteFault, put_all};
+
+/// Puts bytes.
+fn put_bytes<W: Sink>(output: &mut W, bytes: &[u8]) -> Result<(), WriteFault>
+    ensures puts { Puts (W.state output.old).contents (W.state output.new).contents result bytes.now }
+    ensures failed { CountsFailure (W.state output.old).failures (W.state output.new).failures result }
+{
+    put_all(output, bytes)
+}
+
+/// Puts a number in decimal digits.
+#[tactic(auto, using(crate::proofs::Texts::decimal_ended, crate::proofs::Texts::decimal_stopped, crate::proofs::Texts::decimal_went_on))]
+fn put_decimal<W: Sink>(output: &mut W, n: u64) -> Result<(), WriteFault>
+    ensures puts { Puts (W.state output.old).contents (W.state output.new).contents result (decimal n) }
+    ensures failed { CountsFailure (W.state output.old).failures (W.state output.new).failures result }
+{
+    if n < 10 {
+        return put_bytes(output, &[b'0' + n as u8]);
+    }
+    put_decimal(output, n / 10)?;
+    put_bytes(output, &[b'0' + (n % 10) as u8])
+}
+
+/// Puts a text, a number and a text.
+fn put_number<W: Sink>(output: &mut W, before: &str, n: u64, after: &str) -> Result<(), WriteFault>
+    ensures puts { Puts (W.state output.old).contents (W.state output.new).contents result (before.now ++ decimal n ++ after.now) }
+    ensures failed { CountsFailure (W.state output.old).failures (W.state output.new).failures result }
+{
+    put_bytes(output, before.as_bytes())?;
+    put_decimal(output, n)?;
+    put_bytes(output, after.as_bytes())
+}
+
+/// Puts two texts.
+#[tactic(auto, using(crate::proofs::Texts::ended, crate::proofs::Texts::stopped))]
+fn put_two<W: Sink>(output: &mut W, first: &str, second: &str) -> Result<(), WriteFault>
+    ensures puts { Puts (W.state output.old).contents (W.state output.new).contents result (first.now ++ second.now) }
+    ensures failed { CountsFailure (W.state output.old).failures (W.state output.new).failures result }
+{
+    put_bytes(output, first.as_bytes())?;
+    put_bytes(output, second.as_bytes())
+}
+
+fn put_line<W: Sink>(
+    output: &mut W,
+    n: u64,
+    test: &Test,
+    outcome: Outcome,
+) -> Result<(), WriteFault>
+    ensures puts { Puts (W.state output.old).contents (W.state output.new).contents result (line_text n (test_view test.now) outcome) }
+    ensures failed { CountsFailure (W.state output.old).failures (W.state output.new).failures result }
+{
+    put_number(output, "test ", n, " ")?;
+    put_two(output, test.kind(), " ")?;
+    put_two(output, test.set().name(), " ")?;
+    put_two(output, outcome.name(), "\n")
+}
+
+fn put_lines<W: Sink>(
+    output: &mut W,
+    tests: &[Test],
+    outcomes: &[Outcome],
+) -> Result<(), WriteFault>
+    requires { length outcomes.now ≡ length tests.now }
+    ensures puts { Puts (W.state output.old).contents (W.state output.new).contents result (lines_from 1 (views tests.now) outcomes.now) }
+    ensures failed { CountsFailure (W.state output.old).failures (W.state output.new).failures result }
+{
+    for (i, test) in tests.iter().enumerate() {
+        put_line(output, i as u64 + 1, test, outcomes[i])?;
+    }
+    Ok(())
+}
+
+fn passed(outcomes: &[Outcome]) -> usize
+    ensures { result ≡ count_by passes outcomes.now }
+{
+    outcomes
+        .iter()
+        .filter(|outcome| **outcome == Outcome::Pass)
+        .count()
+}
+
+fn failed(outcomes: &[Outcome]) -> usize
+    ensures { result ≡ count_by fails outcomes.now }
+{
+    outcomes
+        .iter()
+        .filter(|outcome| **outcome == Outcome::Fail)
+        .count()
+}
+
+fn put_counts<W: Sink>(output: &mut W, passed: u64, failed: u64) -> Result<(), WriteFault>
+    ensures puts { Puts (W.state output.old).contents (W.state output.new).contents result (counts_text passed failed) }
+    ensures failed { CountsFailure (W.state output.old).failures (W.state output.new).failures result }
+{
+    put_number(output, "passed ", passed, " ")?;
+    put_number(output, "failed ", failed, "\n")
+}
+
+/// Puts a line `test N KIND SET pass` or `test N KIND SET fail` for each test, in their order and counted from 1,
+/// and the line `passed P failed F`. It takes no memory. Refused where a write failed, which let a front of that
+/// text through.
+pub fn report<W: Sink>(
+    tests: &[Test],
+    outcomes: &[Outcome],
+    output: &mut W,
+) -> Result<(), WriteFault>
+    requires { length outcomes.now ≡ length tests.now }
+    ensures puts { Puts (W.state output.old).contents (W.state output.new).contents result (report_text (views tests.now) outcomes.now) }
+    ensures failed { CountsFailure (W.state output.old).failures (W.state output.new).failures result }
+{
+    put_lines(output, tests, outcomes)?;
+    put_counts(output, passed(outcomes) as u64, failed(outcomes) as u64)
+}

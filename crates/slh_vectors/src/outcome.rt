@@ -1,0 +1,23 @@
+ghost use Rattle.std.specs.Prelude.{◌≡◌};
+ghost use Rattle.slh_vectors.specs.Report.{outcome_name};
+
+/// What came of a test.
+#[derive(Clone, Copy, Debug, PartialEq, Eq)]
+pub enum Outcome {
+    /// The answers are those of the test.
+    Pass,
+    /// Some answer is another.
+    Fail,
+}
+
+impl Outcome {
+    /// `pass` or `fail`, as a report has it.
+    pub fn name(&self) -> &'static str
+        ensures { result.now ≡ outcome_name self.now }
+    {
+        match self {
+            Outcome::Pass => "pass",
+            Outcome::Fail => "fail",
+        }
+    }
+}
