@@ -4,6 +4,7 @@ pub mod Names
 pub mod Reading
 pub mod Grammar
 pub mod Report
+pub mod Outcomes
 -- cited by public clauses
 pub use Rattle.slh_core.specs.Keys
 pub use Rattle.slh_core.specs.Signatures

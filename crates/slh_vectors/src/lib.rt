@@ -5,6 +5,7 @@ pub use fault::{Member, VectorFault};
 pub use lines::report;
 pub use outcome::Outcome;
 pub use reading::read_vectors;
+pub use running::run_test;
 pub use test::{Form, Input, KeygenTest, Kind, Seeds, SignTest, Test, VerifyTest};
 
 mod fault;
@@ -14,4 +15,5 @@ mod members;
 mod names;
 mod outcome;
 mod reading;
+mod running;
 mod test;
