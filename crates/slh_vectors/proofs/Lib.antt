@@ -1,3 +1,4 @@
+pub mod AllOutcomes
 pub mod GrammarLaws
 pub mod Json
 pub mod Loop

@@ -6,6 +6,7 @@ pub use lines::report;
 pub use outcome::Outcome;
 pub use reading::read_vectors;
 pub use running::run_test;
+pub use runs::run_vectors;
 pub use test::{Form, Input, KeygenTest, Kind, Seeds, SignTest, Test, VerifyTest};
 
 mod fault;
@@ -16,4 +17,5 @@ mod names;
 mod outcome;
 mod reading;
 mod running;
+mod runs;
 mod test;
