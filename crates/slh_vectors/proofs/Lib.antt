@@ -4,4 +4,3 @@ pub mod Json
 pub mod Loop
 pub mod NameLaws
 pub mod PutLines
-pub mod Texts

@@ -1,9 +1,7 @@
 -- The report on the tests of a vector file.
-use Rattle.std.specs.Prelude.{◌+◌, ℕ, List, [], ◌∷◌, ◌++◌, Bool, true, false, Option, Result, MatchResult, codes}
+use Rattle.std.specs.Prelude.{◌+◌, ℕ, List, [], ◌∷◌, ◌++◌, Bool, true, false, codes}
 use Rattle.std.specs.Fmt.{decimal}
-use Rattle.std.specs.Io.KnownBytes.{Appends}
 use Rattle.std.specs.List.{count_by}
-use Rattle.slh_devices.specs.Devices.{LetsThrough}
 use Rattle.slh_params.specs.ParamSet.{name}
 use Rattle.slh_vectors.specs.Cases.{Case, kind_of, set_of}
 use Rattle.slh_vectors.specs.Names.{kind_name}
@@ -39,7 +37,3 @@ counts_text passed failed = (codes "passed " ++ decimal passed ++ codes " ") ++ 
 -- a line for each test, in their order and counted from 1, and the counts of those that passed and failed
 abbrev pub report_text : List Case → List Outcome → List ℕ
 report_text cs os = lines_from 1 cs os ++ counts_text (count_by passes os) (count_by fails os)
-
--- a text was put, or a front of it where a write failed
-abbrev pub Puts : {T E : Type 0} → Option (List ℕ) → Option (List ℕ) → Result T E → List ℕ → Type 0
-Puts old new r text = MatchResult r (λ _. Appends old new text) (λ _. LetsThrough old new text)

@@ -3,7 +3,7 @@
 
 pub use fault::{Member, VectorFault};
 pub use lines::report;
-pub use outcome::Outcome;
+pub use outcome::{Outcome, all_passed};
 pub use reading::read_vectors;
 pub use running::run_test;
 pub use runs::run_vectors;

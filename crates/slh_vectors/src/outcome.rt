@@ -1,5 +1,7 @@
-ghost use Rattle.std.specs.Prelude.{◌≡◌};
+ghost use Rattle.std.specs.Prelude.{◌≡◌, ◌↔◌, IsTrue};
+ghost use Rattle.std.specs.List.{All};
 ghost use Rattle.slh_vectors.specs.Report.{outcome_name};
+ghost use Rattle.slh_vectors.specs.declared.outcome.Outcome.TheVariants.{Pass};
 
 /// What came of a test.
 #[derive(Clone, Copy, Debug, PartialEq, Eq)]
@@ -20,4 +22,11 @@ impl Outcome {
             Outcome::Fail => "fail",
         }
     }
+}
+
+/// Whether all outcomes are `Pass`.
+pub fn all_passed(outcomes: &[Outcome]) -> bool
+    ensures { IsTrue result ↔ All (λ o. o ≡ Pass) outcomes.now }
+{
+    outcomes.iter().all(|outcome| *outcome == Outcome::Pass)
 }

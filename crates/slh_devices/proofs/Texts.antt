@@ -8,8 +8,7 @@ use Rattle.std.specs.Fmt.{decimal}
 use Rattle.std.proofs.lemmas.Fmt.{decimal_digit, decimal_step}
 use Rattle.std.specs.Io.KnownBytes.{Appends}
 use Rattle.std.proofs.KnownBytes.{Appends-trans}
-use Rattle.slh_devices.specs.Devices.{LetsThrough}
-use Rattle.slh_vectors.specs.Report.{Puts}
+use Rattle.slh_devices.specs.Devices.{LetsThrough, Puts}
 
 -- what went through of a text, with more text to come
 through_more : (a b : Option (List ℕ)) (x y : List ℕ) → LetsThrough a b x → LetsThrough a b (x ++ y)

@@ -1,7 +1,7 @@
 use Rattle.std.proofs.Common.{rules}
 use Rattle.std.specs.Fmt.{decimal}
-use Rattle.slh_vectors.proofs.Texts.{first_of_three, stopped_after, third_ended}
-use Rattle.slh_vectors.proofs.lines.put_number.Goals as goal
+use Rattle.slh_devices.proofs.Texts.{first_of_three, stopped_after, third_ended}
+use Rattle.slh_devices.proofs.text.put_number.Goals as goal
 
 pub returns-in_err-put_bytes-clause-puts : goal.returns-in_err-put_bytes-clause-puts
 returns-in_err-put_bytes-clause-puts g c =
