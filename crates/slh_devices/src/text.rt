@@ -12,6 +12,14 @@ fn put_bytes<W: Sink>(output: &mut W, bytes: &[u8]) -> Result<(), WriteFault>
     put_all(output, bytes)
 }
 
+/// Puts a text, or what goes through before a failure. It takes no memory.
+pub fn put_text<W: Sink>(output: &mut W, text: &str) -> Result<(), WriteFault>
+    ensures puts { Puts (W.state output.old).contents (W.state output.new).contents result text.now }
+    ensures failed { CountsFailure (W.state output.old).failures (W.state output.new).failures result }
+{
+    put_bytes(output, text.as_bytes())
+}
+
 /// Puts a number in decimal digits.
 #[tactic(auto, using(crate::proofs::Texts::decimal_ended, crate::proofs::Texts::decimal_stopped, crate::proofs::Texts::decimal_went_on))]
 fn put_decimal<W: Sink>(output: &mut W, n: u64) -> Result<(), WriteFault>

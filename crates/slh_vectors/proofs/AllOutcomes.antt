@@ -1,6 +1,6 @@
 -- The outcomes of tests that are run one after the other.
-use Rattle.std.proofs.Common.{◌≡◌, ℕ, ◌+◌, ◌<◌, ◌≤◌, List, [], ◌∷◌, ◌++◌, length, take, get_or, map, subst, sym}
-use Rattle.std.proofs.lemmas.List.{map_push, take_all, take_more}
+use Rattle.std.proofs.Common.{◌≡◌, ℕ, suc, ◌+◌, ◌<◌, ◌≤◌, List, [], ◌∷◌, ◌++◌, length, take, get_or, map, refl, ap, ◌∙◌}
+use Rattle.std.proofs.lemmas.List.{length-map, map_push, take_all, take_more}
 use Rattle.slh_vectors.specs.Cases.{Case, test_view, views}
 use Rattle.slh_vectors.specs.Outcomes.{AreOutcomes, IsOutcome}
 use Rattle.slh_vectors.specs.declared.outcome.Outcome.{Outcome}
@@ -22,3 +22,13 @@ next_outcome ts os i t o h p lt is =
 -- no test is left
 pub all_outcomes : (ts : List Test) (os : List Outcome) (i : ℕ) → length ts ≤ i → AreOutcomes (views (take i ts)) os → AreOutcomes (views ts) os
 all_outcomes ts os i all h = rw (take_all i ts all) at h
+
+-- there are as many outcomes as tests
+pub outcome_count : (cs : List Case) (os : List Outcome) → AreOutcomes cs os → length os ≡ length cs
+outcome_count [] [] h = refl
+outcome_count (c ∷ cs) (o ∷ os) h = ap suc (outcome_count cs os h.1)
+outcome_count [] (o ∷ os) h = absurd h
+outcome_count (c ∷ cs) [] h = absurd h
+
+pub outcomes_counted : (ts : List Test) (os : List Outcome) → AreOutcomes (views ts) os → length os ≡ length ts
+outcomes_counted ts os h = outcome_count (views ts) os h ∙ length-map ts test_view

@@ -1,4 +1,4 @@
-ghost use Rattle.std.specs.Prelude.{◌≡◌, IfErr, IfOk};
+ghost use Rattle.std.specs.Prelude.{◌≡◌, IfErr, IfOk, length};
 ghost use Rattle.slh_vectors.specs.Cases.{views};
 ghost use Rattle.slh_vectors.specs.Outcomes.{AreOutcomes};
 ghost use Rattle.slh_vectors.specs.declared.fault.VectorFault.TheVariants.{NoMemory};
@@ -15,6 +15,7 @@ pub fn run_vectors<A: Allocator + Clone>(
     tests: &[Test],
 ) -> Result<Vec<Outcome, A>, VectorFault>
     ensures done { IfOk result (λ outcomes. AreOutcomes (views tests.now) outcomes.items) }
+    ensures count { IfOk result (λ outcomes. length outcomes.items ≡ length tests.now) }
     ensures refused { IfErr result (λ e. e ≡ NoMemory) }
 {
     let mut outcomes = Vec::new(alloc.clone()?);
