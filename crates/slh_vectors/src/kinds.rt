@@ -1,14 +1,12 @@
-//! What a test is of.
-
 ghost use Rattle.std.specs.Prelude.{◌≡◌};
 ghost use Rattle.slh_vectors.specs.Cases.{test_view, kind_of, set_of};
 ghost use Rattle.slh_vectors.specs.Names.{kind_name};
 
-use crate::test::Test;
+use super::test::Test;
 use slh_params::ParamSet;
 
 impl Test {
-    /// The text of the member `kind`.
+    /// The text of the member `kind`: `keygen`, `sign` or `verify`.
     pub fn kind(&self) -> &'static str
         ensures { result.now ≡ kind_name (kind_of (test_view self.now)) }
     {
@@ -19,6 +17,7 @@ impl Test {
         }
     }
 
+    /// The parameter set of the member `set`.
     pub fn set(&self) -> ParamSet
         ensures { result ≡ set_of (test_view self.now) }
     {

@@ -9,6 +9,7 @@ use super::outcome::Outcome;
 use super::test::Test;
 use slh_devices::{Sink, WriteFault, put_number, put_two};
 
+/// Puts the line of test `n`.
 fn put_line<W: Sink>(
     output: &mut W,
     n: u64,
@@ -24,6 +25,7 @@ fn put_line<W: Sink>(
     put_two(output, outcome.name(), "\n")
 }
 
+/// Puts the lines of the tests.
 fn put_lines<W: Sink>(
     output: &mut W,
     tests: &[Test],
@@ -39,6 +41,7 @@ fn put_lines<W: Sink>(
     Ok(())
 }
 
+/// How many tests passed.
 fn passed(outcomes: &[Outcome]) -> usize
     ensures { result ≡ count_by passes outcomes.now }
 {
@@ -48,6 +51,7 @@ fn passed(outcomes: &[Outcome]) -> usize
         .count()
 }
 
+/// How many tests failed.
 fn failed(outcomes: &[Outcome]) -> usize
     ensures { result ≡ count_by fails outcomes.now }
 {
@@ -57,6 +61,7 @@ fn failed(outcomes: &[Outcome]) -> usize
         .count()
 }
 
+/// Puts the last line.
 fn put_counts<W: Sink>(output: &mut W, passed: u64, failed: u64) -> Result<(), WriteFault>
     ensures puts { Puts (W.state output.old).contents (W.state output.new).contents result (counts_text passed failed) }
     ensures failed { CountsFailure (W.state output.old).failures (W.state output.new).failures result }

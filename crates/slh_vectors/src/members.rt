@@ -1,18 +1,17 @@
-//! The members of a test.
-
 ghost use Rattle.std.specs.Prelude.{◌≡◌, ◌≢◌, ◌*◌, length, IfOk};
 ghost use Rattle.slh_params.specs.ParamSet.{params};
 ghost use Rattle.serde_json.specs.View.{view};
 ghost use Rattle.slh_vectors.specs.Reading.{Gives, member_in, text_in, bool_in, hex_in, bytes_in, kind_in, set_in, form_in, context_in, random_in};
 
-use crate::fault::{Member, VectorFault};
-use crate::names::{form_named, kind_named, set_named};
-use crate::test::{Form, Kind};
+use super::fault::{Member, VectorFault};
+use super::names::{form_named, kind_named, set_named};
+use super::test::{Form, Kind};
 use hex::FromHexError;
 use serde_json::Value;
 use slh_params::ParamSet;
 use std::alloc::Global;
 
+/// A member of test `n`.
 fn member<'v>(n: u64, name: Member, test: &'v Value) -> Result<&'v Value, VectorFault>
     ensures { Gives (λ v. view v.now) result (member_in n name (view test.now)) }
 {
@@ -25,6 +24,7 @@ fn member<'v>(n: u64, name: Member, test: &'v Value) -> Result<&'v Value, Vector
     }
 }
 
+/// The text of a member.
 fn text<'v>(n: u64, name: Member, test: &'v Value) -> Result<&'v str, VectorFault>
     ensures { Gives (λ s. s.now) result (text_in n name (view test.now)) }
 {
@@ -37,7 +37,8 @@ fn text<'v>(n: u64, name: Member, test: &'v Value) -> Result<&'v str, VectorFaul
     }
 }
 
-pub fn truth(n: u64, name: Member, test: &Value) -> Result<bool, VectorFault>
+/// The truth value of a member.
+pub(crate) fn truth(n: u64, name: Member, test: &Value) -> Result<bool, VectorFault>
     ensures { Gives (λ b. b) result (bool_in n name (view test.now)) }
 {
     match member(n, name, test)?.as_bool() {
@@ -49,8 +50,9 @@ pub fn truth(n: u64, name: Member, test: &Value) -> Result<bool, VectorFault>
     }
 }
 
+/// The bytes of a member that is a hexadecimal text.
 #[tactic(auto, unfolding(crate::specs::Reading::hex_in))]
-pub fn hex_bytes(alloc: Global, n: u64, name: Member, test: &Value) -> Result<Vec<u8>, VectorFault>
+pub(crate) fn hex_bytes(alloc: Global, n: u64, name: Member, test: &Value) -> Result<Vec<u8>, VectorFault>
     ensures { Gives (λ v. v.items) result (hex_in n name (view test.now)) }
 {
     let digits = text(n, name, test)?;
@@ -64,8 +66,9 @@ pub fn hex_bytes(alloc: Global, n: u64, name: Member, test: &Value) -> Result<Ve
     }
 }
 
+/// The same, of so many bytes.
 #[tactic(auto, unfolding(crate::specs::Reading::bytes_in))]
-pub fn bytes(
+pub(crate) fn bytes(
     alloc: Global,
     n: u64,
     name: Member,
@@ -86,8 +89,9 @@ pub fn bytes(
     }
 }
 
+/// The member `kind`.
 #[tactic(auto, unfolding(crate::specs::Reading::kind_in))]
-pub fn kind(n: u64, test: &Value) -> Result<Kind, VectorFault>
+pub(crate) fn kind(n: u64, test: &Value) -> Result<Kind, VectorFault>
     ensures { Gives (λ k. k) result (kind_in n (view test.now)) }
 {
     match kind_named(text(n, Member::Kind, test)?) {
@@ -99,8 +103,9 @@ pub fn kind(n: u64, test: &Value) -> Result<Kind, VectorFault>
     }
 }
 
+/// The member `set`.
 #[tactic(auto, unfolding(crate::specs::Reading::set_in))]
-pub fn set(n: u64, test: &Value) -> Result<ParamSet, VectorFault>
+pub(crate) fn set(n: u64, test: &Value) -> Result<ParamSet, VectorFault>
     ensures { Gives (λ s. s) result (set_in n (view test.now)) }
 {
     match set_named(text(n, Member::Set, test)?) {
@@ -112,8 +117,9 @@ pub fn set(n: u64, test: &Value) -> Result<ParamSet, VectorFault>
     }
 }
 
+/// The member `form`.
 #[tactic(auto, unfolding(crate::specs::Reading::form_in))]
-pub fn form(n: u64, test: &Value) -> Result<Form, VectorFault>
+pub(crate) fn form(n: u64, test: &Value) -> Result<Form, VectorFault>
     ensures { Gives (λ f. f) result (form_in n (view test.now)) }
 {
     match form_named(text(n, Member::Form, test)?) {
@@ -125,8 +131,9 @@ pub fn form(n: u64, test: &Value) -> Result<Form, VectorFault>
     }
 }
 
+/// The member `context`. A message that is signed as it is has none.
 #[tactic(auto, unfolding(crate::specs::Reading::context_in))]
-pub fn context(alloc: Global, n: u64, form: Form, test: &Value) -> Result<Vec<u8>, VectorFault>
+pub(crate) fn context(alloc: Global, n: u64, form: Form, test: &Value) -> Result<Vec<u8>, VectorFault>
     ensures { Gives (λ v. v.items) result (context_in n form (view test.now)) }
 {
     match form {
@@ -135,8 +142,9 @@ pub fn context(alloc: Global, n: u64, form: Form, test: &Value) -> Result<Vec<u8
     }
 }
 
+/// The member `random`: n bytes, or none.
 #[tactic(auto, unfolding(crate::specs::Reading::random_in))]
-pub fn random(alloc: Global, n: u64, set: ParamSet, test: &Value) -> Result<Vec<u8>, VectorFault>
+pub(crate) fn random(alloc: Global, n: u64, set: ParamSet, test: &Value) -> Result<Vec<u8>, VectorFault>
     ensures value { Gives (λ v. v.items) result (random_in n set (view test.now)) }
     ensures sized { IfOk result (λ v. (length v.items ≢ 0) → length v.items ≡ (params set).n) }
 {

@@ -1,5 +1,3 @@
-//! Reading the tests of a vector file.
-
 ghost use Rattle.std.specs.Prelude.{◌≡◌, ◌≤◌, ◌<◌, ◌^◌, List, length, IfOk, Ok};
 ghost use Rattle.slh_vectors.specs.Sizes.{AreSeeds};
 ghost use Rattle.slh_vectors.specs.Grammar.{IsVectorFile};
@@ -8,13 +6,14 @@ ghost use Rattle.slh_vectors.specs.Cases.{Case, seeds_view, input_view, keygen_v
 ghost use Rattle.slh_vectors.specs.Reading.{Gives, seeds_in, input_in, keygen_in, sign_in, verify_in, of_kind, test_in, tests_from, tests_in, json_of, or_fault};
 ghost use Rattle.slh_vectors.specs.declared.fault.VectorFault.TheVariants.{NotJson};
 
-use crate::fault::{Member, VectorFault};
-use crate::members::{bytes, context, form, hex_bytes, kind, random, set, truth};
-use crate::test::{Input, KeygenTest, Kind, Seeds, SignTest, Test, VerifyTest};
+use super::fault::{Member, VectorFault};
+use super::members::{bytes, context, form, hex_bytes, kind, random, set, truth};
+use super::test::{Input, KeygenTest, Kind, Seeds, SignTest, Test, VerifyTest};
 use serde_json::Value;
 use slh_params::ParamSet;
 use std::alloc::Global;
 
+/// The seeds of a keygen test.
 #[tactic(auto, unfolding(crate::specs::Reading::seeds_in))]
 fn seeds(alloc: Global, n: u64, set: ParamSet, test: &Value) -> Result<Seeds, VectorFault>
     ensures value { Gives seeds_view result (seeds_in n set (view test.now)) }
@@ -30,6 +29,7 @@ fn seeds(alloc: Global, n: u64, set: ParamSet, test: &Value) -> Result<Seeds, Ve
     })
 }
 
+/// What a sign or verify test signs.
 #[tactic(auto, unfolding(crate::specs::Reading::input_in))]
 fn input(alloc: Global, n: u64, test: &Value) -> Result<Input, VectorFault>
     ensures { Gives input_view result (input_in n (view test.now)) }
@@ -44,6 +44,7 @@ fn input(alloc: Global, n: u64, test: &Value) -> Result<Input, VectorFault>
     })
 }
 
+/// The members of a keygen test after `kind` and `set`.
 #[tactic(auto, unfolding(crate::specs::Reading::keygen_in))]
 fn keygen(alloc: Global, n: u64, set: ParamSet, test: &Value) -> Result<KeygenTest, VectorFault>
     ensures { Gives keygen_view result (keygen_in n set (view test.now)) }
@@ -54,6 +55,7 @@ fn keygen(alloc: Global, n: u64, set: ParamSet, test: &Value) -> Result<KeygenTe
     Ok(KeygenTest { set, seeds, sk, pk })
 }
 
+/// Those of a sign test.
 #[tactic(auto, unfolding(crate::specs::Reading::sign_in))]
 fn sign(alloc: Global, n: u64, set: ParamSet, test: &Value) -> Result<SignTest, VectorFault>
     ensures { Gives sign_view result (sign_in n set (view test.now)) }
@@ -71,6 +73,7 @@ fn sign(alloc: Global, n: u64, set: ParamSet, test: &Value) -> Result<SignTest, 
     })
 }
 
+/// Those of a verify test.
 #[tactic(auto, unfolding(crate::specs::Reading::verify_in))]
 fn verify(alloc: Global, n: u64, set: ParamSet, test: &Value) -> Result<VerifyTest, VectorFault>
     ensures { Gives verify_view result (verify_in n set (view test.now)) }
@@ -88,6 +91,7 @@ fn verify(alloc: Global, n: u64, set: ParamSet, test: &Value) -> Result<VerifyTe
     })
 }
 
+/// Test `n`, whose kind and set are known.
 #[tactic(auto, unfolding(crate::specs::Reading::of_kind))]
 fn test_of_kind(
     alloc: Global,
@@ -105,7 +109,7 @@ fn test_of_kind(
     }
 }
 
-/// Test n.
+/// Test `n`, counted from 1.
 #[tactic(auto, unfolding(crate::specs::Reading::test_in))]
 fn test(alloc: Global, n: u64, test: &Value) -> Result<Test, VectorFault>
     ensures { Gives test_view result (test_in n (view test.now)) }
@@ -115,7 +119,7 @@ fn test(alloc: Global, n: u64, test: &Value) -> Result<Test, VectorFault>
     test_of_kind(alloc, n, kind, set, test)
 }
 
-/// The tests of a list.
+/// The tests of a list, in its order.
 fn tests(alloc: Global, list: &[Value]) -> Result<Vec<Test>, VectorFault>
     ensures { Gives (λ ts. views ts.items) result (tests_from 1 (items_view list.now)) }
 {
@@ -142,6 +146,7 @@ fn json(alloc: Global, bytes: &[u8]) -> Result<Value, VectorFault>
     }
 }
 
+/// The tests of a file.
 #[tactic(auto, unfolding(crate::specs::Reading::tests_in))]
 fn tests_of_file(alloc: Global, bytes: &[u8]) -> Result<Vec<Test>, VectorFault>
     ensures { Gives (λ ts. views ts.items) result (tests_in bytes.now) }
@@ -153,11 +158,13 @@ fn tests_of_file(alloc: Global, bytes: &[u8]) -> Result<Vec<Test>, VectorFault>
     }
 }
 
-/// The tests of a vector file, or its first fault.
+/// The tests of a vector file, in its order. Refused with the first fault: the file is no JSON, then it is no list,
+/// then, test by test, a member that is missing or not as stated, the members being judged in the order of `Member`;
+/// or for want of memory, at the step that meets it.
 pub fn read_vectors(alloc: Global, bytes: &[u8]) -> Result<Vec<Test>, VectorFault>
-    // What is read is the file's list of tests.
+    // What is read are the tests of the file.
     ensures found { IfOk result (λ ts. IsVectorFile bytes.now (views ts.items)) }
-    // A list of tests is read, unless memory runs out.
+    // A file of tests is read, unless memory runs out.
     ensures only { (cs : List Case) → IsVectorFile bytes.now cs → Gives (λ ts. views ts.items) result (Ok cs) }
     // Which fault it is.
     ensures exact { Gives (λ ts. views ts.items) result (tests_in bytes.now) }

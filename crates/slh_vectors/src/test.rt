@@ -1,5 +1,3 @@
-//! The tests of a vector file.
-
 ghost use Rattle.std.specs.Prelude.{◌≡◌, ◌*◌, ◌≢◌, length};
 ghost use Rattle.slh_params.specs.ParamSet.{params};
 ghost use Rattle.slh_vectors.specs.Sizes.{AreSeeds};
@@ -7,22 +5,29 @@ ghost use Rattle.slh_vectors.specs.Sizes.{AreSeeds};
 use slh_core::PreHash;
 use slh_params::ParamSet;
 
-/// What a test is of.
+/// What is tested.
 #[derive(Clone, Copy, Debug, PartialEq, Eq)]
 pub enum Kind {
+    /// Key generation.
     Keygen,
+    /// Signing.
     Sign,
+    /// Verifying.
     Verify,
 }
 
-/// How the message is taken.
+/// How M' is made of the message.
 #[derive(Clone, Copy, Debug, PartialEq, Eq)]
 pub enum Form {
+    /// The message is M' itself (FIPS 205, Algorithms 19 and 20).
     Internal,
+    /// The pure form (Algorithms 22 and 24).
     Pure,
+    /// The pre-hash form with this function (Algorithms 23 and 25).
     PreHash(PreHash),
 }
 
+/// The seeds of a key, n bytes each.
 #[derive(Debug, Drop)]
 pub struct Seeds {
     pub sk_seed: Vec<u8>,
@@ -38,6 +43,7 @@ pub struct Input {
     pub context: Vec<u8>,
 }
 
+/// A test of key generation: these seeds give these keys, of 4n and 2n bytes.
 #[derive(Debug, Drop)]
 pub struct KeygenTest {
     pub set: ParamSet,
@@ -49,7 +55,8 @@ pub struct KeygenTest {
     pub ghost pk_sized: { length pk.items ≡ 2 * (params set).n },
 }
 
-/// No random bytes stand for the deterministic variant.
+/// A test of signing: the input has this signature under a key of 4n bytes and n random bytes. No random bytes stand
+/// for the deterministic variant.
 #[derive(Debug, Drop)]
 pub struct SignTest {
     pub set: ParamSet,
@@ -61,6 +68,7 @@ pub struct SignTest {
     pub ghost random_sized: { (length random.items ≢ 0) → length random.items ≡ (params set).n },
 }
 
+/// A test of verifying: whether this is a valid signature of the input under a key of 2n bytes.
 #[derive(Debug, Drop)]
 pub struct VerifyTest {
     pub set: ParamSet,
@@ -71,6 +79,7 @@ pub struct VerifyTest {
     pub ghost pk_sized: { length pk.items ≡ 2 * (params set).n },
 }
 
+/// A test of a vector file.
 #[derive(Debug, Drop)]
 pub enum Test {
     Keygen(KeygenTest),
