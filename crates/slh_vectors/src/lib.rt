@@ -19,3 +19,5 @@ mod reading;
 mod running;
 mod runs;
 mod test;
+#[cfg(test)]
+mod tests;
