@@ -1,8 +1,9 @@
 -- The command line of the program, as what a parse of `clap` reads of its command.
-use Rattle.std.specs.Prelude.{◌≡◌, true, false, List, [], ◌∷◌, ◌++◌, Some, codes}
+use Rattle.std.specs.Prelude.{◌≡◌, true, false, List, [], ◌∷◌, ◌++◌, Some, codes, pos}
 use Rattle.clap.specs.Words.{App, Rule, Shape, Text, new_app, new_rule, shape_of, with_subcommand}
 use Rattle.clap.specs.Simple.{new_shape, on_top}
 use Rattle.clap.specs.declared.Command.{Command}
+use Rattle.clap.specs.declared.builder.value_parser.ValueParser.TheVariants as parsers
 use Rattle.clap.specs.declared.Command.TheViews.{out-Command as fields_of}
 
 -- an option with one value, which help gives a name
@@ -12,6 +13,10 @@ optional name = record (new_rule name) { long = Some name; value_names = 1 }
 -- the same, and the words must give it
 abbrev pub required : Text → Rule
 required name = record (optional name) { required = true }
+
+-- the number of workers, from 1 to 64, and 1 where the option is left out
+abbrev pub workers_rule : Rule
+workers_rule = record (optional (codes "workers")) { parser = Some (parsers.Signed (pos 1) (pos 64)); defaults = codes "1" ∷ [] }
 
 -- a subcommand with its options
 abbrev pub subcommand : Text → List Rule → Shape
@@ -45,6 +50,9 @@ verify_shape = subcommand (codes "verify") (message_rules ++ form_rules ++ requi
 abbrev pub check_shape : Shape
 check_shape = subcommand (codes "check") (required (codes "key") ∷ [])
 
+abbrev pub vectors_shape : Shape
+vectors_shape = subcommand (codes "vectors") (required (codes "file") ∷ workers_rule ∷ [])
+
 abbrev pub HasNoGlobals : Command → Type 0
 HasNoGlobals c = (fields_of c).has_globals ≡ false
 
@@ -77,6 +85,10 @@ seed_app = with_subcommands no_command (params_shape ∷ root_shape ∷ keygen_s
 abbrev pub message_app : App
 message_app = with_subcommands seed_app (public_shape ∷ sign_shape ∷ [])
 
+-- all the commands on key files
+abbrev pub key_app : App
+key_app = with_subcommands message_app (verify_shape ∷ check_shape ∷ [])
+
 -- the whole program
 abbrev pub slh_app : App
-slh_app = with_subcommands message_app (verify_shape ∷ check_shape ∷ [])
+slh_app = with_subcommands key_app (vectors_shape ∷ [])

@@ -3,9 +3,10 @@
 
 ghost use Rattle.std.specs.Prelude.{◌≡◌, false, [], IfOk};
 ghost use Rattle.clap.specs.Words.{app_of, rule_of};
-ghost use Rattle.slh_arguments.specs.Command.{AddsOptions, CommandIs, HasNoGlobals, form_rules, message_rules, no_command, optional, required, subcommand};
-ghost use Rattle.slh_arguments.specs.Command.{check_shape, keygen_shape, message_app, params_shape, public_shape, root_shape, seed_app, sign_shape, slh_app, verify_shape};
+ghost use Rattle.slh_arguments.specs.Command.{AddsOptions, CommandIs, HasNoGlobals, form_rules, message_rules, no_command, optional, required, subcommand, workers_rule};
+ghost use Rattle.slh_arguments.specs.Command.{check_shape, key_app, keygen_shape, message_app, params_shape, public_shape, root_shape, seed_app, sign_shape, slh_app, vectors_shape, verify_shape};
 
+use clap::builder::ValueParser;
 use clap::{Arg, Command};
 use std::alloc::{AllocError, Global};
 
@@ -26,6 +27,16 @@ fn required<'a>(alloc: Global, name: &'a str, value: &'a str, help: &'a str) -> 
     ensures local { result.global ≡ false }
 {
     optional(alloc, name, value, help).required(true)
+}
+
+/// The option on the number of workers.
+fn workers<'a>(alloc: Global) -> Arg<'a>
+    ensures rule { rule_of result ≡ workers_rule }
+    ensures local { result.global ≡ false }
+{
+    optional(alloc, "workers", "N", "The number of workers, 1 to 64")
+        .value_parser(ValueParser::Signed(1, 64))
+        .default_value("1")
 }
 
 /// A subcommand with no options so far, what it is for and an example of it.
@@ -157,6 +168,19 @@ fn verify_command<'a>(alloc: Global) -> Result<Command<'a>, AllocError>
     with_form(alloc, command)?.arg(required(alloc, "signature", "FILE", "The raw signature"))
 }
 
+fn vectors_command<'a>(alloc: Global) -> Result<Command<'a>, AllocError>
+    ensures { IfOk result (CommandIs vectors_shape) }
+{
+    subcommand(
+        alloc,
+        "vectors",
+        "Runs the tests of a vector file and reports on them",
+        "Example: slh vectors --file vectors/smoke-128f.json",
+    )
+    .arg(required(alloc, "file", "FILE", "A vector file"))?
+    .arg(workers(alloc))
+}
+
 /// The program with no subcommand so far.
 fn no_command<'a>(alloc: Global) -> Command<'a>
     ensures { app_of result ≡ no_command }
@@ -185,11 +209,18 @@ fn message_commands<'a>(alloc: Global) -> Result<Command<'a>, AllocError>
         .subcommand(sign_command(alloc)?)
 }
 
-/// The program `slh` with its subcommands.
-pub fn slh_command<'a>(alloc: Global) -> Result<Command<'a>, AllocError>
-    ensures { IfOk result (λ c. app_of c ≡ slh_app) }
+/// The program with all commands on key files.
+fn key_commands<'a>(alloc: Global) -> Result<Command<'a>, AllocError>
+    ensures { IfOk result (λ c. app_of c ≡ key_app) }
 {
     message_commands(alloc)?
         .subcommand(verify_command(alloc)?)?
         .subcommand(check_command(alloc)?)
+}
+
+/// The program `slh` with its subcommands.
+pub fn slh_command<'a>(alloc: Global) -> Result<Command<'a>, AllocError>
+    ensures { IfOk result (λ c. app_of c ≡ slh_app) }
+{
+    key_commands(alloc)?.subcommand(vectors_command(alloc)?)
 }

@@ -42,3 +42,7 @@ HasPart (Some whole) at part = part ≡ take (length part) (drop at whole)
 abbrev pub EndsBy : Option (List ℕ) → ℕ → Type 0
 EndsBy None at = ⊤
 EndsBy (Some whole) at = length whole ≤ at
+
+-- a text was put, or a front of it where a write failed
+abbrev pub Puts : {T E : Type 0} → Option (List ℕ) → Option (List ℕ) → Result T E → List ℕ → Type 0
+Puts old new r text = MatchResult r (λ _. Appends old new text) (λ _. LetsThrough old new text)

@@ -6,9 +6,11 @@ pub use disk::Disk;
 pub use files::Files;
 pub use sink::{Sink, WriteFault, Writer, put_all};
 pub use source::{FetchFault, Reader, Source, take_up_to};
+pub use text::{put_number, put_text, put_two};
 
 mod disk;
 mod files;
 mod retry;
 mod sink;
 mod source;
+mod text;

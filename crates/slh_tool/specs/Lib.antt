@@ -5,5 +5,6 @@ pub mod Reading
 pub mod Seeds
 pub mod Options
 pub mod Keys
+pub mod TestRuns
 pub mod Replies
 pub mod Runs

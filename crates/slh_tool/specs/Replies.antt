@@ -17,6 +17,7 @@ use Rattle.slh_tool.specs.Requests.{Asked, SignOptions, VerifyOptions}
 use Rattle.slh_tool.specs.Requests as requests
 use Rattle.slh_tool.specs.Seeds.{seeds_limit}
 use Rattle.slh_tool.specs.Sets.{lines, set_named, sets}
+use Rattle.slh_tool.specs.TestRuns.{RefusesVectors, RunsVectors}
 use Rattle.slh_tool.specs.declared.fault.Fault.{Fault}
 use Rattle.slh_tool.specs.declared.fault.Fault.TheVariants.{BadOption, ContextTooLong, NoMemory, UnknownSet}
 
@@ -134,6 +135,7 @@ IsReply (requests.public path) files old new status text = (status ≡ 0) × Wri
 IsReply (requests.check path) files old new status text = ChecksKey path files status text
 IsReply (requests.sign options) files old new status text = (status ≡ 0) × SignsMessage options files text
 IsReply (requests.verify options) files old new status text = VerifiesMessage options files status text
+IsReply (requests.vectors path) files old new status text = RunsVectors path files status text
 
 -- a command's refusal, which has its cause, by the states of the files and of the input before and after
 abbrev pub IsRefusal : Asked → FilesState → FilesState → SourceState → SourceState → Fault → Type 0
@@ -144,6 +146,7 @@ IsRefusal (requests.public path) before after old new fault = RefusesKey Secret 
 IsRefusal (requests.check path) before after old new fault = RefusesKey Secret before after path fault
 IsRefusal (requests.sign options) before after old new fault = RefusesSign options before after fault
 IsRefusal (requests.verify options) before after old new fault = RefusesVerify options before after fault
+IsRefusal (requests.vectors path) before after old new fault = RefusesVectors path before after fault
 
 -- so many bytes of the input a command takes at most
 abbrev pub limit_of_set : Option ParamSet → ℕ

@@ -40,6 +40,7 @@ pub data Asked : Type 0 where
   check : Text → Asked
   sign : SignOptions → Asked
   verify : VerifyOptions → Asked
+  vectors : Text → Asked
 
 abbrev pub form_asked : FormWords → FormOptions
 form_asked words = record { context = option_map (λ s. s.now) words.context; prehash = option_map (λ s. s.now) words.prehash }
@@ -58,6 +59,7 @@ asked (request.Public path) = public path.now
 asked (request.Check path) = check path.now
 asked (request.Sign words) = sign (sign_asked words)
 asked (request.Verify words) = verify (verify_asked words)
+asked (request.Vectors path) = vectors path.now
 
 -- what subcommands ask for, by the rows of their values
 abbrev pub form_in : List Row → FormOptions
@@ -71,14 +73,15 @@ abbrev pub verify_in : List Row → Option Asked
 verify_in rows = option_and_then (λ key. option_and_then (λ message. option_map (λ signature. verify (record { key = key; message = message; signature = signature; form = form_in rows }))
     (first_of (codes "signature") rows)) (first_of (codes "message") rows)) (first_of (codes "key") rows)
 
--- the commands on a key file
-abbrev pub asked_of_key : Text → List Row → Option Asked
-asked_of_key name rows =
+-- the commands on a file
+abbrev pub asked_of_file : Text → List Row → Option Asked
+asked_of_file name rows =
     if bytes_eq name (codes "public") then option_map public (first_of (codes "key") rows)
     else (if bytes_eq name (codes "check") then option_map check (first_of (codes "key") rows)
     else (if bytes_eq name (codes "sign") then sign_in rows
     else (if bytes_eq name (codes "verify") then verify_in rows
-    else None)))
+    else (if bytes_eq name (codes "vectors") then option_map vectors (first_of (codes "file") rows)
+    else None))))
 
 -- a subcommand, by its name and the rows of its values
 abbrev pub asked_in : Text → List Row → Option Asked
@@ -86,7 +89,7 @@ asked_in name rows =
     if bytes_eq name (codes "params") then Some (params (first_of (codes "set") rows))
     else (if bytes_eq name (codes "root") then option_map root (first_of (codes "set") rows)
     else (if bytes_eq name (codes "keygen") then option_map keygen (first_of (codes "set") rows)
-    else asked_of_key name rows))
+    else asked_of_file name rows))
 
 abbrev pub asked_by : Option (Text × List Row) → Option Asked
 asked_by None = Some (params None)

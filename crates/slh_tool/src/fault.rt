@@ -1,8 +1,9 @@
 ghost use Rattle.std.specs.Prelude.{◌≡◌};
-ghost use Rattle.slh_tool.specs.Faults.{line, name, number, of_file};
+ghost use Rattle.slh_tool.specs.Faults.{head, name, number, of_file, of_vectors};
 ghost use Rattle.slh_tool.specs.declared.fault.Fault.TheVariants.{NoMemory};
 
 use slh_files::FileFault;
+use slh_vectors::{Member, VectorFault};
 use std::alloc::AllocError;
 use thiserror::Error;
 
@@ -23,6 +24,14 @@ pub enum Fault {
     BadKeyLength,
     #[error("bytes follow the key")]
     TrailingBytes,
+    #[error("the vector file is no JSON")]
+    NotJson,
+    #[error("the vector file is no list")]
+    NotAList,
+    #[error("a test of the vector file lacks a member")]
+    Missing { test: u64, member: Member },
+    #[error("a member of a test of the vector file is not as stated")]
+    Bad { test: u64, member: Member },
     #[error("the words are no command of the program")]
     BadWords,
     #[error("a file or the standard input could not be read")]
@@ -50,6 +59,10 @@ impl Fault {
             Fault::BadHex => 13,
             Fault::BadKeyLength => 14,
             Fault::TrailingBytes => 15,
+            Fault::NotJson => 21,
+            Fault::NotAList => 22,
+            Fault::Missing { .. } => 23,
+            Fault::Bad { .. } => 24,
             Fault::BadWords => 31,
             Fault::ReadFailed => 32,
             Fault::WriteFailed => 33,
@@ -71,6 +84,10 @@ impl Fault {
             Fault::BadHex => "BadHex",
             Fault::BadKeyLength => "BadKeyLength",
             Fault::TrailingBytes => "TrailingBytes",
+            Fault::NotJson => "NotJson",
+            Fault::NotAList => "NotAList",
+            Fault::Missing { .. } => "Missing",
+            Fault::Bad { .. } => "Bad",
             Fault::BadWords => "BadWords",
             Fault::ReadFailed => "ReadFailed",
             Fault::WriteFailed => "WriteFailed",
@@ -80,25 +97,29 @@ impl Fault {
         }
     }
 
-    /// The line that the standard error is told. It is a constant, since a refusal for want of memory has none
+    /// The program's name, the number and the name. It is a constant, since a refusal for want of memory has none
     /// to write with.
-    pub(crate) fn line(&self) -> &'static str
-        ensures { result.now ≡ line self.now }
+    pub(crate) fn head(&self) -> &'static str
+        ensures { result.now ≡ head self.now }
     {
         match self {
-            Fault::NoMemory => "slh: 1 NoMemory\n",
-            Fault::ContextTooLong => "slh: 2 ContextTooLong\n",
-            Fault::NotAKeyFile => "slh: 11 NotAKeyFile\n",
-            Fault::UnknownSet => "slh: 12 UnknownSet\n",
-            Fault::BadHex => "slh: 13 BadHex\n",
-            Fault::BadKeyLength => "slh: 14 BadKeyLength\n",
-            Fault::TrailingBytes => "slh: 15 TrailingBytes\n",
-            Fault::BadWords => "slh: 31 BadWords\n",
-            Fault::ReadFailed => "slh: 32 ReadFailed\n",
-            Fault::WriteFailed => "slh: 33 WriteFailed\n",
-            Fault::BadSeeds => "slh: 34 BadSeeds\n",
-            Fault::BadOption => "slh: 35 BadOption\n",
-            Fault::FileTooLong => "slh: 36 FileTooLong\n",
+            Fault::NoMemory => "slh: 1 NoMemory",
+            Fault::ContextTooLong => "slh: 2 ContextTooLong",
+            Fault::NotAKeyFile => "slh: 11 NotAKeyFile",
+            Fault::UnknownSet => "slh: 12 UnknownSet",
+            Fault::BadHex => "slh: 13 BadHex",
+            Fault::BadKeyLength => "slh: 14 BadKeyLength",
+            Fault::TrailingBytes => "slh: 15 TrailingBytes",
+            Fault::NotJson => "slh: 21 NotJson",
+            Fault::NotAList => "slh: 22 NotAList",
+            Fault::Missing { .. } => "slh: 23 Missing",
+            Fault::Bad { .. } => "slh: 24 Bad",
+            Fault::BadWords => "slh: 31 BadWords",
+            Fault::ReadFailed => "slh: 32 ReadFailed",
+            Fault::WriteFailed => "slh: 33 WriteFailed",
+            Fault::BadSeeds => "slh: 34 BadSeeds",
+            Fault::BadOption => "slh: 35 BadOption",
+            Fault::FileTooLong => "slh: 36 FileTooLong",
         }
     }
 }
@@ -122,6 +143,20 @@ impl From<FileFault> for Fault {
             FileFault::BadHex => Fault::BadHex,
             FileFault::BadKeyLength => Fault::BadKeyLength,
             FileFault::TrailingBytes => Fault::TrailingBytes,
+        }
+    }
+}
+
+impl From<VectorFault> for Fault {
+    ghost from_gives = { λ fault e. e ≡ of_vectors fault };
+
+    fn from(fault: VectorFault) -> Fault {
+        match fault {
+            VectorFault::NoMemory => Fault::NoMemory,
+            VectorFault::NotJson => Fault::NotJson,
+            VectorFault::NotAList => Fault::NotAList,
+            VectorFault::Missing { test, member } => Fault::Missing { test, member },
+            VectorFault::Bad { test, member } => Fault::Bad { test, member },
         }
     }
 }

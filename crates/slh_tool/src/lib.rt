@@ -16,6 +16,8 @@ mod request;
 mod seeds;
 mod set;
 mod sign;
+mod tell;
 #[cfg(test)]
 mod tests;
+mod vectors;
 mod verify;

@@ -17,14 +17,16 @@ use super::params::{all_sets, named_set};
 use super::reply::Reply;
 use super::request::{Refusal, Request, parsed};
 use super::sign::sign_file;
+use super::tell::tell;
+use super::vectors::run_file;
 use super::verify::verify_file;
 use slh_devices::{Files, Sink, Source, put_all};
 use std::alloc::{AllocError, Allocator, Global};
 
-/// Runs the command of the words after the program's name, and gives the exit status: 0 for done, valid or
-/// consistent, 1 for invalid or inconsistent, 2 for refused.
+/// Runs the command of the words after the program's name, and gives the exit status: 0 for done, valid,
+/// consistent or all tests passed, 1 for invalid, inconsistent or a failed test, 2 for refused.
 ///
-/// `clap` takes its memory from the runtime, and all else takes it from `alloc`.
+/// `clap` and `serde_json` take their memory from the runtime, and all else takes it from `alloc`.
 pub fn command<R: AllocGlobal, A: Allocator + Clone, F: Files, S: Source, O: Sink, E: Sink>(
     rt: &R,
     alloc: A,
@@ -65,7 +67,7 @@ pub fn refuse<E: Sink>(errors: &mut E, fault: Fault) -> u8
     ensures status { result ≡ 2 }
     ensures told { IsTold (E.state errors.old) (E.state errors.new) (line fault) }
 {
-    let _ = put_all(errors, fault.line().as_bytes());
+    let _ = tell(errors, fault);
     2
 }
 
@@ -83,7 +85,7 @@ fn respond<R: AllocGlobal, A: Allocator + Clone, F: Files, S: Source>(
         (input_limit (asked_by (subcommand_of slh_app (map string_bytes words.now)))) }
 {
     match parsed(rt.alloc(), words) {
-        Ok(request) => run(alloc, request, files, input),
+        Ok(request) => run(rt.alloc(), alloc, request, files, input),
         Err(Refusal::Help(error)) => Ok(help(rt.alloc(), alloc, &error)?),
         Err(Refusal::BadWords) => Err(Fault::BadWords),
         Err(Refusal::NoMemory) => Err(Fault::NoMemory),
@@ -100,6 +102,7 @@ fn help<A: Allocator>(global: Global, alloc: A, error: &clap::Error) -> Result<R
 
 /// The answer to a request, or the refusal.
 fn run<A: Allocator + Clone, F: Files, S: Source>(
+    global: Global,
     alloc: A,
     request: Request<'_>,
     files: &mut F,
@@ -118,5 +121,6 @@ fn run<A: Allocator + Clone, F: Files, S: Source>(
         Request::Check(path) => check(alloc, path, files),
         Request::Sign(words) => Ok(Reply::done(sign_file(alloc, words, files)?)),
         Request::Verify(words) => verify_file(alloc, words, files),
+        Request::Vectors(path) => run_file(global, alloc, path, files),
     }
 }

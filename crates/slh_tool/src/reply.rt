@@ -3,8 +3,8 @@ ghost use Rattle.slh_tool.specs.Replies.{IsVerdict};
 
 use std::alloc::{AllocError, Allocator};
 
-/// What a command writes to the standard output, and its exit status: 0 for done, valid or consistent, 1 for
-/// invalid or inconsistent.
+/// What a command writes to the standard output, and its exit status: 0 for done, valid, consistent or all
+/// tests passed, 1 for invalid, inconsistent or a failed test.
 #[derive(Drop)]
 pub(crate) struct Reply<A: Allocator> {
     pub(crate) status: u8,

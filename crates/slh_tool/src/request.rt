@@ -1,6 +1,6 @@
 ghost use Rattle.std.specs.Prelude.{◌≡◌, Some, option_map, map, IfOk, IfErr, string_bytes};
 ghost use Rattle.clap.specs.Words.{first_of, found_of, rows_of, subcommand_rows_of};
-ghost use Rattle.slh_tool.specs.Requests.{Asks, IsGround, asked, asked_by, asked_in, asked_of_key, form_asked, form_in, sign_in, verify_in};
+ghost use Rattle.slh_tool.specs.Requests.{Asks, IsGround, asked, asked_by, asked_in, asked_of_file, form_asked, form_in, sign_in, verify_in};
 
 use clap::ArgMatches;
 use clap::error::ErrorKind;
@@ -17,6 +17,7 @@ pub(crate) enum Request<'a> {
     Check(&'a str),
     Sign(SignWords<'a>),
     Verify(VerifyWords<'a>),
+    Vectors(&'a str),
 }
 
 /// The options on the form in which a message is signed.
@@ -93,13 +94,13 @@ fn request_in<'a>(name: &str, values: &ArgMatches<'a>) -> Option<Request<'a>>
     } else if name == "keygen" {
         Some(Request::Keygen(value(values, "set")?))
     } else {
-        request_of_key(name, values)
+        request_of_file(name, values)
     }
 }
 
-/// The request of a subcommand on a key file.
-fn request_of_key<'a>(name: &str, values: &ArgMatches<'a>) -> Option<Request<'a>>
-    ensures { option_map asked result ≡ asked_of_key name.now (rows_of (found_of values.now)) }
+/// The request of a subcommand on a file.
+fn request_of_file<'a>(name: &str, values: &ArgMatches<'a>) -> Option<Request<'a>>
+    ensures { option_map asked result ≡ asked_of_file name.now (rows_of (found_of values.now)) }
 {
     if name == "public" {
         Some(Request::Public(value(values, "key")?))
@@ -109,6 +110,8 @@ fn request_of_key<'a>(name: &str, values: &ArgMatches<'a>) -> Option<Request<'a>
         sign_request(values)
     } else if name == "verify" {
         verify_request(values)
+    } else if name == "vectors" {
+        Some(Request::Vectors(value(values, "file")?))
     } else {
         None
     }

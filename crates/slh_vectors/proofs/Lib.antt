@@ -1,0 +1,8 @@
+pub mod AllOutcomes
+pub mod FoundTests
+pub mod Json
+pub mod Loop
+pub mod MemberLaws
+pub mod NameLaws
+pub mod PutLines
+pub mod ReadAgain
