@@ -16,6 +16,4 @@ mod request;
 mod seeds;
 mod set;
 mod sign;
-#[cfg(test)]
-mod tests;
 mod verify;
