@@ -7,7 +7,7 @@ use slh_devices::{FetchFault, Files};
 /// number `fails_at`, counted from 1.
 #[derive(Drop)]
 pub struct Folder<'a> {
-    files: &'a [(&'a str, &'a [u8])],
+    pub files: &'a [(&'a str, &'a [u8])],
     fetches: u64,
     pub fails_at: u64,
     pub failures: u64,
@@ -16,7 +16,8 @@ pub struct Folder<'a> {
 impl<'a> Folder<'a> {
     /// These files, of which no fetch fails.
     pub fn new(files: &'a [(&'a str, &'a [u8])]) -> Folder<'a>
-        ensures { result.files ≡ files.entry }
+        ensures files { result.files ≡ files.entry }
+        ensures failures { result.failures ≡ 0 }
     {
         Folder {
             files,
