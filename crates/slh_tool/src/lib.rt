@@ -17,7 +17,5 @@ mod seeds;
 mod set;
 mod sign;
 mod tell;
-#[cfg(test)]
-mod tests;
 mod vectors;
 mod verify;

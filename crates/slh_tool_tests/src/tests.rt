@@ -6,9 +6,9 @@ mod messages;
 mod roots;
 mod words;
 
-use super::command;
-use devices::Folder;
+use crate::Folder;
 use slh_devices::{Files, Reader, Sink, Source, Writer};
+use slh_tool::command;
 use std::test::Fail;
 
 /// What a command answered.

@@ -1,7 +1,7 @@
 //! The words of commands, and `params`.
 use super::run;
-use crate::Fault;
 use slh_devices::Reader;
+use slh_tool::Fault;
 use std::test::Fail;
 
 const LAST_LINE: &[u8] =

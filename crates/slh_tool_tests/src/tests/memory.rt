@@ -2,9 +2,9 @@
 use super::devices::Folder;
 use super::messages::{SIGN, VERIFY, secret_key};
 use super::{Answer, words_of};
-use crate::command;
 use linked_list_allocator::LocalHeap;
 use slh_devices::{Reader, Writer};
+use slh_tool::command;
 use std::test::Fail;
 
 /// Runs a command with a budget of so many bytes.

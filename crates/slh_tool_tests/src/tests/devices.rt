@@ -1,47 +1,8 @@
-//! Files, inputs and outputs that fail, or that never end.
+//! A file and an input that never end, and an input and an output that fail.
 ghost use Rattle.std.specs.Prelude.{None};
 
+pub(super) use crate::Folder;
 use slh_devices::{FetchFault, Files, Sink, Source, WriteFault};
-
-/// Files by name. The fetch of number `fails_at`, counted from 1, fails, as does one of another name.
-#[derive(Drop)]
-pub(super) struct Folder<'a> {
-    files: &'a [(&'a str, &'a [u8])],
-    fetches: u64,
-    pub(super) fails_at: u64,
-    failures: u64,
-}
-
-impl<'a> Folder<'a> {
-    pub(super) fn new(files: &'a [(&'a str, &'a [u8])]) -> Folder<'a> {
-        Folder {
-            files,
-            fetches: 0,
-            fails_at: 0,
-            failures: 0,
-        }
-    }
-}
-
-impl Files for Folder<'_> {
-    ghost state = { λ s. record { bytes_at = λ _. None; failures = s.failures } };
-
-    fn fetch(&mut self, path: &str, at: u64, out: &mut [u8]) -> Result<usize, FetchFault> {
-        self.fetches = self.fetches.saturating_add(1);
-        if self.fetches != self.fails_at {
-            for (name, bytes) in self.files {
-                if *name == path {
-                    let from = (at as usize).min(bytes.len());
-                    let n = out.len().min(bytes.len() - from);
-                    out[..n].copy_from_slice(&bytes[from..from + n]);
-                    return Ok(n);
-                }
-            }
-        }
-        self.failures = self.failures.saturating_add(1);
-        Err(FetchFault)
-    }
-}
 
 /// A file of zeros that never ends, beside those of a folder.
 #[derive(Drop)]

@@ -1,0 +1,55 @@
+ghost use Rattle.std.specs.Prelude.{◌≡◌, option_map};
+ghost use Rattle.slh_tool_tests.specs.Folder.{bytes_in};
+
+use slh_devices::{FetchFault, Files};
+
+/// Files by name, whose bytes contracts know. A fetch of a name that no file has fails, and so does the fetch of
+/// number `fails_at`, counted from 1.
+#[derive(Drop)]
+pub struct Folder<'a> {
+    pub files: &'a [(&'a str, &'a [u8])],
+    fetches: u64,
+    pub fails_at: u64,
+    pub failures: u64,
+}
+
+impl<'a> Folder<'a> {
+    /// These files, of which no fetch fails.
+    pub fn new(files: &'a [(&'a str, &'a [u8])]) -> Folder<'a>
+        ensures files { result.files ≡ files.entry }
+        ensures failures { result.failures ≡ 0 }
+    {
+        Folder {
+            files,
+            fetches: 0,
+            fails_at: 0,
+            failures: 0,
+        }
+    }
+
+    /// The bytes of the first file of this name.
+    fn bytes_of(&self, path: &str) -> Option<&'a [u8]>
+        ensures { option_map (λ bytes. bytes.now) result ≡ bytes_in self.now.files.now path.now }
+    {
+        let (_, bytes) = self.files.iter().find(|(name, _)| *name == path)?;
+        Some(*bytes)
+    }
+}
+
+impl Files for Folder<'_> {
+    ghost state = { λ s. record { bytes_at = bytes_in s.files.now; failures = s.failures } };
+
+    fn fetch(&mut self, path: &str, at: u64, out: &mut [u8]) -> Result<usize, FetchFault> {
+        self.fetches = self.fetches.saturating_add(1);
+        if self.fetches != self.fails_at {
+            if let Some(bytes) = self.bytes_of(path) {
+                let from = (at as usize).min(bytes.len());
+                let n = out.len().min(bytes.len() - from);
+                out[..n].copy_from_slice(&bytes[from..from + n]);
+                return Ok(n);
+            }
+        }
+        self.failures = self.failures.saturating_add(1);
+        Err(FetchFault)
+    }
+}
