@@ -81,75 +81,42 @@ pub fn fors_sign(seeds: &Seeds, idx_tree: u64, idx_leaf: u32, md: &[u8], out: &m
     }
 }
 
-/// The root of tree `j` that a signature gives for leaf `i`.
-fn root_from(
-    public: &Public,
-    seeded: &SeededHash,
-    idx_tree: u64,
-    idx_leaf: u32,
-    j: u32,
-    i: u32,
-    sig: &[u8],
-) -> Node
-    requires state { IsSeeded seeded.now (params public.now.set) public.now.pk_seed.now }
-    requires tree { j < (params public.now.set).k }
-    requires leaf { i < 2 ^ (params public.now.set).a }
-    requires sig { length sig.now ≡ fors_part_len (params public.now.set) }
-    ensures value { let p = params public.now.set in let pk = public.now.pk_seed.now in
-        result.items ≡ climb_of (fors_tree p [] pk idx_tree idx_leaf j) i
-        (fors_leaf p pk idx_tree idx_leaf (j * 2 ^ p.a + i) (take p.n sig.now))
+/// The root of the tree that its part of a signature gives for leaf `i`.
+#[tactic(auto, unfolding(crate::specs::Trees::fors_tree_of))]
+fn root_from(seeded_tree: &SeededForsTree, i: u32, sig: &[u8]) -> Node
+    requires leaf { i < 2 ^ (params seeded_tree.now.tree.seeds.set).a }
+    requires sig { length sig.now ≡ fors_part_len (params seeded_tree.now.tree.seeds.set) }
+    requires state { IsSeeded seeded_tree.now.seeded.now (params seeded_tree.now.tree.seeds.set) seeded_tree.now.tree.seeds.pk_seed.now }
+    ensures value { let t = seeded_tree.now.tree in let p = params t.seeds.set in
+        let sk = t.seeds.sk_seed.now in let pk = t.seeds.pk_seed.now in
+        result.items ≡ climb_of (fors_tree p sk pk t.idx_tree t.idx_leaf t.tree_no) i
+        (fors_leaf p pk t.idx_tree t.idx_leaf (t.tree_no * 2 ^ p.a + i) (take p.n sig.now))
         (drop p.n sig.now) }
-    ensures len { length result.items ≡ (params public.now.set).n }
+    ensures len { length result.items ≡ (params seeded_tree.now.tree.seeds.set).n }
 {
-    let set = public.set;
-    let seeds = Seeds {
-        set,
-        sk_seed: &[],
-        pk_seed: public.pk_seed,
-    };
-    let (secret, auth) = sig.split_at(set.n());
-    let index = index_in_forest(j, set.a(), i);
-    let adrs = fors_adrs(idx_tree, idx_leaf, AdrsType::ForsTree, 0, index);
-    let leaf = seeded.f(&adrs, &node_of(secret));
-    climb(
-        &ForsTree::new(&seeds, idx_tree, idx_leaf, j),
-        i,
-        &leaf,
-        auth,
-    )
+    let tree = &seeded_tree.tree;
+    let (secret, auth) = sig.split_at(tree.seeds.set.n());
+    let index = index_in_forest(tree.tree_no, tree.seeds.set.a(), i);
+    let adrs = fors_adrs(tree.idx_tree, tree.idx_leaf, AdrsType::ForsTree, 0, index);
+    let leaf = seeded_tree.seeded.f(&adrs, &node_of(secret));
+    climb(seeded_tree, i, &leaf, auth)
 }
 
 /// The same, from the signatures of all trees.
-fn root_at(
-    public: &Public,
-    seeded: &SeededHash,
-    idx_tree: u64,
-    idx_leaf: u32,
-    j: u32,
-    i: u32,
-    sig: &[u8],
-) -> Node
-    requires state { IsSeeded seeded.now (params public.now.set) public.now.pk_seed.now }
-    requires tree { j < (params public.now.set).k }
-    requires leaf { i < 2 ^ (params public.now.set).a }
-    requires sig { let p = params public.now.set in
-        j * fors_part_len p + fors_part_len p ≤ length sig.now }
-    ensures { let p = params public.now.set in let pk = public.now.pk_seed.now in
-        let own = part (fors_part_len p) sig.now j in
-        result.items ≡ climb_of (fors_tree p [] pk idx_tree idx_leaf j) i
-        (fors_leaf p pk idx_tree idx_leaf (j * 2 ^ p.a + i) (take p.n own)) (drop p.n own) }
+fn root_at(seeded_tree: &SeededForsTree, i: u32, sig: &[u8]) -> Node
+    requires leaf { i < 2 ^ (params seeded_tree.now.tree.seeds.set).a }
+    requires sig { let t = seeded_tree.now.tree in let p = params t.seeds.set in
+        t.tree_no * fors_part_len p + fors_part_len p ≤ length sig.now }
+    requires state { IsSeeded seeded_tree.now.seeded.now (params seeded_tree.now.tree.seeds.set) seeded_tree.now.tree.seeds.pk_seed.now }
+    ensures { let t = seeded_tree.now.tree in let p = params t.seeds.set in
+        let sk = t.seeds.sk_seed.now in let pk = t.seeds.pk_seed.now in
+        let own = part (fors_part_len p) sig.now t.tree_no in
+        result.items ≡ climb_of (fors_tree p sk pk t.idx_tree t.idx_leaf t.tree_no) i
+        (fors_leaf p pk t.idx_tree t.idx_leaf (t.tree_no * 2 ^ p.a + i) (take p.n own)) (drop p.n own) }
 {
-    let size = fors_part_len(public.set);
-    let start = j as usize * size;
-    root_from(
-        public,
-        seeded,
-        idx_tree,
-        idx_leaf,
-        j,
-        i,
-        &sig[start..start + size],
-    )
+    let size = fors_part_len(seeded_tree.tree.seeds.set);
+    let start = seeded_tree.tree.tree_no as usize * size;
+    root_from(seeded_tree, i, &sig[start..start + size])
 }
 
 /// The public key that a signature of a digest of md_len bytes, of k * (1 + a) * n bytes itself,
@@ -169,12 +136,17 @@ pub fn fors_pk_from_sig(
     ensures len { length result.items ≡ (params public.now.set).n }
 {
     let indices = fors_indices(public.set, md);
+    let seeds = Seeds {
+        set: public.set,
+        sk_seed: &[],
+        pk_seed: public.pk_seed,
+    };
     let seeded = SeededHash::new(public.set, public.pk_seed);
+    let joins = SeededTreeHash::new(public.set, public.pk_seed);
     let mut roots = fors_roots(public, idx_tree, idx_leaf);
     for j in 0..public.set.k() {
-        let i = indices[j as usize];
-        let root = root_at(public, &seeded, idx_tree, idx_leaf, j, i, sig);
-        roots.absorb(&root);
+        let tree = SeededForsTree::new(&seeded, &joins, &seeds, idx_tree, idx_leaf, j);
+        roots.absorb(&root_at(&tree, indices[j as usize], sig));
     }
     roots.finish()
 }

@@ -9,7 +9,7 @@ ghost use Rattle.slh_few.specs.Fors.{fors_tree};
 
 use crate::fors_tree::SeededForsTree;
 use crate::place::Seeds;
-use crate::xmss::XmssTree;
+use crate::xmss::SeededXmssTree;
 use slh_hash::{SeededHash, SeededTreeHash};
 use slh_tree::{Cover, PathRec, hash_range};
 
@@ -34,7 +34,7 @@ pub fn xmss_range(seeds: &Seeds, layer: u8, tree: u64, lo: u32, hi: u32, rec: &m
     ensures kept { (j : ℕ) → (LiesInRange lo hi rec.old.leaf j → ⊥)
         → known rec.new j ≡ known rec.old j }
 {
-    hash_range(&XmssTree::new(seeds, layer, tree), lo, hi, rec)
+    hash_range(&SeededXmssTree::new(seeds, layer, tree), lo, hi, rec)
 }
 
 /// The same of FORS tree `tree_no` of the key at leaf `idx_leaf` of tree `idx_tree`. The hash states are made once.

@@ -1,15 +1,16 @@
 //! XMSS: a tree of WOTS+ keys (FIPS 205, section 6).
-ghost use Rattle.std.specs.Prelude.{◌≡◌, ◌+◌, ◌*◌, ◌^◌, ◌≤◌, ◌<◌, length};
+ghost use Rattle.std.specs.Prelude.{◌≡◌, ℕ, List, ◌+◌, ◌*◌, ◌^◌, ◌≤◌, ◌<◌, length};
 ghost use Rattle.slh_params.specs.AdrsType.{type_number};
 ghost use Rattle.slh_params.specs.Address.{address};
 ghost use Rattle.slh_params.specs.Params.{len};
 ghost use Rattle.slh_params.specs.ParamSet.{params};
+ghost use Rattle.slh_hash.specs.Stream.{IsSeededTree};
 ghost use Rattle.slh_tree.specs.Tree.{root as root_of};
 ghost use Rattle.slh_few.specs.Xmss.{xmss_tree, xmss_sig, xmss_key, xmss_sig_len};
 
 use crate::place::{Place, Public, Seeds};
 use crate::wots::{wots_pk, wots_pk_from_sig, wots_sign};
-use slh_hash::h;
+use slh_hash::SeededTreeHash;
 use slh_params::{Adrs, AdrsType, Node};
 use slh_tree::{Tree, climb, path};
 
@@ -31,11 +32,32 @@ impl<'a> XmssTree<'a> {
             let pk = seeds.now.pk_seed.now in
             xmss_tree_of result ≡ xmss_tree p sk pk layer tree }
     {
+        Self::at(seeds, layer, tree)
+    }
+
+    fn at(seeds: &Seeds<'a>, layer: u8, tree: u64) -> Self
+        ensures { result ≡ record { seeds = seeds.now; layer = layer; tree = tree } }
+    {
         XmssTree {
             seeds: *seeds,
             layer,
             tree,
         }
+    }
+
+    /// Node `i` of height `z`: H of its two children.
+    fn join_from(&self, seeded: &SeededTreeHash, z: u32, i: u32, l: &Node, r: &Node) -> Node
+        ensures { let p = params self.now.seeds.set in let sk = self.now.seeds.sk_seed.now in
+            (pk : List ℕ) → IsSeededTree seeded.now p pk → result.items
+            ≡ (xmss_tree p sk pk self.now.layer self.now.tree).join z i l.now.items r.now.items }
+    {
+        let mut adrs = Adrs::zero();
+        adrs.set_layer(self.layer);
+        adrs.set_tree(self.tree);
+        adrs.set_type_and_clear(AdrsType::Tree);
+        adrs.set_chain(z);
+        adrs.set_hash(i);
+        seeded.h(&adrs, l, r)
     }
 }
 
@@ -65,13 +87,55 @@ impl<'a> Tree for XmssTree<'a> {
 
     #[tactic(auto, unfolding(crate::specs::Trees::xmss_tree_of))]
     fn join(&self, z: u32, i: u32, l: &Node, r: &Node) -> Node {
-        let mut adrs = Adrs::zero();
-        adrs.set_layer(self.layer);
-        adrs.set_tree(self.tree);
-        adrs.set_type_and_clear(AdrsType::Tree);
-        adrs.set_chain(z);
-        adrs.set_hash(i);
-        h(self.seeds.set, self.seeds.pk_seed, &adrs, l, r)
+        let seeded = SeededTreeHash::new(self.seeds.set, self.seeds.pk_seed);
+        self.join_from(&seeded, z, i, l, r)
+    }
+}
+
+/// An XMSS tree with the hash state that one call makes for all its nodes above the leaves.
+#[derive(Drop)]
+pub(crate) struct SeededXmssTree<'a> {
+    tree: XmssTree<'a>,
+    joins: SeededTreeHash,
+    ghost join_state: { ∥ IsSeededTree joins (params tree.seeds.set) tree.seeds.pk_seed.now ∥₁ },
+}
+
+impl<'a> SeededXmssTree<'a> {
+    ghost use Rattle.slh_few.specs.Trees.{xmss_tree_of};
+
+    /// Tree `tree` of layer `layer`.
+    #[tactic(auto, unfolding(crate::specs::Trees::xmss_tree_of))]
+    pub(crate) fn new(seeds: &Seeds<'a>, layer: u8, tree: u64) -> Self
+        ensures { let p = params seeds.now.set in let sk = seeds.now.sk_seed.now in
+            let pk = seeds.now.pk_seed.now in
+            xmss_tree_of result.tree ≡ xmss_tree p sk pk layer tree }
+    {
+        let joins = SeededTreeHash::new(seeds.set, seeds.pk_seed);
+        let tree = XmssTree::at(seeds, layer, tree);
+        SeededXmssTree { tree, joins }
+    }
+}
+
+impl<'a> Tree for SeededXmssTree<'a> {
+    ghost use Rattle.slh_few.specs.Trees.{xmss_tree_of, xmss-lawful};
+
+    ghost tree = { λ t. xmss_tree_of t.tree };
+
+    ghost lawful = { λ t. xmss-lawful t.tree };
+
+    #[tactic(auto, unfolding(crate::specs::Trees::xmss_tree_of))]
+    fn height(&self) -> u32 {
+        self.tree.height()
+    }
+
+    #[tactic(auto, unfolding(crate::specs::Trees::xmss_tree_of))]
+    fn leaf(&self, i: u32) -> Node {
+        self.tree.leaf(i)
+    }
+
+    #[tactic(auto, unfolding(crate::specs::Trees::xmss_tree_of))]
+    fn join(&self, z: u32, i: u32, l: &Node, r: &Node) -> Node {
+        self.tree.join_from(&self.joins, z, i, l, r)
     }
 }
 
@@ -91,7 +155,11 @@ pub fn xmss_sign(seeds: &Seeds, at: Place, msg: &Node, out: &mut [u8])
 {
     let (wots, auth) = out.split_at_mut(seeds.set.len() * seeds.set.n());
     wots_sign(seeds, at, msg, wots);
-    path(&XmssTree::new(seeds, at.layer, at.tree), at.pair, auth);
+    path(
+        &SeededXmssTree::new(seeds, at.layer, at.tree),
+        at.pair,
+        auth,
+    );
 }
 
 /// The root that a signature of a message of n bytes gives: n bytes (Algorithm 11).
@@ -110,6 +178,6 @@ pub fn xmss_pk_from_sig(public: &Public, at: Place, msg: &Node, sig: &[u8]) -> N
         sk_seed: &[],
         pk_seed: public.pk_seed,
     };
-    let tree = XmssTree::new(&seeds, at.layer, at.tree);
+    let tree = SeededXmssTree::new(&seeds, at.layer, at.tree);
     climb(&tree, at.pair, &leaf, auth)
 }
