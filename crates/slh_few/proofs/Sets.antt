@@ -5,7 +5,7 @@ use Rattle.slh_params.specs.declared.param_set.ParamSet.TheVariants.{S128s, S128
 use Rattle.slh_params.specs.Bits.{base_2b, to_byte}
 use Rattle.slh_params.specs.ParamSet.{params}
 use Rattle.slh_params.specs.Params.{len, len1, len2, w, h, ceil_div}
-use Rattle.slh_few.specs.Xmss.{xmss_sig_len}
+use Rattle.slh_few.specs.Xmss.{wots_sig_len, xmss_sig_len}
 use Rattle.slh_few.specs.Wots.{message_digits, checksum_bytes, checksum_shift}
 
 -- w - 1
@@ -78,6 +78,16 @@ xmss_sig_len_small S192s = lit< tt
 xmss_sig_len_small S192f = lit< tt
 xmss_sig_len_small S256s = lit< tt
 xmss_sig_len_small S256f = lit< tt
+
+-- a WOTS+ signature is shorter
+pub wots_sig_len_small : (s : ParamSet) → wots_sig_len (params s) ≤ 2144
+unfolding len
+wots_sig_len_small S128s = lit≤ tt
+wots_sig_len_small S128f = lit≤ tt
+wots_sig_len_small S192s = lit≤ tt
+wots_sig_len_small S192f = lit≤ tt
+wots_sig_len_small S256s = lit≤ tt
+wots_sig_len_small S256f = lit≤ tt
 
 -- the top layer: d is one more than its number, and the trees below it are 2 ^ (hp * that)
 pub top_layer : (s : ParamSet) → (params s).d ≡ suc ((params s).d - 1)

@@ -22,5 +22,5 @@ pub use fors_tree::ForsTree;
 pub use hypertree::{ht_sign, ht_verify, layer_place, xmss_sig_len};
 pub use place::{Place, Public, Seeds};
 pub use ranges::{fors_range, xmss_range};
-pub use wots::{chain, wots_pk, wots_pk_from_sig, wots_sign};
+pub use wots::{MOST_WOTS_SIG_LEN, chain, wots_pk, wots_pk_from_sig, wots_sig_len, wots_sign};
 pub use xmss::{XmssTree, xmss_pk_from_sig, xmss_sign};

@@ -5,12 +5,13 @@ ghost use Rattle.slh_params.specs.Params.{Params, len, w};
 ghost use Rattle.slh_params.specs.ParamSet.{params};
 ghost use Rattle.slh_hash.specs.Seeded.{IsSeeded};
 ghost use Rattle.slh_few.specs.Wots.{wots_address, chain as chain_of, secret, whole_chain, wots_pk, wots_sig, wots_key};
+ghost use Rattle.slh_few.specs.Xmss.{wots_sig_len};
 
 use crate::base_w::{LAST_STEP, digits_of};
 use crate::nodes::{node_at, put_node};
 use crate::place::{Place, Public, Seeds};
 use slh_hash::{SeededHash, TStream};
-use slh_params::{Adrs, AdrsType, Node, copy_of};
+use slh_params::{Adrs, AdrsType, Node, ParamSet, copy_of};
 
 /// The WOTS+ address of a type at a place: a chain, and a step of it.
 fn wots_adrs(at: Place, kind: AdrsType, chain: u32, hash: u32) -> Adrs
@@ -87,6 +88,17 @@ pub fn wots_pk(seeds: &Seeds, at: Place) -> Node
         ends.absorb(&run_secret(&seeded, seeds.sk_seed, at, c, LAST_STEP));
     }
     ends.finish()
+}
+
+/// The most bytes of a signature, in any set.
+pub const MOST_WOTS_SIG_LEN: usize = 2144;
+
+/// The length of a signature: len * n bytes.
+pub fn wots_sig_len(set: ParamSet) -> usize
+    ensures value { result ≡ wots_sig_len (params set) }
+    ensures small { result ≤ 2144 }
+{
+    set.len() * set.n()
 }
 
 /// Writes the signature of a message of n bytes: len * n bytes (Algorithm 7).
