@@ -1,28 +1,13 @@
 // The trees of a signature, against the same trees made by one thread.
 ghost use Rattle.std.specs.Prelude.{◌≡◌, ◌^◌, ◌<◌};
 
+use crate::key::{IDX_LEAF, IDX_TREE, MD, SET, seeds};
 use slh_cutting::{Cuts, Cutting};
-use slh_few::{ForsTree, Seeds, XmssTree, fors_indices, layer_place};
-use slh_params::ParamSet;
+use slh_few::{ForsTree, XmssTree, fors_indices, layer_place};
 use slh_subtrees::{JoinedTree, SigningTrees, join_top_tree, join_trees};
 use slh_tree::{Tree, path, root};
 use slh_workers::{NoGate, Workers};
 use std::test::Fail;
-
-const SET: ParamSet = ParamSet::S128f;
-
-static MD: [u8; 25] = *b"part one of a long digest";
-
-/// The seeds of a key.
-fn seeds() -> Seeds<'static>
-    ensures { result.set ≡ SET }
-{
-    Seeds {
-        set: SET,
-        sk_seed: b"sixteen bytes sk",
-        pk_seed: b"sixteen bytes pk",
-    }
-}
 
 /// How many workers there are, and how they cut the trees.
 fn rows() -> [(u8, Cuts<'static>, Cuts<'static>); 3] {
@@ -46,7 +31,10 @@ fn is_joined<T: Tree>(tree: &T, leaf: u32, joined: &JoinedTree) -> bool
         let start = 16 * level as usize;
         let sibling = &out[start..start + 16];
         same = same
-            && joined.path.at(level).is_some_and(|node| node.as_slice() == sibling);
+            && joined
+                .path
+                .at(level)
+                .is_some_and(|node| node.as_slice() == sibling);
     }
     same
 }
@@ -54,7 +42,7 @@ fn is_joined<T: Tree>(tree: &T, leaf: u32, joined: &JoinedTree) -> bool
 #[test]
 fn trees_of_a_signature(rt: HostRuntime) -> Result<(), Fail> {
     let seeds = seeds();
-    let trees = SigningTrees::new(&seeds, 0x123_4567_89ab_cdef, 5, &MD);
+    let trees = SigningTrees::new(&seeds, IDX_TREE, IDX_LEAF, &MD);
     let indices = fors_indices(SET, &MD);
     for (number, xmss, fors) in rows() {
         let workers = Workers::new(number).ok_or("workers")?;
@@ -62,15 +50,21 @@ fn trees_of_a_signature(rt: HostRuntime) -> Result<(), Fail> {
         let joined = join_trees(&rt, rt.alloc(), &trees, workers, &cutting, &NoGate)?;
         assert_eq!(rt; joined.len(), 55);
         for layer in 0u8..22 {
-            let at = layer_place(SET, 0x123_4567_89ab_cdef, 5, layer);
+            let at = layer_place(SET, IDX_TREE, IDX_LEAF, layer);
             let tree = XmssTree::new(&seeds, layer, at.tree);
-            assert!(rt; is_joined(&tree, at.pair, &joined[layer as usize]), "layer {layer}");
+            assert!(rt;
+                is_joined(&tree, at.pair, &joined[layer as usize]),
+                "layer {layer}"
+            );
         }
         for j in 0u32..33 {
             let leaf = indices[j as usize];
             assert!(rt; leaf < 64);
-            let tree = ForsTree::new(&seeds, 0x123_4567_89ab_cdef, 5, j);
-            assert!(rt; is_joined(&tree, leaf, &joined[22 + j as usize]), "FORS tree {j}");
+            let tree = ForsTree::new(&seeds, IDX_TREE, IDX_LEAF, j);
+            assert!(rt;
+                is_joined(&tree, leaf, &joined[22 + j as usize]),
+                "FORS tree {j}"
+            );
         }
     }
     Ok(())
