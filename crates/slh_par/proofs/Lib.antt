@@ -1,0 +1,3 @@
+pub mod PathLaw
+pub mod Joined
+pub mod Assembled

@@ -1,0 +1,24 @@
+use Rattle.std.proofs.Common.{◌-◌, length, ap, sym, subst, ◌∙◌, rules}
+use Rattle.slh_params.specs.ParamSet.{params}
+use Rattle.slh_tree.proofs.Authentic.{node_width}
+use Rattle.slh_few.specs.Trees.{xmss_tree-lawful}
+use Rattle.slh_few.specs.Xmss.{xmss_tree}
+use Rattle.slh_core.specs.Keys.{Key, top_root, IsGeneratedKey}
+use Rattle.slh_core.proofs.Parts.{generated}
+use Rattle.slh_par.proofs.generation.keygen_par.Goals as goal
+
+pub from_parts-requires-clause-pk_root : goal.from_parts-requires-clause-pk_root
+from_parts-requires-clause-pk_root g c =
+    let p = params c.args.set in
+    let layer = p.d - 1 in
+    ap length (c.deref.ensures.0 ∙ c.in_ok-root.ensures.root)
+    ∙ node_width (xmss_tree p c.args.sk_seed.now c.args.pk_seed.now layer 0) (xmss_tree-lawful c.args.set c.args.sk_seed.now c.args.pk_seed.now layer 0) p.hp 0
+
+pub returns-clause-key : goal.returns-clause-key
+unfolding top_root
+returns-clause-key g c = search rules
+
+pub returns-clause-generated : goal.returns-clause-generated
+returns-clause-generated g c =
+    subst (λ (k : Key). IsGeneratedKey k) (sym (returns-clause-key g c))
+    (generated c.args.set c.args.sk_seed.now c.args.sk_prf.now c.args.pk_seed.now c.requires.sk_seed c.requires.sk_prf c.requires.pk_seed)

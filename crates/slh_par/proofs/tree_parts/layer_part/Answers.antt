@@ -1,0 +1,22 @@
+use Rattle.std.proofs.Common.{◌∙◌, arith, rules}
+use Rattle.slh_params.specs.ParamSet.{params}
+use Rattle.slh_few.specs.Hypertree.{layer_place}
+use Rattle.slh_few.specs.Xmss.{xmss_tree}
+use Rattle.slh_few.specs.Trees.{xmss_tree-lawful}
+use Rattle.slh_par.proofs.PathLaw.{length-joined, then_path}
+use Rattle.slh_par.proofs.tree_parts.layer_part.Goals as goal
+
+pub put_path-requires-clause-nodes : goal.put_path-requires-clause-nodes
+put_path-requires-clause-nodes c = λ j h.
+    let s = c.args.trees.now.seeds in
+    let at = layer_place (params s.set) c.args.trees.now.idx_tree c.args.trees.now.idx_leaf c.args.layer in
+    length-joined (xmss_tree (params s.set) s.sk_seed.now s.pk_seed.now c.args.layer at.tree)
+    (xmss_tree-lawful s.set s.sk_seed.now s.pk_seed.now c.args.layer at.tree)
+    at.pair c.args.joined.now c.requires.joined j (omega arith) ∙ search rules
+
+pub returns : goal.returns
+returns c =
+    let s = c.args.trees.now.seeds in
+    let at = layer_place (params s.set) c.args.trees.now.idx_tree c.args.trees.now.idx_leaf c.args.layer in
+    then_path (xmss_tree (params s.set) s.sk_seed.now s.pk_seed.now c.args.layer at.tree) at.pair c.args.joined.now c.requires.joined
+    c.hp.result c.hp.ensures _ _ _ c.copy_from_slice.ensures.after c.put_path.ensures

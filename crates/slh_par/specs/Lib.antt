@@ -1,0 +1,11 @@
+pub mod Paths
+pub mod Parts
+pub mod ParFault
+-- cited by public clauses
+pub use Rattle.slh_params.specs.Params
+pub use Rattle.slh_params.specs.ParamSet
+pub use Rattle.slh_core.specs.Keys
+pub use Rattle.slh_core.specs.Messages
+pub use Rattle.slh_core.specs.PreHash
+pub use Rattle.slh_core.specs.Randomizers
+pub use Rattle.slh_core.specs.Signatures

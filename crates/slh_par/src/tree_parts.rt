@@ -1,0 +1,80 @@
+// What one tree adds to a signature.
+ghost use Rattle.std.specs.Prelude.{◌≡◌, ◌+◌, ◌^◌, ◌<◌, ◌≤◌, ◌++◌, length, take};
+ghost use Rattle.slh_few.specs.Fors.{fors_part_len};
+ghost use Rattle.slh_few.specs.Xmss.{wots_sig_len, xmss_sig_len};
+ghost use Rattle.slh_subtrees.specs.Joined.{IsJoined};
+ghost use Rattle.slh_par.specs.Parts.{params_of, fors_tree_in, fors_part_in, layer_tree_in, layer_leaf_in, layer_path_in};
+
+use crate::path_bytes::put_path;
+use slh_few::{fors_part_len, fors_secret, xmss_sig_len};
+use slh_subtrees::{JoinedTree, SigningTrees};
+
+/// Writes the secret of leaf `index` of FORS tree `tree_no`, then the leaf's path.
+fn fors_part(trees: &SigningTrees, tree_no: u32, index: u32, joined: &JoinedTree, out: &mut [u8])
+    requires tree { tree_no < (params_of trees.now).k }
+    requires leaf { index < 2 ^ (params_of trees.now).a }
+    requires joined { IsJoined (fors_tree_in trees.now tree_no) index joined.now }
+    requires out { length out.old ≡ fors_part_len (params_of trees.now) }
+    ensures { out.new ≡ fors_part_in trees.now tree_no index }
+{
+    let set = trees.seeds.set;
+    let (secret, auth) = out.split_at_mut(set.n());
+    secret.copy_from_slice(&fors_secret(
+        &trees.seeds,
+        trees.idx_tree,
+        trees.idx_leaf,
+        tree_no,
+        index,
+    ));
+    put_path(&joined.path, set.a(), set.n(), auth);
+}
+
+/// The same from `start` on.
+pub(crate) fn put_fors_part(
+    trees: &SigningTrees,
+    tree_no: u32,
+    index: u32,
+    joined: &JoinedTree,
+    out: &mut [u8],
+    start: usize,
+)
+    requires tree { tree_no < (params_of trees.now).k }
+    requires leaf { index < 2 ^ (params_of trees.now).a }
+    requires joined { IsJoined (fors_tree_in trees.now tree_no) index joined.now }
+    requires out { start + fors_part_len (params_of trees.now) ≤ length out.old }
+    ensures { take (start + fors_part_len (params_of trees.now)) out.new ≡ take start out.old ++ fors_part_in trees.now tree_no index }
+{
+    let end = start + fors_part_len(trees.seeds.set);
+    fors_part(trees, tree_no, index, joined, &mut out[start..end]);
+}
+
+/// Writes a WOTS+ signature, then the path of the leaf of its key, at the signature's place on a layer.
+fn layer_part(trees: &SigningTrees, layer: u8, wots: &[u8], joined: &JoinedTree, out: &mut [u8])
+    requires wots { length wots.now ≡ wots_sig_len (params_of trees.now) }
+    requires joined { IsJoined (layer_tree_in trees.now layer) (layer_leaf_in trees.now layer) joined.now }
+    requires out { length out.old ≡ xmss_sig_len (params_of trees.now) }
+    ensures { out.new ≡ wots.now ++ layer_path_in trees.now layer }
+{
+    let set = trees.seeds.set;
+    let (front, auth) = out.split_at_mut(wots.len());
+    front.copy_from_slice(wots);
+    put_path(&joined.path, set.hp(), set.n(), auth);
+}
+
+/// The same from `start` on.
+pub(crate) fn put_layer_part(
+    trees: &SigningTrees,
+    layer: u8,
+    wots: &[u8],
+    joined: &JoinedTree,
+    out: &mut [u8],
+    start: usize,
+)
+    requires wots { length wots.now ≡ wots_sig_len (params_of trees.now) }
+    requires joined { IsJoined (layer_tree_in trees.now layer) (layer_leaf_in trees.now layer) joined.now }
+    requires out { start + xmss_sig_len (params_of trees.now) ≤ length out.old }
+    ensures { take (start + xmss_sig_len (params_of trees.now)) out.new ≡ take start out.old ++ (wots.now ++ layer_path_in trees.now layer) }
+{
+    let end = start + xmss_sig_len(trees.seeds.set);
+    layer_part(trees, layer, wots, joined, &mut out[start..end]);
+}
