@@ -1,8 +1,9 @@
 // Why a parallel call gives no answer.
 ghost use Rattle.std.specs.Prelude.{◌≡◌};
 ghost use Rattle.slh_par.specs.ParFault.{fault_number, fault_name, fault_of_run};
+ghost use Rattle.slh_par.specs.declared.fault.ParFault.TheVariants.{NoMemory as NoMemoryFault};
 
-use slh_workers::RunFault;
+use slh_workers::{NoMemory, RunFault};
 use thiserror::Error;
 
 /// Why a parallel call gives no answer.
@@ -51,5 +52,13 @@ impl From<RunFault> for ParFault {
             RunFault::NoMemory => ParFault::NoMemory,
             RunFault::Stopped => ParFault::Stopped,
         }
+    }
+}
+
+impl From<NoMemory> for ParFault {
+    ghost from_gives = { λ _ fault. fault ≡ NoMemoryFault };
+
+    fn from(_refused: NoMemory) -> ParFault {
+        ParFault::NoMemory
     }
 }

@@ -15,6 +15,8 @@ mod pure_form;
 mod signature_bytes;
 mod signing;
 mod tree_parts;
+mod verify_item;
+mod verifying;
 mod wots_signing;
 
 pub use fault::ParFault;
@@ -27,3 +29,5 @@ pub use slh_cutting::{
 pub use slh_workers::{
     End, Gate, Go, NoGate, NoMemory, RunFault, Work, WorkerEnd, Workers, run_all, work_off,
 };
+pub use verify_item::VerifyItem;
+pub use verifying::verify_all;

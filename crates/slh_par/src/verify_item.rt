@@ -1,0 +1,33 @@
+// One signature to verify.
+ghost use Rattle.std.specs.Prelude.{◌↔◌, IsTrue};
+
+use slh_core::{PreHash, PublicKey, hash_verify, verify};
+
+/// A signature to verify, with all that says what it should be a signature of. Any bytes may stand in it.
+#[derive(Clone, Copy)]
+pub struct VerifyItem<'a> {
+    /// The key that is to have signed.
+    pub pk: &'a PublicKey,
+    /// The message.
+    pub msg: &'a [u8],
+    /// The context.
+    pub ctx: &'a [u8],
+    /// The function by whose digest the message was signed; `None` where the message itself was signed.
+    pub prehash: Option<PreHash>,
+    /// The signature.
+    pub sig: &'a [u8],
+}
+
+impl<'a> VerifyItem<'a> {
+    ghost use Rattle.slh_par.specs.Verdicts.{IsVerified};
+
+    /// Whether the signature is valid: `verify` or `hash_verify` of `slh_core` (FIPS 205, Algorithms 24 and 25).
+    pub fn is_valid(&self) -> bool
+        ensures { IsTrue result ↔ IsVerified self.now }
+    {
+        match self.prehash {
+            None => verify(self.msg, self.ctx, self.sig, self.pk),
+            Some(function) => hash_verify(self.msg, self.ctx, function, self.sig, self.pk),
+        }
+    }
+}
