@@ -4,6 +4,7 @@ mod files;
 mod memory;
 mod messages;
 mod roots;
+mod vectors;
 mod words;
 
 use crate::Folder;

@@ -1,6 +1,7 @@
 //! Memory that is refused.
 use super::devices::Folder;
 use super::messages::{SIGN, VERIFY, secret_key};
+use super::vectors::{NOT_VALID, VECTORS};
 use super::{Answer, words_of};
 use linked_list_allocator::LocalHeap;
 use slh_devices::{Reader, Writer};
@@ -47,8 +48,9 @@ fn refuses_each_growth_and_then_works(rt: HostRuntime) -> Result<(), Fail> {
         ),
         ("abc", b"abc".as_slice()),
         ("sig", b"no signature".as_slice()),
+        ("tests", NOT_VALID),
     ];
-    let commands: [&[&str]; 9] = [
+    let commands: [&[&str]; 10] = [
         &["params"],
         &["params", set[0], set[1]],
         &["root", set[0], set[1]],
@@ -58,6 +60,7 @@ fn refuses_each_growth_and_then_works(rt: HostRuntime) -> Result<(), Fail> {
         &["check", "--key", "secret"],
         &SIGN,
         &VERIFY,
+        &VECTORS,
     ];
     for words in commands {
         let mut refused = false;

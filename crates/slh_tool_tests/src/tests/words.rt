@@ -62,17 +62,17 @@ fn prints_one_line_for_each_set(rt: HostRuntime) -> Result<(), Fail> {
 
 #[test]
 fn help_names_the_options_and_an_example(rt: HostRuntime) -> Result<(), Fail> {
-    let cases: [(&[&str], &[&str]); 9] = [
+    let cases: [(&[&str], &[&str]); 10] = [
         (
             &["--help"],
             &[
-                "params", "root", "keygen", "public", "check", "sign", "verify",
+                "params", "root", "keygen", "public", "check", "sign", "verify", "vectors",
             ],
         ),
         (
             &["help"],
             &[
-                "params", "root", "keygen", "public", "check", "sign", "verify",
+                "params", "root", "keygen", "public", "check", "sign", "verify", "vectors",
             ],
         ),
         (
@@ -112,6 +112,15 @@ fn help_names_the_options_and_an_example(rt: HostRuntime) -> Result<(), Fail> {
                 "--context <HEX>",
                 "--prehash <NAME>",
                 "Example: slh verify",
+            ],
+        ),
+        (
+            &["vectors", "--help"],
+            &[
+                "--file <FILE>",
+                "--workers <N>",
+                "[default: 1]",
+                "Example: slh vectors",
             ],
         ),
     ];

@@ -53,25 +53,31 @@ pub(super) fn file_with(
     value: Option<&str>,
     whole: bool,
 ) -> Result<String, Fail> {
-    let mut file = String::from_str(alloc, "[{")?;
-    let mut separator = "";
+    let mut file = String::from_str(alloc, START)?;
     for (place, (member, given)) in members.iter().enumerate() {
-        let text = if place == at {
-            value
-        } else if place < at || whole {
-            Some(*given)
-        } else {
-            None
-        };
-        if let Some(text) = text {
-            for part in [separator, "\"", member.name(), "\":", text] {
-                file.push_str(part)?;
+        if place != at {
+            if place < at || whole {
+                push_member(&mut file, *member, given)?;
             }
-            separator = ",";
+        } else if let Some(text) = value {
+            push_member(&mut file, *member, text)?;
         }
     }
     file.push_str("}]")?;
     Ok(file)
+}
+
+const START: &str = "[{";
+
+fn push_member(file: &mut String, member: Member, value: &str) -> Result<(), Fail> {
+    if file.as_str() != START {
+        file.push_str(",")?;
+    }
+    file.push_str("\"")?;
+    file.push_str(member.name())?;
+    file.push_str("\":")?;
+    file.push_str(value)?;
+    Ok(())
 }
 
 /// A file of one test with these members.

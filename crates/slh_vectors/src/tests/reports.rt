@@ -1,5 +1,5 @@
 //! Reports, through sinks that take all or fail in mid-stream.
-ghost use Rattle.std.specs.Prelude.{None};
+ghost use Rattle.std.specs.Prelude.{◌≡◌, IfOk, None, length};
 
 use super::files::{KEYGEN, SIGN, VERIFY, file_of};
 use crate::{Outcome, Test, read_vectors, report};
@@ -8,13 +8,18 @@ use std::alloc::Global;
 use std::test::Fail;
 
 /// One test of each kind.
-fn three_tests(alloc: Global) -> Result<Vec<Test>, Fail> {
+fn three_tests(alloc: Global) -> Result<Vec<Test>, Fail>
+    ensures { IfOk result (λ tests. length tests.items ≡ 3) }
+{
     let mut tests = Vec::new(alloc);
     for members in [KEYGEN.as_slice(), SIGN.as_slice(), VERIFY.as_slice()] {
         let file = file_of(alloc, members)?;
         for test in read_vectors(alloc, file.as_bytes())? {
             tests.push(test)?;
         }
+    }
+    if tests.len() != 3 {
+        return Err(Fail::from("one test of each kind"));
     }
     Ok(tests)
 }
