@@ -1,7 +1,8 @@
-//! Options, damaged files, and files that fail.
+//! Options, and key files of other kinds.
 use super::devices::Folder;
 use super::messages::{SIGN, VERIFY, joined, secret_key};
-use super::{Answer, run_over};
+use super::run_over;
+use crate::Answer;
 use std::test::Fail;
 
 /// What `sign` says where the message can't be fetched.
@@ -80,29 +81,5 @@ fn takes_no_key_of_the_other_kind(rt: HostRuntime) -> Result<(), Fail> {
             b"slh: 15 TrailingBytes\n".as_slice()
         );
     }
-    Ok(())
-}
-
-#[test]
-fn tells_each_fetch_that_fails(rt: HostRuntime) -> Result<(), Fail> {
-    let secret = secret_key(&rt)?;
-    let files = [("secret", secret.as_slice()), ("abc", b"abc".as_slice())];
-    let mut failed = 0;
-    for fails_at in 1..20u64 {
-        let mut folder = Folder::new(&files);
-        folder.fails_at = fails_at;
-        let answer = run_over(&rt, &SIGN, &mut folder)?;
-        if answer.status == 0 {
-            assert_eq!(rt; answer.output.len(), 17088);
-            break;
-        }
-        assert_eq!(rt;
-            answer.errors.as_slice(),
-            b"slh: 32 ReadFailed\n".as_slice()
-        );
-        failed = fails_at;
-    }
-    // Each of the two files is fetched once for its bytes and once for its end.
-    assert_eq!(rt; failed, 4);
     Ok(())
 }

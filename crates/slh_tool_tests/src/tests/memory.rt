@@ -2,7 +2,7 @@
 use super::devices::Folder;
 use super::messages::{SIGN, VERIFY, secret_key};
 use super::vectors::{NOT_VALID, VECTORS};
-use super::{Answer, words_of};
+use crate::{Answer, words_of};
 use linked_list_allocator::LocalHeap;
 use slh_devices::{Reader, Writer};
 use slh_tool::command;
@@ -16,7 +16,7 @@ fn run_within(
     budget: usize,
 ) -> Result<Answer, Fail> {
     let heap = LocalHeap::new(rt.alloc(), budget)?;
-    let words = words_of(rt, words)?;
+    let words = words_of(rt.alloc(), words)?;
     let digits = [b'7'; 96];
     let mut output = Writer::new(Vec::new(rt.alloc()));
     let mut errors = Writer::new(Vec::new(rt.alloc()));

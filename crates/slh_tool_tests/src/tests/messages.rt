@@ -1,12 +1,12 @@
 //! Keys, signatures and their verification.
-use super::devices::{Folder, Full, WithEndlessFile};
-use super::{run, run_over, run_to};
+use super::devices::Folder;
+use super::{run, run_over};
 use sha2::{Digest, Sha256};
 use slh_devices::Reader;
 use std::test::Fail;
 
 /// The key files of SLH-DSA-SHA2-128f and the seeds 00, 01, 02, .. , the second as another implementation has it.
-const PUBLIC: &[u8] =
+pub(super) const PUBLIC: &[u8] =
     b"slh-dsa-public 1\nSLH-DSA-SHA2-128f\n202122232425262728292a2b2c2d2e2f3b56e816847f000386aeec2e2bb9e1b5\n";
 
 /// Options of `sign` for the message "abc", and SHA-256 of the signature, as another implementation makes it.
@@ -39,7 +39,7 @@ const SIGNATURES: [(&[&str], &str); 5] = [
 ];
 
 /// The secret key file of the seeds 00, 01, 02, ..
-pub(super) fn secret_key(rt: &HostRuntime) -> Result<Vec<u8>, Fail> {
+pub(super) fn secret_key<R: AllocGlobal>(rt: &R) -> Result<Vec<u8>, Fail> {
     let digits = b"000102030405060708090a0b0c0d0e0f\
         101112131415161718191a1b1c1d1e1f202122232425262728292a2b2c2d2e2f";
     let words = ["keygen", "--set", "SLH-DSA-SHA2-128f"];
@@ -48,8 +48,8 @@ pub(super) fn secret_key(rt: &HostRuntime) -> Result<Vec<u8>, Fail> {
 }
 
 /// The words of a command, and some more.
-pub(super) fn joined<'a>(
-    rt: &HostRuntime,
+pub(super) fn joined<'a, R: AllocGlobal>(
+    rt: &R,
     words: &[&'a str],
     more: &[&'a str],
 ) -> Result<Vec<&'a str>, Fail> {
@@ -200,43 +200,5 @@ fn refuses_a_long_context_in_signing_alone(rt: HostRuntime) -> Result<(), Fail> 
         verdict(&rt, pure.as_slice(), &options)?.as_slice(),
         b"invalid\n".as_slice()
     );
-    Ok(())
-}
-
-#[test]
-fn hashes_a_message_by_pieces_up_to_the_limit(rt: HostRuntime) -> Result<(), Fail> {
-    let words = joined(&rt, &VERIFY, &["--prehash", "SHA2-256"])?;
-    let files = [("public", PUBLIC)];
-    let mut files = WithEndlessFile {
-        folder: Folder::new(&files),
-        name: "abc",
-    };
-    let answer = run_over(&rt, words.as_slice(), &mut files)?;
-    assert_eq!(rt;
-        answer.errors.as_slice(),
-        b"slh: 36 FileTooLong\n".as_slice()
-    );
-    assert_eq!(rt; answer.status, 2);
-    Ok(())
-}
-
-#[test]
-fn tells_an_output_that_breaks_off(rt: HostRuntime) -> Result<(), Fail> {
-    let secret = secret_key(&rt)?;
-    let files = [("secret", secret.as_slice()), ("abc", b"abc".as_slice())];
-    let mut output = Full {
-        room: 10,
-        failures: 0,
-    };
-    let mut input = Reader::new([].as_slice());
-    let (status, errors) = run_to(
-        &rt,
-        &SIGN,
-        &mut Folder::new(&files),
-        &mut input,
-        &mut output,
-    )?;
-    assert_eq!(rt; errors.as_slice(), b"slh: 33 WriteFailed\n".as_slice());
-    assert_eq!(rt; status, 2);
     Ok(())
 }

@@ -39,7 +39,7 @@ const ROOTS: [(&str, u8, &str); 6] = [
 ];
 
 /// The digits of the seeds 00, 01, 02, .. of a set with this n.
-fn seed_digits(rt: &HostRuntime, n: u8) -> Result<Vec<u8>, Fail> {
+pub(super) fn seed_digits<R: AllocGlobal>(rt: &R, n: u8) -> Result<Vec<u8>, Fail> {
     let mut digits = Vec::new(rt.alloc());
     for byte in 0..96u8 {
         if byte / 3 < n {

@@ -1,0 +1,100 @@
+//! Files and outputs that fail, and a file that never ends.
+use super::devices::{Folder, Full, WithEndlessFile};
+use super::messages::{PUBLIC, SIGN, VERIFY, joined, secret_key};
+use super::{run_over, run_to};
+use slh_devices::Reader;
+use std::process::Abort;
+use std::test::Fail;
+
+const PREHASH: [&str; 2] = ["--prehash", "SHA2-256"];
+
+/// How many fetches the command makes, where each of them ends it by 32 if it fails.
+fn fetches<R: Abort + AllocGlobal>(rt: &R, words: &[&str], secret: &[u8]) -> Result<u64, Fail> {
+    let files = [
+        ("secret", secret),
+        ("public", PUBLIC),
+        ("abc", b"abc".as_slice()),
+        ("sig", b"no signature".as_slice()),
+    ];
+    for fails_at in 1..20u64 {
+        let mut folder = Folder::new(&files);
+        folder.fails_at = fails_at;
+        let answer = run_over(rt, words, &mut folder)?;
+        if answer.status != 2 {
+            assert!(rt; !answer.output.is_empty());
+            assert!(rt; answer.errors.is_empty());
+            return Ok(fails_at - 1);
+        }
+        assert!(rt; answer.output.is_empty());
+        assert_eq!(rt;
+            answer.errors.as_slice(),
+            b"slh: 32 ReadFailed\n".as_slice(),
+            "{fails_at}"
+        );
+    }
+    Err("no run without a failure".into())
+}
+
+#[test]
+fn tells_each_fetch_that_fails(rt: HostRuntime) -> Result<(), Fail> {
+    let secret = secret_key(&rt)?;
+    let sign_hashed = joined(&rt, &SIGN, &PREHASH)?;
+    let verify_hashed = joined(&rt, &VERIFY, &PREHASH)?;
+    // Each file is fetched once for its bytes and once for its end.
+    let cases: [(&[&str], u64); 6] = [
+        (&["public", "--key", "secret"], 2),
+        (&["check", "--key", "secret"], 2),
+        (&SIGN, 4),
+        (sign_hashed.as_slice(), 4),
+        (&VERIFY, 6),
+        (verify_hashed.as_slice(), 6),
+    ];
+    for (words, count) in cases {
+        assert_eq!(rt; fetches(&rt, words, secret.as_slice())?, count);
+    }
+    Ok(())
+}
+
+#[test]
+fn tells_an_output_that_breaks_off(rt: HostRuntime) -> Result<(), Fail> {
+    let secret = secret_key(&rt)?;
+    let files = [("secret", secret.as_slice()), ("abc", b"abc".as_slice())];
+    let digits = [b'7'; 96];
+    let cases: [&[&str]; 5] = [
+        &["params"],
+        &["keygen", "--set", "SLH-DSA-SHA2-128f"],
+        &["public", "--key", "secret"],
+        &["check", "--key", "secret"],
+        &SIGN,
+    ];
+    for words in cases {
+        let mut output = Full {
+            room: 10,
+            failures: 0,
+        };
+        let mut input = Reader::new(digits.as_slice());
+        let mut folder = Folder::new(&files);
+        let (status, errors) = run_to(&rt, words, &mut folder, &mut input, &mut output)?;
+        assert_eq!(rt; errors.as_slice(), b"slh: 33 WriteFailed\n".as_slice());
+        assert_eq!(rt; status, 2);
+        assert_eq!(rt; output.room, 0);
+    }
+    Ok(())
+}
+
+#[test]
+fn hashes_a_message_by_pieces_up_to_the_limit(rt: HostRuntime) -> Result<(), Fail> {
+    let words = joined(&rt, &VERIFY, &PREHASH)?;
+    let files = [("public", PUBLIC)];
+    let mut files = WithEndlessFile {
+        folder: Folder::new(&files),
+        name: "abc",
+    };
+    let answer = run_over(&rt, words.as_slice(), &mut files)?;
+    assert_eq!(rt;
+        answer.errors.as_slice(),
+        b"slh: 36 FileTooLong\n".as_slice()
+    );
+    assert_eq!(rt; answer.status, 2);
+    Ok(())
+}
