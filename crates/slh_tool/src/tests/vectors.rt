@@ -9,15 +9,20 @@ use std::test::Fail;
 pub(super) const VECTORS: [&str; 3] = ["vectors", "--file", "tests"];
 
 /// A verify test of a key of zeros, an empty message and an empty signature.
-pub(super) const NOT_VALID: &[u8] = b"[{\"kind\":\"verify\",\"set\":\"SLH-DSA-SHA2-128f\",\"pk\":\"0000000000000000000000000000000000000000000000000000000000000000\",\"form\":\"pure\",\"message\":\"\",\"context\":\"\",\"signature\":\"\",\"valid\":false}]";
+pub(super) const NOT_VALID: &[u8] =
+    b"[{\"kind\":\"verify\",\"set\":\"SLH-DSA-SHA2-128f\",\"pk\":\"0000000000000000000000000000000000000000000000000000000000000000\",\"form\":\"pure\",\"message\":\"\",\"context\":\"\",\"signature\":\"\",\"valid\":false}]";
 
-const VALID: &[u8] = b"[{\"kind\":\"verify\",\"set\":\"SLH-DSA-SHA2-128f\",\"pk\":\"0000000000000000000000000000000000000000000000000000000000000000\",\"form\":\"pure\",\"message\":\"\",\"context\":\"\",\"signature\":\"\",\"valid\":true}]";
+const VALID: &[u8] =
+    b"[{\"kind\":\"verify\",\"set\":\"SLH-DSA-SHA2-128f\",\"pk\":\"0000000000000000000000000000000000000000000000000000000000000000\",\"form\":\"pure\",\"message\":\"\",\"context\":\"\",\"signature\":\"\",\"valid\":true}]";
 
-const NO_VALID: &[u8] = b"[{\"kind\":\"verify\",\"set\":\"SLH-DSA-SHA2-128f\",\"pk\":\"0000000000000000000000000000000000000000000000000000000000000000\",\"form\":\"pure\",\"message\":\"\",\"context\":\"\",\"signature\":\"\"}]";
+const NO_VALID: &[u8] =
+    b"[{\"kind\":\"verify\",\"set\":\"SLH-DSA-SHA2-128f\",\"pk\":\"0000000000000000000000000000000000000000000000000000000000000000\",\"form\":\"pure\",\"message\":\"\",\"context\":\"\",\"signature\":\"\"}]";
 
-const SHORT_KEY: &[u8] = b"[{\"kind\":\"verify\",\"set\":\"SLH-DSA-SHA2-128f\",\"pk\":\"000000000000000000000000000000000000000000000000000000000000000\",\"form\":\"pure\",\"message\":\"\",\"context\":\"\",\"signature\":\"\",\"valid\":true}]";
+const SHORT_KEY: &[u8] =
+    b"[{\"kind\":\"verify\",\"set\":\"SLH-DSA-SHA2-128f\",\"pk\":\"000000000000000000000000000000000000000000000000000000000000000\",\"form\":\"pure\",\"message\":\"\",\"context\":\"\",\"signature\":\"\",\"valid\":true}]";
 
-const NO_CONTEXT: &[u8] = b"[{\"kind\":\"verify\",\"set\":\"SLH-DSA-SHA2-128f\",\"pk\":\"0000000000000000000000000000000000000000000000000000000000000000\",\"form\":\"pure\",\"message\":\"\"}]";
+const NO_CONTEXT: &[u8] =
+    b"[{\"kind\":\"verify\",\"set\":\"SLH-DSA-SHA2-128f\",\"pk\":\"0000000000000000000000000000000000000000000000000000000000000000\",\"form\":\"pure\",\"message\":\"\"}]";
 
 fn answer_to(rt: &HostRuntime, words: &[&str], file: &[u8]) -> Result<Answer, Fail> {
     run_over(rt, words, &mut Folder::new(&[("tests", file)]))
@@ -102,7 +107,10 @@ fn tells_a_read_and_a_write_that_fail(rt: HostRuntime) -> Result<(), Fail> {
         let mut folder = Folder::new(&files);
         folder.fails_at = fails_at;
         let answer = run_over(&rt, &VECTORS, &mut folder)?;
-        assert_eq!(rt; answer.errors.as_slice(), b"slh: 32 ReadFailed\n".as_slice());
+        assert_eq!(rt;
+            answer.errors.as_slice(),
+            b"slh: 32 ReadFailed\n".as_slice()
+        );
         assert_eq!(rt; answer.status, 2);
     }
     for room in [0, 1, 40] {
