@@ -1,5 +1,5 @@
 -- Seats that nothing stopped drew every job.
-use Rattle.std.proofs.Common.{◌≡◌, ◌≢◌, ℕ, suc, ◌+◌, ◌<◌, ◌≤◌, ◌==◌, ◌↔◌, ◌⊎◌, ⊎_elim, List, [], ◌∷◌, length, get_or, Bool, true, false, cond, sym, refl, ap, ◌∙◌, arith, subst, IsTrue}
+use Rattle.std.proofs.Common.{◌≡◌, ◌≢◌, ℕ, suc, ◌<◌, ◌≤◌, ◌==◌, ◌↔◌, ⊎_elim, List, [], ◌∷◌, get_or, Bool, true, false, cond, sym, refl, ◌∙◌, arith, IsTrue}
 use Rattle.std.specs.List.{All, Any, Contains, sum_by}
 use Rattle.std.proofs.lemmas.Bool.{cases_eq}
 use Rattle.std.proofs.lemmas.Bool.Decides.{nat_tests}

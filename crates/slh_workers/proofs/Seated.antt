@@ -1,5 +1,5 @@
 -- What the workers at some seats have.
-use Rattle.std.proofs.Common.{◌≡◌, ◌≢◌, ℕ, ◌+◌, ◌<◌, ◌≤◌, List, [], ◌∷◌, ◌++◌, map, length, length-append, set, get_or, Bool, true, false, sym, refl, ap, ◌∙◌, arith, subst}
+use Rattle.std.proofs.Common.{◌≡◌, ◌≢◌, ℕ, ◌+◌, ◌<◌, ◌≤◌, List, [], ◌∷◌, ◌++◌, length, length-append, set, true, false, sym, refl, ap, ◌∙◌, arith, subst}
 use Rattle.std.specs.List.{All, sum_by}
 use Rattle.std.proofs.lemmas.List.{map-append, append-nil}
 use Rattle.std.proofs.lemmas.List.Elements.{All-append, All-cons, All-nil, All-tail}
@@ -11,8 +11,8 @@ use Rattle.slh_board.proofs.Totals.{times-append, All-front}
 use Rattle.slh_workers.specs.Answers.{numbers, AllRight}
 use Rattle.slh_workers.specs.Ends.{EndFits, IsAnswered, may_lack}
 use Rattle.slh_workers.specs.Runs.{IsReady, HasEnded, RanSeats}
-use Rattle.slh_workers.specs.declared.seats.End.{End}
-use Rattle.slh_workers.specs.declared.seats.End.TheVariants.{Done, Stopped, GateStop, NoMemory}
+use Rattle.slh_workers.specs.declared.worker.End.{End}
+use Rattle.slh_workers.specs.declared.worker.End.TheVariants.{Done, Stopped, GateStop, NoMemory}
 
 -- the elements after the first ones
 All-back : {X : Type 0} (P : X → Type 0) (xs ys : List X) → All P (xs ++ ys) → All P ys

@@ -1,9 +1,9 @@
 -- How a worker ended, and what its seat then is.
-use Rattle.std.specs.Prelude.{◌≡◌, ℕ, ◌≤◌, List, ◌++◌, length, Bool, true, false}
+use Rattle.std.specs.Prelude.{◌≡◌, ℕ, ◌≤◌, List, ◌++◌, length, true, false}
 use Rattle.slh_board.specs.Seats.{SeatState}
 use Rattle.slh_board.specs.declared.seat.Mark.TheVariants.{Fresh as FreshMark, Done as DoneMark, Stopped as StoppedMark}
-use Rattle.slh_workers.specs.declared.seats.End.{End}
-use Rattle.slh_workers.specs.declared.seats.End.TheVariants.{Done, Stopped, GateStop, NoMemory}
+use Rattle.slh_workers.specs.declared.worker.End.{End}
+use Rattle.slh_workers.specs.declared.worker.End.TheVariants.{Done, Stopped, GateStop, NoMemory}
 
 -- a seat that may work: it was told no end, and stopped nothing
 abbrev pub IsFresh : SeatState → Type 0

@@ -11,11 +11,12 @@ mod order;
 mod run;
 mod seats;
 mod work;
+mod worker;
 mod workers;
 
 pub use fault::RunFault;
 pub use gate::{Gate, Go, NoGate};
 pub use run::run_all;
-pub use seats::{End, WorkerEnd, work_off};
 pub use work::{NoMemory, Work};
+pub use worker::{End, WorkerEnd, work_off};
 pub use workers::Workers;

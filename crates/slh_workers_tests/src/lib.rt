@@ -4,6 +4,8 @@
 #[cfg(test)]
 mod gates;
 #[cfg(test)]
+mod refusals;
+#[cfg(test)]
 mod run;
 #[cfg(test)]
 mod work_off;

@@ -2,6 +2,7 @@
 ghost use Rattle.std.specs.Prelude.{◌≡◌, ℕ, ◌*◌};
 
 use slh_workers::{NoMemory, Work};
+use std::alloc::Allocator;
 use std::sync::atomic::{AtomicU64, Ordering};
 
 // How often a job looks for what it waits for, before it gives up.
@@ -109,5 +110,29 @@ impl Work for Meeting {
         } else {
             Err(NoMemory)
         }
+    }
+}
+
+// Five jobs, of which each asks for a list of one number more than the last.
+#[derive(Drop)]
+pub struct Lists<A> {
+    pub alloc: A,
+}
+
+impl<A: Allocator + Clone + Send + Sync> Work for Lists<A> {
+    ghost use Rattle.std.specs.Prelude.{◌+◌, replicate};
+
+    type Out = Vec<u32, A>;
+
+    ghost jobs = { λ _. 5 };
+
+    ghost is_right = { λ _ i out. out.items ≡ replicate (i + 1) i };
+
+    fn count(&self) -> u32 {
+        5
+    }
+
+    fn run(&self, i: u32) -> Result<Vec<u32, A>, NoMemory> {
+        Ok(Vec::from_elem(self.alloc.clone()?, i, i as usize + 1)?)
     }
 }

@@ -1,4 +1,4 @@
-use Rattle.std.proofs.Common.{rules, arith, ◌≡◌, ◌≤◌, length, false, subst, sym, ap, ◌∙◌}
+use Rattle.std.proofs.Common.{rules, arith, ◌≡◌, length, subst, sym, ap, ◌∙◌}
 use Rattle.std.proofs.Math.ListN.{length-replicate}
 use Rattle.slh_board.specs.Seats.{new_seat}
 use Rattle.slh_workers.specs.Answers.{InPlace}

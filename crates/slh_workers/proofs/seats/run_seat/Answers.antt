@@ -1,5 +1,4 @@
-use Rattle.std.proofs.Common.{rules, arith, ◌≡◌, ◌≢◌}
-use Rattle.slh_workers.specs.declared.seats.End.TheVariants.{NoMemory}
+use Rattle.std.proofs.Common.{rules}
 use Rattle.slh_workers.proofs.Seated.{ran_one}
 use Rattle.slh_workers.proofs.seats.run_seat.Goals as goal
 

@@ -1,8 +1,8 @@
 use Rattle.std.proofs.Common.{◌≡◌, ◌-◌, ◌++◌}
 use Rattle.slh_workers.specs.Answers.{AllRight, numbers}
-use Rattle.slh_workers.specs.Ends.{IsFresh, IsAnswered}
+use Rattle.slh_workers.specs.Ends.{IsFresh}
 use Rattle.slh_workers.proofs.Draws.{next_above}
-use Rattle.slh_workers.proofs.seats.work_off.Given as goal
+use Rattle.slh_workers.proofs.worker.work_off.Given as goal
 
 abbrev pub invariant-loop-number : goal.invariant-loop-number
 invariant-loop-number g l =

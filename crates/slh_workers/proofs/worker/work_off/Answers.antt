@@ -1,6 +1,6 @@
 use Rattle.std.proofs.Common.{rules, arith, ◌≡◌, ◌≤◌, ◌+◌, ap, ◌∙◌}
 use Rattle.slh_workers.proofs.Draws.{next_above, next_above-push, next_above-le, answered_more, right_more}
-use Rattle.slh_workers.proofs.seats.work_off.Goals as goal
+use Rattle.slh_workers.proofs.worker.work_off.Goals as goal
 
 pub loop-number-smaller : goal.loop-number-smaller
 loop-number-smaller g c =

@@ -1,0 +1,106 @@
+// One worker at a seat of a board.
+ghost use Rattle.std.specs.Prelude.{◌≡◌, ◌<◌, OnOk, OnErr, Err};
+ghost use Rattle.slh_workers.specs.Answers.{AllRight, AddsAnswer, numbers};
+ghost use Rattle.slh_workers.specs.Ends.{IsFresh, EndFits, IsAnswered, may_lack};
+
+use crate::fault::RunFault;
+use crate::gate::{Gate, Go};
+use crate::work::{NoMemory, Work};
+use slh_board::{Board, Claim, Seat};
+use std::alloc::Allocator;
+
+/// What a worker ended by.
+#[derive(Clone, Copy, PartialEq, Eq, Debug, Drop)]
+pub enum End {
+    /// No job was left.
+    Done,
+    /// Another seat stopped the board.
+    Stopped,
+    /// The gate answered Stop to this worker, which stopped the board.
+    GateStop,
+    /// This worker was refused memory, and stopped the board.
+    NoMemory,
+}
+
+/// The answers of a worker by the numbers of their jobs, in the order in which it ran them, and what it ended by.
+#[derive(Drop)]
+pub struct WorkerEnd<T, A: Allocator> {
+    /// The numbers, with their answers.
+    pub answers: Vec<(u32, T), A>,
+    /// What the worker ended by.
+    pub end: End,
+}
+
+/// What one worker does: it draws jobs by its seat and runs each, until no job is left or the board is stopped. It asks the gate before each job, and
+/// tells it after. Where the gate answers Stop, or a growth of memory is refused, it stops the board and ends; after Stop `run` and `leave` of that
+/// job are not called. The seat is one of the board's, fresh and not raised, and the board has as many jobs as the work. Waits for nobody.
+pub fn work_off<A: Allocator, B: Allocator, W: Work, G: Gate>(
+    alloc: A,
+    board: &Board<B>,
+    seat: &mut Seat,
+    work: &W,
+    worker: u8,
+    gate: &G,
+) -> WorkerEnd<W::Out, A>
+    requires mine { seat.old.board ≡ board.now }
+    requires fresh { IsFresh seat.old }
+    requires jobs { board.now.jobs ≡ W.jobs work.now }
+    ensures mine { seat.new.board ≡ board.now }
+
+    // The numbers of the answers are those that the seat drew in this call, in their order, and each answer is right for its number.
+    // Only where this worker stopped the board may the last number lack its answer.
+    ensures numbers { IsAnswered (may_lack result.end) seat.old.drawn seat.new.drawn (numbers result.answers.items) }
+    ensures right { AllRight (W.is_right work.now) (W.jobs work.now) result.answers.items }
+
+    ensures ended { EndFits (G.may_stop gate.now) result.end seat.new }
+{
+    let mut answers = Vec::new(alloc);
+    loop {
+        let number = match board.claim(seat) {
+            Claim::Job(number) => number,
+            Claim::Done => {
+                return WorkerEnd {
+                    answers,
+                    end: End::Done,
+                };
+            }
+            Claim::Stopped => {
+                return WorkerEnd {
+                    answers,
+                    end: End::Stopped,
+                };
+            }
+        };
+        if let Err(fault) = add_answer(&mut answers, work, number, worker, gate) {
+            board.stop(seat);
+            let end = match fault {
+                RunFault::NoMemory => End::NoMemory,
+                RunFault::Stopped => End::GateStop,
+            };
+            return WorkerEnd { answers, end };
+        }
+    }
+}
+
+// Runs the job where the gate lets it, and adds its answer. Room for the answer is made first, so that an answer once made is kept.
+fn add_answer<A: Allocator, W: Work, G: Gate>(
+    answers: &mut Vec<(u32, W::Out), A>,
+    work: &W,
+    number: u32,
+    worker: u8,
+    gate: &G,
+) -> Result<(), RunFault>
+    requires { number < W.jobs work.now }
+    ensures added { OnOk result (AddsAnswer (W.is_right work.now) number answers.old.items answers.new.items) }
+    ensures stopped { result ≡ Err RunFault.Stopped → G.may_stop gate.now }
+    ensures err { OnErr result (answers.new.items ≡ answers.old.items) }
+{
+    answers.reserve(1).map_err(NoMemory::from)?;
+    if gate.enter(worker, number) == Go::Stop {
+        return Err(RunFault::Stopped);
+    }
+    let outcome = work.run(number);
+    gate.leave(worker, number);
+    answers.push_reserved((number, outcome?));
+    Ok(())
+}
