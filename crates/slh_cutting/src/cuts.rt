@@ -16,11 +16,6 @@ pub enum Cuts<'a> {
     Points(&'a [u32]),
 }
 
-/// The law that levels cut a tree into 2^level ranges of one size. It does nothing: the law is its contract.
-pub fn levels_cut_evenly()
-    ensures { (height level : ℕ) → level ≤ height → ranges 0 (level_points height level) (2 ^ height) ≡ map (λ i. (i * 2 ^ (height - level), (i + 1) * 2 ^ (height - level))) (range_with_len 0 (2 ^ level)) }
-{}
-
 /// The most cut points that a tree has.
 const MAX_POINTS: usize = 255;
 
@@ -29,6 +24,11 @@ const MAX_LEVEL: u32 = 8;
 
 /// The points at which trees are cut: the first leaf of each range but the first.
 pub(crate) type CutPoints = ArrayVec<u32, MAX_POINTS>;
+
+/// The law that levels cut a tree into 2^level ranges of one size. It does nothing: the law is its contract.
+pub fn levels_cut_evenly()
+    ensures { (height level : ℕ) → level ≤ height → ranges 0 (level_points height level) (2 ^ height) ≡ map (λ i. (i * 2 ^ (height - level), (i + 1) * 2 ^ (height - level))) (range_with_len 0 (2 ^ level)) }
+{}
 
 /// How many leaves a tree of this height has.
 pub(crate) fn leaf_count(height: u32) -> u32

@@ -1,6 +1,8 @@
 //! Worked examples of cuttings, of job numbers and of what is refused.
 use super::*;
+use Cuts::{Levels, Points};
 use slh_params::ParamSet;
+use slh_params::ParamSet::{S128f, S128s, S256f};
 use std::process::Abort;
 use std::test::Fail;
 
@@ -36,9 +38,9 @@ fn has_jobs(rt: &impl Abort, cutting: &Cutting, example: &Example<'_>) {
 fn jobs_of_levels(rt: HostRuntime) -> Result<(), Fail> {
     let examples = [
         Example {
-            set: ParamSet::S128f,
-            xmss: Cuts::Levels(1),
-            fors: Cuts::Levels(1),
+            set: S128f,
+            xmss: Levels(1),
+            fors: Levels(1),
             sign_jobs: 110,
             keygen_jobs: 2,
             jobs: &[
@@ -49,25 +51,25 @@ fn jobs_of_levels(rt: HostRuntime) -> Result<(), Fail> {
             ],
         },
         Example {
-            set: ParamSet::S128f,
-            xmss: Cuts::Levels(0),
-            fors: Cuts::Levels(0),
+            set: S128f,
+            xmss: Levels(0),
+            fors: Levels(0),
             sign_jobs: 55,
             keygen_jobs: 1,
             jobs: &[(54, JobTree::Fors(32), 0, 64)],
         },
         Example {
-            set: ParamSet::S128f,
-            xmss: Cuts::Levels(3),
-            fors: Cuts::Levels(0),
+            set: S128f,
+            xmss: Levels(3),
+            fors: Levels(0),
             sign_jobs: 209,
             keygen_jobs: 8,
             jobs: &[(175, JobTree::Xmss(21), 7, 8)],
         },
         Example {
-            set: ParamSet::S256f,
-            xmss: Cuts::Levels(2),
-            fors: Cuts::Levels(1),
+            set: S256f,
+            xmss: Levels(2),
+            fors: Levels(1),
             sign_jobs: 138,
             keygen_jobs: 4,
             jobs: &[
@@ -89,9 +91,9 @@ fn jobs_of_points(rt: HostRuntime) -> Result<(), Fail> {
     let (_, all_but_last) = many.split_last().ok_or("no points")?;
     let examples = [
         Example {
-            set: ParamSet::S128f,
-            xmss: Cuts::Points(&[1, 2, 3, 4, 5, 6, 7]),
-            fors: Cuts::Points(&[31, 33]),
+            set: S128f,
+            xmss: Points(&[1, 2, 3, 4, 5, 6, 7]),
+            fors: Points(&[31, 33]),
             sign_jobs: 275,
             keygen_jobs: 8,
             jobs: &[
@@ -101,25 +103,25 @@ fn jobs_of_points(rt: HostRuntime) -> Result<(), Fail> {
             ],
         },
         Example {
-            set: ParamSet::S128s,
-            xmss: Cuts::Points(all_but_last),
-            fors: Cuts::Levels(0),
+            set: S128s,
+            xmss: Points(all_but_last),
+            fors: Levels(0),
             sign_jobs: 1806,
             keygen_jobs: 256,
             jobs: &[(255, JobTree::Xmss(0), 255, 512)],
         },
         Example {
-            set: ParamSet::S128f,
-            xmss: Cuts::Points(&[]),
-            fors: Cuts::Points(&[]),
+            set: S128f,
+            xmss: Points(&[]),
+            fors: Points(&[]),
             sign_jobs: 55,
             keygen_jobs: 1,
             jobs: &[(0, JobTree::Xmss(0), 0, 8)],
         },
         Example {
-            set: ParamSet::S128f,
-            xmss: Cuts::Points(&[7]),
-            fors: Cuts::Points(&[63]),
+            set: S128f,
+            xmss: Points(&[7]),
+            fors: Points(&[63]),
             sign_jobs: 110,
             keygen_jobs: 2,
             jobs: &[(1, JobTree::Xmss(0), 7, 8)],
@@ -144,40 +146,16 @@ fn rising() -> [u32; 256] {
 #[test]
 fn bad_cuts_are_refused(rt: HostRuntime) {
     let many = rising();
-    let whole = Cuts::Levels(0);
+    let whole = Levels(0);
     let rows = [
-        (
-            ParamSet::S128f,
-            Cuts::Points(&[3, 3]),
-            whole,
-            CutTree::Xmss,
-            1,
-        ),
-        (ParamSet::S128f, Cuts::Points(&[0]), whole, CutTree::Xmss, 0),
-        (ParamSet::S128f, Cuts::Points(&[8]), whole, CutTree::Xmss, 0),
-        (
-            ParamSet::S128f,
-            whole,
-            Cuts::Points(&[64]),
-            CutTree::Fors,
-            0,
-        ),
-        (
-            ParamSet::S128f,
-            Cuts::Points(&[8]),
-            Cuts::Points(&[64]),
-            CutTree::Xmss,
-            0,
-        ),
-        (ParamSet::S128f, Cuts::Levels(4), whole, CutTree::Xmss, 4),
-        (ParamSet::S128s, Cuts::Levels(9), whole, CutTree::Xmss, 9),
-        (
-            ParamSet::S128s,
-            Cuts::Points(&many),
-            whole,
-            CutTree::Xmss,
-            255,
-        ),
+        (S128f, Points(&[3, 3]), whole, CutTree::Xmss, 1),
+        (S128f, Points(&[0]), whole, CutTree::Xmss, 0),
+        (S128f, Points(&[8]), whole, CutTree::Xmss, 0),
+        (S128f, whole, Points(&[64]), CutTree::Fors, 0),
+        (S128f, Points(&[8]), Points(&[64]), CutTree::Xmss, 0),
+        (S128f, Levels(4), whole, CutTree::Xmss, 4),
+        (S128s, Levels(9), whole, CutTree::Xmss, 9),
+        (S128s, Points(&many), whole, CutTree::Xmss, 255),
     ];
     for (set, xmss, fors, tree, place) in &rows {
         let fault = CutFault::BadCutting {
@@ -192,7 +170,7 @@ fn bad_cuts_are_refused(rt: HostRuntime) {
 
 #[test]
 fn jobs_of_one_tree(rt: HostRuntime) -> Result<(), Fail> {
-    let cutting = Cutting::new(ParamSet::S128f, Cuts::Points(&[3]), Cuts::Levels(1))?;
+    let cutting = Cutting::new(S128f, Points(&[3]), Levels(1))?;
     assert_eq!(rt; cutting.fors_ranges(), 2);
     assert_eq!(rt; cutting.first_job(JobTree::Xmss(21)), 42);
     assert_eq!(rt; cutting.first_job(JobTree::Fors(32)), 108);
