@@ -8,7 +8,9 @@ use crate::hashed_range::HashedRange;
 use crate::joined_tree::JoinedTree;
 use crate::joining::joined;
 use slh_cutting::JobTree;
-use slh_few::{ForsTree, Seeds, XmssTree, fors_indices, fors_range, layer_place, xmss_range};
+use slh_few::{
+    ForsTree, MOST_TREES, Seeds, XmssTree, fors_indices, fors_range, layer_place, xmss_range,
+};
 use slh_tree::{Cover, PathRec};
 
 /// What the trees of one signature are made from: the seeds, the place of the key at layer 0 that signs, and the part of the
@@ -23,7 +25,7 @@ pub struct SigningTrees<'a> {
     pub idx_leaf: u32,
     /// The part of the message digest that FORS signs, of md_len bytes.
     pub md: &'a [u8],
-    indices: [u32; 64],
+    indices: [u32; MOST_TREES],
     ghost leaf: { idx_leaf < 2 ^ (params seeds.set).hp },
     ghost asked: { (j : ℕ) → j < (params seeds.set).k
         → slice_index indices j ≡ fors_index (params seeds.set) md.now j },
@@ -69,6 +71,7 @@ impl<'a> SigningTrees<'a> {
         }
     }
 
+    /// The same of the XMSS tree of a layer.
     fn hashed_xmss(&self, layer: u8, lo: u32, hi: u32) -> HashedRange
         requires some { lo < hi }
         requires within { hi ≤ 2 ^ (params self.now.seeds.set).hp }
@@ -83,6 +86,7 @@ impl<'a> SigningTrees<'a> {
         HashedRange { cover, path }
     }
 
+    /// The same of a FORS tree.
     fn hashed_fors(&self, number: u32, lo: u32, hi: u32) -> HashedRange
         requires tree { number < (params self.now.seeds.set).k }
         requires some { lo < hi }

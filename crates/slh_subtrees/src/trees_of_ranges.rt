@@ -24,8 +24,8 @@ pub(crate) fn apart<A: Allocator + Clone>(
     ensures { IfOk result (λ v. (v.0.items ≡ map (λ x. x.cover) ranges.items)
         × (v.1.items ≡ map (λ x. x.path) ranges.items)) }
 {
-    let mut covers = Vec::new(alloc.clone()?);
-    let mut records = Vec::new(alloc);
+    let mut covers = Vec::with_capacity(alloc.clone()?, ranges.len())?;
+    let mut records = Vec::with_capacity(alloc, ranges.len())?;
     for range in ranges {
         covers.push(range.cover)?;
         records.push(range.path)?;
@@ -106,8 +106,9 @@ pub(crate) fn trees_of_ranges<A: Allocator>(
         IfOk result (λ xs. AreJoined p sk pk t.idx_tree t.idx_leaf t.md.now xs.items) }
 {
     let set = cutting.set();
-    let mut joined = Vec::new(alloc);
-    for c in 0..set.d() + set.k() {
+    let count = set.d() + set.k();
+    let mut joined = Vec::with_capacity(alloc, count as usize)?;
+    for c in 0..count {
         let tree = tree_numbered(set, c);
         joined.push(tree_of_ranges(trees, cutting, tree, covers, records))?;
     }

@@ -1,0 +1,9 @@
+//! Tests of the trees of a signature by several threads: they are those that one thread makes, and their refusals.
+#![tactic(auto)]
+
+#[cfg(test)]
+mod key;
+#[cfg(test)]
+mod one_thread;
+#[cfg(test)]
+mod refusals;
