@@ -92,5 +92,6 @@ for path in sorted(vectors.glob("*.json")):
         else:
             counts["failed"] += 1
             print(f"{path.name} test {number} {test['kind']} {test['set']}: fail")
-print(" ".join(f"{name}={count}" for name, count in counts.items()))
+print(f"{counts['passed over']} tests of the form internal were passed over")
+print(f"{counts['passed']} passed, {counts['failed']} failed")
 sys.exit(1 if counts["failed"] or not counts["passed"] else 0)
