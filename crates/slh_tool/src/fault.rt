@@ -28,9 +28,9 @@ pub enum Fault {
     NotJson,
     #[error("the vector file is no list")]
     NotAList,
-    #[error("a test of the vector file lacks a member")]
+    #[error("a member of the vector file is missing")]
     Missing { test: u64, member: Member },
-    #[error("a member of a test of the vector file is not as stated")]
+    #[error("a member of the vector file is not as stated")]
     Bad { test: u64, member: Member },
     #[error("the words are no command of the program")]
     BadWords,
