@@ -1,4 +1,4 @@
 pub mod PathLaw
 pub mod Joined
 pub mod Assembled
-pub mod VerdictLists
+pub mod AnswerLists

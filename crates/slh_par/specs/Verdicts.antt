@@ -1,9 +1,10 @@
 -- Which signatures of a list are valid.
-use Rattle.std.specs.Prelude.{◌≡◌, ℕ, ◌<◌, ◌≤◌, ◌↔◌, List, Option, None, Some, Bool, IsTrue, length, slice_index_or}
+use Rattle.std.specs.Prelude.{ℕ, ◌≤◌, ◌↔◌, List, Option, None, Some, Bool, IsTrue, length}
 use Rattle.slh_core.specs.Messages.{pure_message, pre_hash_message}
 use Rattle.slh_core.specs.PreHash.{PH}
 use Rattle.slh_core.specs.Signatures.{IsValid}
 use Rattle.slh_core.specs.declared.pre_hash.PreHash.{PreHash}
+use Rattle.slh_par.specs.Answers.{AreAnswers}
 use Rattle.slh_par.specs.declared.verify_item.VerifyItem.{VerifyItem}
 
 -- M' of a message under a context, signed itself or by its digest
@@ -16,7 +17,5 @@ abbrev pub IsVerified : VerifyItem → Type 0
 IsVerified item = (length item.ctx.now ≤ 255) × IsValid item.pk.now (message_in_form item.prehash item.ctx.now item.msg.now) item.sig.now
 
 -- as many answers as items, each of which says whether the item in its place is valid
-pub record AreVerdicts (items : List VerifyItem) (answers : List Bool) : Type 0 where
-  pub len : length answers ≡ length items
-  pub each : (i : ℕ) (item : VerifyItem) (answer : Bool) → i < length items
-      → IsTrue (slice_index_or answers i answer) ↔ IsVerified (slice_index_or items i item)
+abbrev pub AreVerdicts : List VerifyItem → List Bool → Type 0
+AreVerdicts items answers = AreAnswers (λ item answer. IsTrue answer ↔ IsVerified item) items answers

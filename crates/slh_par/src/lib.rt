@@ -9,6 +9,7 @@
 
 mod fault;
 mod generation;
+mod items;
 mod path_bytes;
 mod pre_hash_form;
 mod pure_form;
@@ -21,6 +22,7 @@ mod wots_signing;
 
 pub use fault::ParFault;
 pub use generation::keygen_par;
+pub use items::{Question, answer_all};
 pub use pre_hash_form::hash_sign_par;
 pub use pure_form::sign_par;
 pub use slh_cutting::{

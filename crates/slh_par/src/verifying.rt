@@ -1,55 +1,26 @@
 // Verifying many signatures by several threads.
-ghost use Rattle.std.specs.Prelude.{◌≡◌, ℕ, ◌<◌, ◌≤◌, ◌^◌, ◌↔◌, length, IsTrue, IfOk, IfErr, slice_index_or};
+ghost use Rattle.std.specs.Prelude.{◌≡◌, ◌↔◌, IsTrue, IfOk, IfErr};
 ghost use Rattle.slh_par.specs.Verdicts.{IsVerified, AreVerdicts};
-ghost use Rattle.slh_par.specs.declared.verify_item.VerifyItem.{VerifyItem};
 ghost use Rattle.slh_par.specs.declared.fault.ParFault.TheVariants.{NoMemory as NoMemoryFault};
 
 use crate::fault::ParFault;
+use crate::items::{Question, answer_all};
 use crate::verify_item::VerifyItem;
-use slh_workers::{NoGate, NoMemory, RunFault, Work, Workers, run_all};
+use slh_workers::{NoMemory, Workers};
 use std::alloc::Allocator;
 use std::thread::Threads;
 
-/// The most items of one run, whose jobs have numbers of 32 bits.
-const MOST_ITEMS: usize = 4294967295;
+/// Whether a signature is valid.
+#[derive(Clone, Copy)]
+struct Validity;
 
-/// The items of one run, as jobs.
-#[derive(Drop)]
-struct Verifying<'w, 'a> {
-    items: &'w [VerifyItem<'a>],
-    ghost few: { length items.now < 2 ^ 32 },
-}
+impl<'a> Question<VerifyItem<'a>> for Validity {
+    type Answer = bool;
 
-impl<'w, 'a> Work for Verifying<'w, 'a> {
-    type Out = bool;
+    ghost is_answer = { λ _ item answer. IsTrue answer ↔ IsVerified item };
 
-    ghost jobs = { λ w. length w.items.now };
-
-    ghost is_right = { λ w i answer. (item : VerifyItem) → IsTrue answer ↔ IsVerified (slice_index_or w.items.now i item) };
-
-    fn count(&self) -> u32 {
-        self.items.len() as u32
-    }
-
-    fn run(&self, i: u32) -> Result<bool, NoMemory> {
-        Ok(self.items[i as usize].is_valid())
-    }
-}
-
-/// The answers of one run.
-fn verify_run<R: Threads + Sync, A: Allocator + Clone + Send + Sync>(
-    rt: &R,
-    alloc: A,
-    items: &[VerifyItem],
-    workers: Workers,
-) -> Result<Vec<bool, A>, NoMemory>
-    requires { length items.now < 2 ^ 32 }
-    ensures { IfOk result (λ answers. AreVerdicts items.now answers.items) }
-{
-    match run_all(rt, alloc, &Verifying { items }, workers, &NoGate) {
-        Ok(answers) => Ok(answers),
-        Err(RunFault::NoMemory) => Err(NoMemory),
-        Err(RunFault::Stopped) => unreachable!(),
+    fn answer(&self, item: &VerifyItem<'a>) -> Result<bool, NoMemory> {
+        Ok(item.is_valid())
     }
 }
 
@@ -64,24 +35,5 @@ pub fn verify_all<R: Threads + Sync, A: Allocator + Clone + Send + Sync>(
     ensures answers { IfOk result (λ answers. AreVerdicts items.now answers.items) }
     ensures refused { IfErr result (λ fault. fault ≡ NoMemoryFault) }
 {
-    Ok(verify_runs(rt, alloc, items, workers)?)
-}
-
-/// The same, with the one refusal there is.
-fn verify_runs<R: Threads + Sync, A: Allocator + Clone + Send + Sync>(
-    rt: &R,
-    alloc: A,
-    items: &[VerifyItem],
-    workers: Workers,
-) -> Result<Vec<bool, A>, NoMemory>
-    ensures { IfOk result (λ answers. AreVerdicts items.now answers.items) }
-{
-    let mut answers = Vec::new(alloc.clone()?);
-    while answers.len() < items.len() {
-        let start = answers.len();
-        let end = start + (items.len() - start).min(MOST_ITEMS);
-        let mut more = verify_run(rt, alloc.clone()?, &items[start..end], workers)?;
-        answers.append(&mut more)?;
-    }
-    Ok(answers)
+    Ok(answer_all(rt, alloc, &Validity, items, workers)?)
 }

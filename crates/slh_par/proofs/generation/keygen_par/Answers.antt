@@ -1,5 +1,6 @@
-use Rattle.std.proofs.Common.{◌-◌, length, ap, sym, subst, ◌∙◌, rules}
+use Rattle.std.proofs.Common.{◌≡◌, ◌-◌, ℕ, List, length, ap, sym, subst, ◌∙◌, rules}
 use Rattle.slh_params.specs.ParamSet.{params}
+use Rattle.slh_tree.specs.Tree.{root}
 use Rattle.slh_tree.proofs.Authentic.{node_width}
 use Rattle.slh_few.specs.Trees.{xmss_tree-lawful}
 use Rattle.slh_few.specs.Xmss.{xmss_tree}
@@ -10,9 +11,11 @@ use Rattle.slh_par.proofs.generation.keygen_par.Goals as goal
 pub from_parts-requires-clause-pk_root : goal.from_parts-requires-clause-pk_root
 from_parts-requires-clause-pk_root g c =
     let p = params c.args.set in
-    let layer = p.d - 1 in
-    ap length (c.deref.ensures.0 ∙ c.in_ok-root.ensures.root)
-    ∙ node_width (xmss_tree p c.args.sk_seed.now c.args.pk_seed.now layer 0) (xmss_tree-lawful c.args.set c.args.sk_seed.now c.args.pk_seed.now layer 0) p.hp 0
+    let tree = xmss_tree p c.args.sk_seed.now c.args.pk_seed.now (p.d - 1) 0 in
+    let bytes : List ℕ = c.deref.result.now in
+    let is : bytes ≡ root tree = c.deref.ensures.0 ∙ c.in_ok-root.ensures.root in
+    let same : length bytes ≡ length (root tree) = ap length is in
+    same ∙ node_width tree (xmss_tree-lawful c.args.set c.args.sk_seed.now c.args.pk_seed.now (p.d - 1) 0) p.hp 0
 
 pub returns-clause-key : goal.returns-clause-key
 unfolding top_root

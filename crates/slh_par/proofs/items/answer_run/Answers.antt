@@ -1,5 +1,5 @@
 use Rattle.std.proofs.Common.{rules}
-use Rattle.slh_par.proofs.verifying.verify_run.Goals as goal
+use Rattle.slh_par.proofs.items.answer_run.Goals as goal
 
 pub returns-in-Ok : goal.returns-in-Ok
 returns-in-Ok g c = record {
