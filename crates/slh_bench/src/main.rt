@@ -1,32 +1,44 @@
-//! Times key generation, signing or verifying of a parameter set, or the hash functions below them. `tools/benchmark.py`
-//! runs it, and `tools/count_calls.py` does so under a profiler.
+//! Times key generation, signing or verifying of a parameter set, in one thread or by several workers, or the hash functions
+//! below them. `tools/benchmark.py` runs it, and `tools/count_calls.py` does so under a profiler.
 //!
-//! Its words are a task (`keygen`, `sign`, `verify`, `sha256`, `sha512`), a number of runs and a set's name. It prints the
-//! nanoseconds of the shortest run; one of `sha256` or `sha512` hashes 65536 bytes. Without three words it prints nothing.
+//! Its words are a task, a number of runs and a set's name. It prints the nanoseconds of the shortest run; one of `sha256` or
+//! `sha512` hashes 65536 bytes. Without these three words it prints nothing. The tasks are
+//!
+//! - in one thread `keygen`, `sign`, `verify`, `sha256` and `sha512`;
+//! - by several workers `keygen_par`, `sign_par`, `verify_all` (of 64 signatures) and `independent` (so many threads of which
+//!   each signs the message alone, as long as all of them take).
+//!
+//! A fourth word is the number of workers, 1 where there is none, and a fifth the levels by which the XMSS trees and the FORS
+//! trees are cut. Where there is no fifth word, they are cut so that each worker gets many jobs.
 #![tactic(auto)]
 
+mod by_workers;
+mod one_thread;
+mod sharing;
 mod task;
 
-use slh_core::SecretKey;
+use one_thread::{MOST_BYTES, key, sign_message};
+use sharing::Sharing;
 use slh_params::ParamSet;
 use std::rt::Clock;
+use std::thread::Threads;
 use std::time::{Duration, Instant};
 use std::{env, io};
-use task::{MOST_BYTES, Task, key, sign_message};
+use task::{Setting, Task};
 
 /// The shortest of several runs. A run whose outcome is wrong counts as the longest.
-fn least_time<C: Clock>(
-    clock: &C,
+fn least_time<R: Clock + Threads + Sync>(
+    rt: &R,
     task: Task,
-    sk: &SecretKey,
+    setting: &Setting,
     buffer: &mut [u8; MOST_BYTES],
     runs: u32,
 ) -> io::Result<Duration> {
     let mut least = Duration::MAX;
     for _ in 0..runs {
-        let start = Instant::now(clock)?;
-        if task.run(sk, buffer) {
-            least = least.min(start.elapsed(clock)?);
+        let start = Instant::now(rt)?;
+        if task.run(rt, setting, buffer) {
+            least = least.min(start.elapsed(rt)?);
         }
     }
     Ok(least)
@@ -44,11 +56,20 @@ fn main(rt: HostRuntime) -> io::Result<()> {
     ) else {
         return Ok(());
     };
-    let sk = key(set);
+    let workers = words.next().and_then(|word| word.parse().ok());
+    let levels = words.next().and_then(|word| word.parse().ok());
+    let Some(sharing) = Sharing::new(set, workers.unwrap_or(1), levels) else {
+        return Ok(());
+    };
+    let setting = Setting {
+        sk: key(set),
+        sharing,
+        alloc: rt.alloc(),
+    };
     let mut buffer = [0; MOST_BYTES];
-    if matches!(task, Task::Verify) {
-        sign_message(&sk, &mut buffer);
+    if matches!(task, Task::Verify | Task::VerifyAll) {
+        sign_message(&setting.sk, &mut buffer);
     }
-    let time = least_time(&rt, task, &sk, &mut buffer, runs)?;
+    let time = least_time(&rt, task, &setting, &mut buffer, runs)?;
     println!(rt; "{}", time.as_nanos())
 }

@@ -1,18 +1,12 @@
 //! What is timed.
 
-ghost use Rattle.std.specs.Prelude.{◌≡◌, ◌≤◌, length};
-ghost use Rattle.slh_params.specs.Params.{sig_len, sk_len};
-ghost use Rattle.slh_params.specs.ParamSet.{params};
-
+use crate::by_workers::{key_par, sign_in_each, sign_message_par, verify_many};
+use crate::one_thread::{MOST_BYTES, key, sign_message, verify_message};
+use crate::sharing::Sharing;
 use sha2::{Digest, Sha256, Sha512};
-use slh_core::{Randomizer, SecretKey, keygen_internal, sign, verify};
-use slh_params::ParamSet;
-
-/// No set has longer signatures. So many bytes are hashed in one run.
-pub const MOST_BYTES: usize = 65536;
-
-/// The message that is signed.
-const MESSAGE: &[u8] = b"abc";
+use slh_core::SecretKey;
+use std::alloc::Global;
+use std::thread::Threads;
 
 /// What one run does.
 #[derive(Clone, Copy)]
@@ -22,35 +16,18 @@ pub enum Task {
     Verify,
     Sha256,
     Sha512,
+    KeygenPar,
+    SignPar,
+    VerifyAll,
+    Independent,
 }
 
-#[tactic(auto, using(slh_params::proofs::Table::sig_len_small))]
-fn sig_len(set: ParamSet) -> usize
-    ensures value { result ≡ sig_len (params set) }
-    ensures fits { result ≤ MOST_BYTES }
-{
-    set.sig_len()
-}
-
-/// The key of the seeds 00, 01, 02, ..
-pub fn key(set: ParamSet) -> SecretKey {
-    let mut seeds = [0; 96];
-    for i in 0..96 {
-        seeds[i] = i as u8;
-    }
-    let n = set.n();
-    keygen_internal(set, &seeds[..n], &seeds[n..2 * n], &seeds[2 * n..3 * n])
-}
-
-/// Signs the message into the front of the buffer; its context is not too long.
-pub fn sign_message(sk: &SecretKey, buffer: &mut [u8; MOST_BYTES]) -> bool {
-    let out = &mut buffer[..sig_len(sk.set())];
-    sign(MESSAGE, b"", sk, Randomizer::Deterministic, out).is_ok()
-}
-
-/// Whether the front of the buffer is a signature of the message.
-fn verify_message(sk: &SecretKey, buffer: &[u8; MOST_BYTES]) -> bool {
-    verify(MESSAGE, b"", &buffer[..sig_len(sk.set())], &sk.public())
+/// What all runs have in common.
+#[derive(Drop)]
+pub struct Setting {
+    pub sk: SecretKey,
+    pub sharing: Sharing,
+    pub alloc: Global,
 }
 
 impl Task {
@@ -62,18 +39,33 @@ impl Task {
             "verify" => Some(Task::Verify),
             "sha256" => Some(Task::Sha256),
             "sha512" => Some(Task::Sha512),
+            "keygen_par" => Some(Task::KeygenPar),
+            "sign_par" => Some(Task::SignPar),
+            "verify_all" => Some(Task::VerifyAll),
+            "independent" => Some(Task::Independent),
             _ => None,
         }
     }
 
-    /// Runs once. Whether the outcome is as it should be: the same key, a signature, a valid one, a digest that is not zero.
-    pub fn run(self, sk: &SecretKey, buffer: &mut [u8; MOST_BYTES]) -> bool {
+    /// Runs once, with a signature in the front of the buffer. Whether the outcome is as it should be: the same key, a
+    /// signature, a valid one, a digest that is not zero.
+    pub fn run<R: Threads + Sync>(
+        self,
+        rt: &R,
+        setting: &Setting,
+        buffer: &mut [u8; MOST_BYTES],
+    ) -> bool {
+        let Setting { sk, sharing, alloc } = setting;
         match self {
             Task::Keygen => key(sk.set()).bytes() == sk.bytes(),
             Task::Sign => sign_message(sk, buffer),
             Task::Verify => verify_message(sk, buffer),
             Task::Sha256 => Sha256::digest(&buffer[..]) != [0; 32],
             Task::Sha512 => Sha512::digest(&buffer[..]) != [0; 64],
+            Task::KeygenPar => key_par(rt, *alloc, sk, *sharing),
+            Task::SignPar => sign_message_par(rt, *alloc, sk, *sharing, buffer),
+            Task::VerifyAll => verify_many(rt, *alloc, sk, *sharing, buffer),
+            Task::Independent => sign_in_each(rt, sk, sharing.workers.number()),
         }
     }
 }

@@ -1,0 +1,46 @@
+//! How workers share the trees.
+
+use slh_par::Workers;
+use slh_params::ParamSet;
+
+/// As many jobs for each worker, where the trees have as many leaves, keep all workers at work until nearly the end.
+const JOBS_EACH: u32 = 16;
+
+/// No tree is cut by more levels.
+const MOST_LEVELS: u32 = 8;
+
+/// The workers, and the levels by which the trees are cut.
+#[derive(Clone, Copy)]
+pub struct Sharing {
+    pub workers: Workers,
+    /// The XMSS tree of key generation.
+    pub top: u32,
+    /// The XMSS trees of a signature.
+    pub xmss: u32,
+    /// The FORS trees. Their leaves take little time.
+    pub fors: u32,
+}
+
+/// The least levels, at most `height` and 8, that cut so many trees into as many jobs as are wanted, or else the most.
+fn levels_for(jobs: u32, trees: u32, height: u32) -> u32 {
+    (0..height.min(MOST_LEVELS))
+        .find(|&levels| trees.saturating_mul(1 << levels) >= jobs)
+        .unwrap_or(height.min(MOST_LEVELS))
+}
+
+impl Sharing {
+    /// By so many workers, with trees cut by these levels or else by suitable ones. None where there are not 1 to 64 workers.
+    pub fn new(set: ParamSet, workers: u8, levels: Option<u32>) -> Option<Sharing> {
+        let workers = Workers::new(workers)?;
+        let jobs = match workers.number() {
+            1 => 1,
+            number => JOBS_EACH * u32::from(number),
+        };
+        Some(Sharing {
+            workers,
+            top: levels.unwrap_or(levels_for(jobs, 1, set.hp())),
+            xmss: levels.unwrap_or(levels_for(jobs, set.d(), set.hp())),
+            fors: levels.unwrap_or(0),
+        })
+    }
+}

@@ -1,0 +1,113 @@
+//! Calls with the 1st growth of memory refused, then the 2nd, and so on until a call meets no refusal.
+ghost use Rattle.std.specs.Prelude.{◌≡◌, ◌<◌};
+
+use crate::fixtures::{
+    SET, is_unwritten, key, key_par, signature, unwritten, whole_trees, workers,
+};
+use crate::signing::{FORMS, Form};
+use refusing_allocator::Refusing;
+use slh_par::{Cuts, Cutting, NoGate, ParFault, VerifyItem, verify_all};
+use std::alloc::Global;
+use std::process::Abort;
+use std::test::Fail;
+use std::thread::Threads;
+
+/// More growths than any call here asks for.
+const MANY: u64 = 1000;
+
+/// Whether some growth was refused, and then a call came that met no refusal.
+fn ended(refusals: u64) -> bool {
+    0 < refusals && refusals < MANY - 1
+}
+
+#[test]
+fn keygen_par_refuses_at_each_growth(rt: HostRuntime) -> Result<(), Fail> {
+    let cutting = Cutting::new(SET, Cuts::Levels(1), Cuts::Levels(1))?;
+    for number in [1u8, 2] {
+        let mut refusals = 0u64;
+        for nth in 1..MANY {
+            let alloc = Refusing::new(rt.alloc(), rt.alloc(), nth)?;
+            let outcome = key_par(&rt, alloc.clone()?, workers(number)?, &cutting, &NoGate);
+            if !alloc.has_refused() {
+                assert_eq!(rt; outcome?.bytes(), key(SET).bytes());
+                break;
+            }
+            assert_eq!(rt; outcome.err(), Some(ParFault::NoMemory), "growth {nth}");
+            refusals = nth;
+        }
+        assert!(rt; ended(refusals), "{refusals} refusals, {number} workers");
+    }
+    Ok(())
+}
+
+/// Signs by so many workers with each growth refused in turn.
+fn refuse_signing<R: Abort + Threads + Sync>(
+    rt: &R,
+    alloc: Global,
+    form: Form,
+    number: u8,
+) -> Result<(), Fail> {
+    let sk = key(SET);
+    let cutting = whole_trees()?;
+    let expected = form.abc(alloc, &sk)?;
+    let mut refusals = 0u64;
+    for nth in 1..MANY {
+        let refusing = Refusing::new(alloc, alloc, nth)?;
+        let mut out = unwritten(alloc, SET)?;
+        let some = workers(number)?;
+        let given = refusing.clone()?;
+        let outcome = form.sign_par(
+            rt, given, b"abc", b"", &sk, some, &cutting, &NoGate, &mut out,
+        );
+        if !refusing.has_refused() {
+            outcome?;
+            assert!(rt; out.as_slice() == expected.as_slice(), "{form:?}");
+            break;
+        }
+        assert_eq!(rt; outcome.err(), Some(ParFault::NoMemory), "growth {nth}");
+        assert!(rt; is_unwritten(&out), "growth {nth}");
+        refusals = nth;
+    }
+    assert!(rt; ended(refusals), "{refusals} refusals, {number} workers");
+    Ok(())
+}
+
+#[test]
+fn signing_refuses_at_each_growth(rt: HostRuntime) -> Result<(), Fail> {
+    for form in FORMS {
+        for number in [1u8, 2] {
+            refuse_signing(&rt, rt.alloc(), form, number)?;
+        }
+    }
+    Ok(())
+}
+
+#[test]
+fn verify_all_refuses_at_each_growth(rt: HostRuntime) -> Result<(), Fail> {
+    let sk = key(SET);
+    let pk = sk.public();
+    let good = signature(rt.alloc(), b"abc", b"", &sk)?;
+    let item = |sig| VerifyItem {
+        pk: &pk,
+        msg: b"abc",
+        ctx: b"",
+        prehash: None,
+        sig,
+    };
+    let items = [item(b""), item(good.as_slice())];
+    for number in [1u8, 2] {
+        let mut refusals = 0u64;
+        for nth in 1..MANY {
+            let alloc = Refusing::new(rt.alloc(), rt.alloc(), nth)?;
+            let outcome = verify_all(&rt, alloc.clone()?, &items, workers(number)?);
+            if !alloc.has_refused() {
+                assert!(rt; outcome?.iter().copied().eq([false, true]));
+                break;
+            }
+            assert_eq!(rt; outcome.err(), Some(ParFault::NoMemory), "growth {nth}");
+            refusals = nth;
+        }
+        assert!(rt; ended(refusals), "{refusals} refusals, {number} workers");
+    }
+    Ok(())
+}

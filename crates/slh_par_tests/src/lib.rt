@@ -1,0 +1,30 @@
+//! Tests of key generation, signing and verifying by several threads: the bytes are those of one thread and of other
+//! implementations, whatever the workers, the cutting and the gate; and each refusal.
+#![tactic(auto)]
+
+#[cfg(test)]
+mod contexts;
+#[cfg(test)]
+mod cuttings;
+#[cfg(test)]
+mod faults;
+#[cfg(test)]
+mod fixtures;
+#[cfg(test)]
+mod gates;
+#[cfg(test)]
+mod growths;
+#[cfg(test)]
+mod keys;
+#[cfg(test)]
+mod openssl;
+#[cfg(test)]
+mod schedules;
+#[cfg(test)]
+mod sets;
+#[cfg(test)]
+mod signing;
+#[cfg(test)]
+mod stops;
+#[cfg(test)]
+mod verifying;

@@ -1,0 +1,50 @@
+//! Many signatures at once.
+ghost use Rattle.std.specs.Prelude.{◌≡◌};
+
+use crate::fixtures::{SET, hash_signature, key, signature, workers};
+use slh_core::PreHash;
+use slh_par::{VerifyItem, verify_all};
+use std::test::Fail;
+
+#[test]
+fn verdicts_in_the_order_of_the_items(rt: HostRuntime) -> Result<(), Fail> {
+    let sk = key(SET);
+    let pk = sk.public();
+    let good = signature(rt.alloc(), b"abc", b"", &sk)?;
+    let of_digest = hash_signature(rt.alloc(), b"abc", b"", &sk)?;
+    let mut shorter = signature(rt.alloc(), b"abc", b"", &sk)?;
+    let _ = shorter.pop();
+    let mut longer = signature(rt.alloc(), b"abc", b"", &sk)?;
+    longer.push(0)?;
+    assert_eq!(rt;
+        (shorter.len(), good.len(), longer.len()),
+        (17087, 17088, 17089)
+    );
+    let item = |sig, prehash| VerifyItem {
+        pk: &pk,
+        msg: b"abc",
+        ctx: b"",
+        prehash,
+        sig,
+    };
+    let items = [
+        item(shorter.as_slice(), None),
+        item(longer.as_slice(), None),
+        item(b"", None),
+        item(good.as_slice(), None),
+        item(good.as_slice(), Some(PreHash::Sha256)),
+        item(of_digest.as_slice(), None),
+        item(of_digest.as_slice(), Some(PreHash::Sha256)),
+        item(of_digest.as_slice(), Some(PreHash::Sha512)),
+    ];
+    let expected = [false, false, false, true, false, false, true, false];
+    for number in [1u8, 2, 64] {
+        let four = verify_all(&rt, rt.alloc(), &items[..4], workers(number)?)?;
+        assert_eq!(rt; four.as_slice(), &expected[..4], "{number} workers");
+        let all = verify_all(&rt, rt.alloc(), &items, workers(number)?)?;
+        assert_eq!(rt; all.as_slice(), expected.as_slice(), "{number} workers");
+        let none = verify_all(&rt, rt.alloc(), &[], workers(number)?)?;
+        assert!(rt; none.is_empty(), "{number} workers");
+    }
+    Ok(())
+}
