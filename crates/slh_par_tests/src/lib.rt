@@ -19,6 +19,8 @@ mod keys;
 #[cfg(test)]
 mod openssl;
 #[cfg(test)]
+mod questions;
+#[cfg(test)]
 mod schedules;
 #[cfg(test)]
 mod sets;
