@@ -54,3 +54,30 @@ impl Gate for BothThenStop {
 
     fn leave(&self, _worker: u8, _job: u32) {}
 }
+
+// As many jobs as workers wait for each other; each worker's number is seen, and told again after its job.
+#[derive(Drop)]
+pub struct Numbered {
+    pub workers: u64,
+    pub entered: AtomicU64,
+    // the bit 2^w for each worker w that was asked about, and that was told of a job's end
+    pub asked: AtomicU64,
+    pub told: AtomicU64,
+}
+
+impl Gate for Numbered {
+    ghost may_stop = { λ _. ⊥ };
+
+    fn enter(&self, worker: u8, _job: u32) -> Go {
+        self.asked
+            .fetch_or(1u64.unbounded_shl(worker.into()), Ordering::SeqCst);
+        self.entered.fetch_add(1, Ordering::SeqCst);
+        turns_until(&self.entered, self.workers);
+        Go::On
+    }
+
+    fn leave(&self, worker: u8, _job: u32) {
+        self.told
+            .fetch_or(1u64.unbounded_shl(worker.into()), Ordering::SeqCst);
+    }
+}

@@ -1,5 +1,5 @@
 // Runs of all jobs.
-use crate::gates::{BothThenStop, StopAt};
+use crate::gates::{BothThenStop, Numbered, StopAt};
 use crate::works::{FirstWaits, Meeting, Squares};
 use slh_workers::{NoGate, RunFault, Workers, run_all};
 use std::sync::atomic::{AtomicU64, Ordering};
@@ -53,6 +53,22 @@ fn a_worker_takes_the_jobs_that_a_busy_one_leaves(rt: HostRuntime) -> Result<(),
     };
     let answers = run_all(&rt, rt.alloc(), &work, workers, &NoGate)?;
     assert_eq!(rt; answers.len(), 10);
+    Ok(())
+}
+
+#[test]
+fn the_gate_gets_the_number_of_each_worker(rt: HostRuntime) -> Result<(), Fail> {
+    let workers = Workers::new(3).ok_or("workers")?;
+    let gate = Numbered {
+        workers: 3,
+        entered: AtomicU64::new(0),
+        asked: AtomicU64::new(0),
+        told: AtomicU64::new(0),
+    };
+    let answers = run_all(&rt, rt.alloc(), &Squares::new(3), workers, &gate)?;
+    assert_eq!(rt; answers.len(), 3);
+    assert_eq!(rt; gate.asked.load(Ordering::SeqCst), 0b111);
+    assert_eq!(rt; gate.told.load(Ordering::SeqCst), 0b111);
     Ok(())
 }
 
