@@ -7,6 +7,11 @@ The compressions are those that tools/count_calls.py counts. Where OPENSSL names
 its `speed` is run by turns with ours, and the ratio of the least times is printed. Set OPENSSL_ia32cap=:~0x20000000
 to keep that one from the processor's SHA instructions, which this library does not use.
 Needs `rt`. Usage: tools/benchmark.py [SET ..]
+       tools/benchmark.py --workers [SET ..]
+
+The second form times signing, key generation and the verifying of 64 signatures by 1, 2 and 4 workers, and as many
+threads of which each signs the message alone. It prints the speed-up over one worker, and for signing also the share
+of what the independent threads reach together.
 """
 import os
 import re
@@ -19,6 +24,7 @@ ROOT = os.path.dirname(os.path.dirname(os.path.abspath(__file__)))
 PROGRAM = os.path.join(ROOT, "crates", "slh_bench", "out", "slh_bench")
 OPENSSL = os.environ.get("OPENSSL")
 TURNS = 3
+WORKERS = (1, 2, 4)
 
 # Bytes that one run of the tasks sha256 and sha512 hashes, and the blocks that they and their padding fill.
 BLOCKS = {"sha256": 65536 // 64 + 1, "sha512": 65536 // 128 + 1}
@@ -40,9 +46,9 @@ def build():
     subprocess.run(["rt", "run"], cwd=folder, check=True, stdout=subprocess.DEVNULL, stderr=subprocess.DEVNULL)
 
 
-def ours(task, runs, parameter_set):
+def ours(task, runs, parameter_set, *workers):
     """The nanoseconds of the shortest run."""
-    command = [PROGRAM, task, str(runs), parameter_set]
+    command = [PROGRAM, task, str(runs), parameter_set, *map(str, workers)]
     return int(subprocess.run(command, check=True, capture_output=True, text=True).stdout)
 
 
@@ -75,8 +81,38 @@ def line(parameter_set, task, least, other):
     return row + (f" {other[task] / 1e6:.3f} | {least[task] / other[task]:.2f} |" if other else "")
 
 
+def by_workers(parameter_set):
+    """The rows of the tasks of several workers."""
+    runs = 1 if parameter_set.endswith("s") else 5
+    for task in ("sign_par", "keygen_par", "verify_all", "independent"):
+        times = {}
+        for _ in range(TURNS):
+            for workers in WORKERS:
+                time = ours(task, runs, parameter_set, workers)
+                times[workers] = min(time, times.get(workers, time))
+        yield task, times
+
+
+def print_by_workers(parameter_set):
+    """Prints milliseconds, and the speed-up over one worker; independent threads do that many times the work."""
+    rows = dict(by_workers(parameter_set))
+    reached = {w: w * rows["independent"][1] / rows["independent"][w] for w in WORKERS}
+    for task, times in rows.items():
+        speed_up = {w: reached[w] if task == "independent" else times[1] / times[w] for w in WORKERS}
+        cells = [f"{times[w] / 1e6:.2f} ({speed_up[w]:.2f})" for w in WORKERS]
+        share = f"{speed_up[WORKERS[-1]] / reached[WORKERS[-1]]:.2f}" if task == "sign_par" else ""
+        print(f"| {parameter_set} | {task} | {' | '.join(cells)} | {share} |", flush=True)
+
+
 def main():
     build()
+    if sys.argv[1:2] == ["--workers"]:
+        heads = " | ".join(f"{w} workers, ms (speed-up)" for w in WORKERS)
+        print(f"| set | task | {heads} | share of independent |")
+        print("|---|---|" + "---|" * (len(WORKERS) + 1))
+        for parameter_set in sys.argv[2:] or SETS:
+            print_by_workers(parameter_set)
+        return
     print("| set | task | ms | of its compressions' time |" + (" OpenSSL, ms | ratio |" if OPENSSL else ""))
     print("|---|---|---|---|" + ("---|---|" if OPENSSL else ""))
     for parameter_set in sys.argv[1:] or SETS:
