@@ -1,43 +1,16 @@
 //! The command line of the program `slh`, as a command of `clap`.
 #![tactic(auto)]
 
-ghost use Rattle.std.specs.Prelude.{◌≡◌, false, [], IfOk};
-ghost use Rattle.clap.specs.Words.{app_of, rule_of};
-ghost use Rattle.slh_arguments.specs.Command.{AddsOptions, CommandIs, HasNoGlobals, form_rules, message_rules, no_command, optional, required, subcommand, workers_rule};
+ghost use Rattle.std.specs.Prelude.{◌≡◌, [], IfOk};
+ghost use Rattle.clap.specs.Words.{app_of};
+ghost use Rattle.slh_arguments.specs.Command.{CommandIs, no_command, subcommand};
 ghost use Rattle.slh_arguments.specs.Command.{check_shape, key_app, keygen_shape, message_app, params_shape, public_shape, root_shape, seed_app, sign_shape, slh_app, vectors_shape, verify_shape};
 
-use clap::builder::ValueParser;
-use clap::{Arg, Command};
+use clap::Command;
+use options::{message_command, optional, required, with_form, workers};
 use std::alloc::{AllocError, Global};
 
-/// An option that may be left out.
-fn optional<'a>(alloc: Global, name: &'a str, value: &'a str, help: &'a str) -> Arg<'a>
-    ensures rule { rule_of result ≡ optional name.entry.now }
-    ensures local { result.global ≡ false }
-{
-    Arg::new(alloc, name)
-        .long(name)
-        .value_name(value)
-        .help(help)
-}
-
-/// An option that the words must give.
-fn required<'a>(alloc: Global, name: &'a str, value: &'a str, help: &'a str) -> Arg<'a>
-    ensures rule { rule_of result ≡ required name.entry.now }
-    ensures local { result.global ≡ false }
-{
-    optional(alloc, name, value, help).required(true)
-}
-
-/// The option on the number of workers.
-fn workers<'a>(alloc: Global) -> Arg<'a>
-    ensures rule { rule_of result ≡ workers_rule }
-    ensures local { result.global ≡ false }
-{
-    optional(alloc, "workers", "N", "The number of workers, 1 to 64")
-        .value_parser(ValueParser::Signed(1, 64))
-        .default_value("1")
-}
+mod options;
 
 /// A subcommand with no options so far, what it is for and an example of it.
 fn subcommand<'a>(alloc: Global, name: &'a str, about: &'a str, example: &'a str) -> Command<'a>
@@ -106,38 +79,6 @@ fn check_command<'a>(alloc: Global) -> Result<Command<'a>, AllocError>
         "Example: slh check --key secret.key",
     )
     .arg(required(alloc, "key", "FILE", "A secret key file"))
-}
-
-/// A command on a key and a message.
-fn message_command<'a>(
-    alloc: Global,
-    command: Command<'a>,
-    key: &'a str,
-) -> Result<Command<'a>, AllocError>
-    requires { HasNoGlobals command }
-    ensures { IfOk result (AddsOptions command.entry message_rules) }
-{
-    command.arg(required(alloc, "key", "FILE", key))?.arg(required(
-        alloc,
-        "message",
-        "FILE",
-        "The message, any bytes",
-    ))
-}
-
-const CONTEXT_HELP: &str = "The context, an even number of hexadecimal digits [default: empty]";
-
-const PREHASH_HELP: &str = "The pre-hash form with SHA2-224, SHA2-256, SHA2-384, SHA2-512, \
-    SHA2-512/224 or SHA2-512/256 [default: the pure form]";
-
-/// The same command, which also takes the form in which the message is signed.
-fn with_form<'a>(alloc: Global, command: Command<'a>) -> Result<Command<'a>, AllocError>
-    requires { HasNoGlobals command }
-    ensures { IfOk result (AddsOptions command.entry form_rules) }
-{
-    command
-        .arg(optional(alloc, "context", "HEX", CONTEXT_HELP))?
-        .arg(optional(alloc, "prehash", "NAME", PREHASH_HELP))
 }
 
 const RANDOM_HELP: &str = "The randomizer, 2n hexadecimal digits [default: deterministic signing]";

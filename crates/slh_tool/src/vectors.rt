@@ -28,11 +28,7 @@ pub(crate) fn run_file<A: Allocator + Clone, F: Files>(
 }
 
 /// The report on tests with these outcomes.
-fn reported<A: Allocator>(
-    alloc: A,
-    tests: &[Test],
-    outcomes: &[Outcome],
-) -> Result<Reply<A>, Fault>
+fn reported<A: Allocator>(alloc: A, tests: &[Test], outcomes: &[Outcome]) -> Result<Reply<A>, Fault>
     requires { length outcomes.now ≡ length tests.now }
     ensures shown { IfOk result (λ r. r.output.items ≡ report_text (views tests.now) outcomes.now) }
     ensures status { IfOk result (λ r. IsStatus outcomes.now r.status) }

@@ -1,5 +1,5 @@
 -- The outcomes of tests that are run one after the other.
-use Rattle.std.proofs.Common.{◌≡◌, ℕ, suc, ◌+◌, ◌<◌, ◌≤◌, List, [], ◌∷◌, ◌++◌, length, take, get_or, map, refl, ap, ◌∙◌}
+use Rattle.std.proofs.Common.{◌≡◌, ℕ, suc, ◌+◌, ◌<◌, ◌≤◌, List, [], ◌∷◌, ◌++◌, length, take, get_or, refl, ap, ◌∙◌}
 use Rattle.std.proofs.lemmas.List.{length-map, map_push, take_all, take_more}
 use Rattle.slh_vectors.specs.Cases.{Case, test_view, views}
 use Rattle.slh_vectors.specs.Outcomes.{AreOutcomes, IsOutcome}

@@ -1,36 +1,25 @@
 -- What is read of a file is in the grammar.
-use Rattle.std.proofs.Common.{◌≡◌, ◌≢◌, ◌+◌, ◌*◌, ◌==◌, ◌||◌, ℕ, Bool, true, false, cond, List, [], ◌∷◌, length, Option, Some, None, Result, Ok, Err, refl, sym, ap, subst, ◌∙◌, codes, ◌⊎◌, inl, inr, option_map, zero, suc, eq-eqb, Vec, Global, arith}
-use Rattle.std.proofs.lemmas.Bool.{eqb-true}
-use Rattle.std.proofs.lemmas.Slice.Eq.{bytes_eq-Decides}
+use Rattle.std.proofs.Common.{◌≡◌, ◌≢◌, ◌+◌, ◌*◌, ◌==◌, ◌||◌, ℕ, Bool, true, false, cond, List, [], ◌∷◌, length, Some, None, Result, Ok, Err, refl, ap, subst, ◌∙◌, codes, Vec, Global, arith}
 use Rattle.std.specs.Prelude.{IfOk}
-use Rattle.std.specs.Str.{bytes_eq, IsUtf8, is_utf8}
-use Rattle.std.proofs.lemmas.Str.{IsUtf8-from_is_utf8, is_utf8-from_IsUtf8}
+use Rattle.std.specs.Str.{IsUtf8, is_utf8}
+use Rattle.std.proofs.lemmas.Str.{IsUtf8-from_is_utf8}
 use Rattle.serde_json.specs.Read.{read}
 use Rattle.slh_vectors.specs.declared.test.Test.{Test}
-use Rattle.slh_core.specs.PreHash as pre_hash
-use Rattle.slh_core.specs.declared.pre_hash.PreHash.{PreHash}
-use Rattle.slh_core.specs.declared.pre_hash.PreHash.TheVariants.{Sha224, Sha256, Sha384, Sha512, Sha512_224, Sha512_256}
 use Rattle.slh_params.specs.ParamSet as param_set
 use Rattle.slh_params.specs.ParamSet.{params}
 use Rattle.slh_params.specs.declared.param_set.ParamSet.{ParamSet}
-use Rattle.slh_vectors.specs.Names.{form_name, form_named, function_named, kind_name, kind_named, set_named}
-use Rattle.slh_vectors.proofs.NameLaws.{function_named-name, function_named_is, set_named-name, set_named_is}
+use Rattle.slh_vectors.specs.Names.{kind_name}
 use Rattle.slh_vectors.specs.declared.test.Kind.{Kind}
 use Rattle.slh_vectors.specs.declared.test.Kind.TheVariants as kinds
-use Rattle.slh_vectors.specs.declared.test.Form.{Form}
-use Rattle.slh_vectors.specs.declared.test.Form.TheVariants as forms
 use Rattle.slh_vectors.specs.declared.fault.Member.TheVariants as members
-use Rattle.hex.specs.Hex.{decode_of}
-use Rattle.hex.specs.declared.error.FromHexError.{FromHexError}
 use Rattle.serde_json.specs.Data.{Data, null, boolean, number, string, array, object, Items, no_items, item}
-use Rattle.serde_json.specs.Find.{get, as_str, as_bool, as_array}
-use Rattle.slh_vectors.specs.Cases.{SeedsCase, InputCase, KeygenCase, SignCase, VerifyCase, Case, keygen, sign, verify, views}
-use Rattle.slh_vectors.specs.Reading.{◌>>=◌, Gives, or_fault, decoded, member_name, member_in, text_in, bool_in, hex_in, bytes_in, kind_in, set_in, form_in, context_in, random_in, input_in, verify_in, seeds_in, keygen_in, sign_in, of_kind, test_in, tests_from, tests_in, json_of}
-use Rattle.slh_vectors.specs.Grammar.{HasText, HasHex, HasBytes, HasContext, HasInput, IsKeygen, IsSign, IsVerify, IsTest, AreTests, IsVectorFile}
-use Rattle.slh_vectors.specs.declared.fault.Member.{Member}
+use Rattle.serde_json.specs.Find.{as_array}
+use Rattle.slh_vectors.specs.Cases.{SeedsCase, KeygenCase, SignCase, VerifyCase, Case, keygen, sign, verify, views}
+use Rattle.slh_vectors.specs.Reading.{◌>>=◌, Gives, or_fault, bool_in, hex_in, bytes_in, kind_in, set_in, random_in, input_in, verify_in, seeds_in, keygen_in, sign_in, of_kind, test_in, tests_from, tests_in, json_of}
+use Rattle.slh_vectors.specs.Grammar.{HasText, HasHex, HasBytes, IsKeygen, IsSign, IsVerify, IsTest, AreTests, IsVectorFile}
 use Rattle.slh_vectors.specs.declared.fault.VectorFault.{VectorFault}
-use Rattle.slh_vectors.specs.declared.fault.VectorFault.TheVariants.{NotJson, NotAList, Missing, Bad}
-use Rattle.slh_vectors.proofs.MemberLaws.{bind_ok, some_from, guard_ok, ok_is, text_again, hex_found, hex_again, bytes_found, set_found, kind_found, input_found, bool_found}
+use Rattle.slh_vectors.specs.declared.fault.VectorFault.TheVariants.{NotJson, NotAList, Bad}
+use Rattle.slh_vectors.proofs.MemberLaws.{bind_ok, some_from, guard_ok, ok_is, hex_found, bytes_found, set_found, kind_found, input_found, bool_found}
 
 verify_found : (n : ℕ) (set : ParamSet) (d : Data) (t : VerifyCase) → HasText d (codes "kind") (codes "verify") → HasText d (codes "set") (param_set.name set) → verify_in n set d ≡ Ok t → IsVerify d t
 unfolding verify_in
@@ -41,7 +30,8 @@ verify_found n set d t kind name e =
     let v = bind_ok (bool_in n members.Valid d) _ t c.2 in
     let made : VerifyCase = record { set = set; pk = a.0; input = b.0; signature = c.0; valid = v.0 } in
     let whole : IsVerify d made = record {
-      kind = kind; set = name;
+      kind = kind;
+      set = name;
       pk = bytes_found n members.Pk (2 * (params set).n) d a.0 a.1;
       input = input_found n d b.0 b.1;
       signature = hex_found n members.Signature d c.0 c.1;
@@ -69,10 +59,12 @@ sign_found n set d t kind name e =
     let random = random_found n set d c.0 c.1 in
     let made : SignCase = record { set = set; sk = a.0; input = b.0; random = c.0; signature = v.0 } in
     let whole : IsSign d made = record {
-      kind = kind; set = name;
+      kind = kind;
+      set = name;
       sk = bytes_found n members.Sk (4 * (params set).n) d a.0 a.1;
       input = input_found n d b.0 b.1;
-      random = random.0; random_sized = random.1;
+      random = random.0;
+      random_sized = random.1;
       signature = hex_found n members.Signature d v.0 v.1;
     } in
     subst (λ (x : SignCase). IsSign d x) (ok_is made t v.2) whole
@@ -105,8 +97,11 @@ keygen_found n set d t kind name e =
     let seeds = seeds_found n set d a.0 a.1 in
     let made : KeygenCase = record { set = set; seeds = a.0; sk = b.0; pk = c.0 } in
     let whole : IsKeygen d made = record {
-      kind = kind; set = name;
-      sk_seed = seeds.sk_seed; sk_prf = seeds.sk_prf; pk_seed = seeds.pk_seed;
+      kind = kind;
+      set = name;
+      sk_seed = seeds.sk_seed;
+      sk_prf = seeds.sk_prf;
+      pk_seed = seeds.pk_seed;
       sk = bytes_found n members.Sk (4 * (params set).n) d b.0 b.1;
       pk = bytes_found n members.Pk (2 * (params set).n) d c.0 c.1;
     } in

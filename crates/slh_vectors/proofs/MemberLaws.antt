@@ -1,20 +1,15 @@
 -- What is read of a member is in the grammar.
-use Rattle.std.proofs.Common.{◌≡◌, ◌≢◌, ◌+◌, ◌*◌, ◌==◌, ◌||◌, ℕ, Bool, true, false, cond, List, [], ◌∷◌, length, Option, Some, None, Result, Ok, Err, refl, sym, ap, subst, ◌∙◌, codes, ◌⊎◌, inl, inr, option_map, zero, suc, eq-eqb, Vec, Global, arith}
+use Rattle.std.proofs.Common.{◌≡◌, ◌==◌, ℕ, Bool, true, false, cond, List, length, Option, Some, None, Result, Ok, Err, refl, sym, ap, subst, ◌∙◌, codes, ◌⊎◌, inl, inr, option_map}
 use Rattle.std.proofs.lemmas.Bool.{eqb-true}
 use Rattle.std.proofs.lemmas.Slice.Eq.{bytes_eq-Decides}
-use Rattle.std.specs.Prelude.{IfOk}
-use Rattle.std.specs.Str.{bytes_eq, IsUtf8, is_utf8}
-use Rattle.std.proofs.lemmas.Str.{IsUtf8-from_is_utf8, is_utf8-from_IsUtf8}
-use Rattle.serde_json.specs.Read.{read}
-use Rattle.slh_vectors.specs.declared.test.Test.{Test}
+use Rattle.std.specs.Str.{bytes_eq}
 use Rattle.slh_core.specs.PreHash as pre_hash
 use Rattle.slh_core.specs.declared.pre_hash.PreHash.{PreHash}
-use Rattle.slh_core.specs.declared.pre_hash.PreHash.TheVariants.{Sha224, Sha256, Sha384, Sha512, Sha512_224, Sha512_256}
 use Rattle.slh_params.specs.ParamSet as param_set
 use Rattle.slh_params.specs.ParamSet.{params}
 use Rattle.slh_params.specs.declared.param_set.ParamSet.{ParamSet}
 use Rattle.slh_vectors.specs.Names.{form_name, form_named, function_named, kind_name, kind_named, set_named}
-use Rattle.slh_vectors.proofs.NameLaws.{function_named-name, function_named_is, set_named-name, set_named_is}
+use Rattle.slh_vectors.proofs.NameLaws.{function_named_is, set_named_is}
 use Rattle.slh_vectors.specs.declared.test.Kind.{Kind}
 use Rattle.slh_vectors.specs.declared.test.Kind.TheVariants as kinds
 use Rattle.slh_vectors.specs.declared.test.Form.{Form}
@@ -22,14 +17,14 @@ use Rattle.slh_vectors.specs.declared.test.Form.TheVariants as forms
 use Rattle.slh_vectors.specs.declared.fault.Member.TheVariants as members
 use Rattle.hex.specs.Hex.{decode_of}
 use Rattle.hex.specs.declared.error.FromHexError.{FromHexError}
-use Rattle.serde_json.specs.Data.{Data, null, boolean, number, string, array, object, Items, no_items, item}
-use Rattle.serde_json.specs.Find.{get, as_str, as_bool, as_array}
-use Rattle.slh_vectors.specs.Cases.{SeedsCase, InputCase, KeygenCase, SignCase, VerifyCase, Case, keygen, sign, verify, views}
-use Rattle.slh_vectors.specs.Reading.{◌>>=◌, Gives, or_fault, decoded, member_name, member_in, text_in, bool_in, hex_in, bytes_in, kind_in, set_in, form_in, context_in, random_in, input_in, verify_in, seeds_in, keygen_in, sign_in, of_kind, test_in, tests_from, tests_in, json_of}
-use Rattle.slh_vectors.specs.Grammar.{HasText, HasHex, HasBytes, HasContext, HasInput, IsKeygen, IsSign, IsVerify, IsTest, AreTests, IsVectorFile}
+use Rattle.serde_json.specs.Data.{Data, null, boolean, number, string, array, object}
+use Rattle.serde_json.specs.Find.{get, as_str, as_bool}
+use Rattle.slh_vectors.specs.Cases.{InputCase}
+use Rattle.slh_vectors.specs.Reading.{◌>>=◌, or_fault, decoded, member_name, member_in, text_in, bool_in, hex_in, bytes_in, kind_in, set_in, form_in, context_in, input_in}
+use Rattle.slh_vectors.specs.Grammar.{HasText, HasHex, HasBytes, HasContext, HasInput}
 use Rattle.slh_vectors.specs.declared.fault.Member.{Member}
 use Rattle.slh_vectors.specs.declared.fault.VectorFault.{VectorFault}
-use Rattle.slh_vectors.specs.declared.fault.VectorFault.TheVariants.{NotJson, NotAList, Missing, Bad}
+use Rattle.slh_vectors.specs.declared.fault.VectorFault.TheVariants.{Missing, Bad}
 
 -- the value of a step that did not fail
 pub bind_ok : {A B : Type 0} (r : Result A VectorFault) (f : A → Result B VectorFault) (y : B) → (r >>= f) ≡ Ok y → (x : A) × (r ≡ Ok x) × (f x ≡ Ok y)

@@ -1,13 +1,12 @@
 -- What a vector file says, apart from the order in which it is judged.
-use Rattle.std.specs.Prelude.{◌≡◌, ◌≢◌, ◌*◌, ℕ, List, [], ◌∷◌, length, Bool, Option, Some, Result, Ok, codes}
+use Rattle.std.specs.Prelude.{◌≡◌, ◌≢◌, ◌*◌, ℕ, List, [], ◌∷◌, length, Some, Ok, codes}
 use Rattle.hex.specs.Hex.{decode_of}
 use Rattle.std.specs.Str.{IsUtf8}
 use Rattle.serde_json.specs.Read.{read}
 use Rattle.serde_json.specs.Data.{Data, boolean, string, array, Items, no_items, item}
 use Rattle.serde_json.specs.Find.{get}
 use Rattle.slh_params.specs.ParamSet.{params, name}
-use Rattle.slh_params.specs.declared.param_set.ParamSet.{ParamSet}
-use Rattle.slh_vectors.specs.Cases.{SeedsCase, InputCase, KeygenCase, SignCase, VerifyCase, Case, keygen, sign, verify}
+use Rattle.slh_vectors.specs.Cases.{InputCase, KeygenCase, SignCase, VerifyCase, Case, keygen, sign, verify}
 use Rattle.slh_vectors.specs.Names.{form_name}
 use Rattle.slh_vectors.specs.declared.test.Form.{Form}
 use Rattle.slh_vectors.specs.declared.test.Form.TheVariants as forms

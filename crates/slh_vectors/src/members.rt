@@ -52,7 +52,12 @@ pub(crate) fn truth(n: u64, name: Member, test: &Value) -> Result<bool, VectorFa
 
 /// The bytes of a member that is a hexadecimal text.
 #[tactic(auto, unfolding(crate::specs::Reading::hex_in))]
-pub(crate) fn hex_bytes(alloc: Global, n: u64, name: Member, test: &Value) -> Result<Vec<u8>, VectorFault>
+pub(crate) fn hex_bytes(
+    alloc: Global,
+    n: u64,
+    name: Member,
+    test: &Value,
+) -> Result<Vec<u8>, VectorFault>
     ensures { Gives (λ v. v.items) result (hex_in n name (view test.now)) }
 {
     let digits = text(n, name, test)?;
@@ -133,7 +138,12 @@ pub(crate) fn form(n: u64, test: &Value) -> Result<Form, VectorFault>
 
 /// The member `context`. A message that is signed as it is has none.
 #[tactic(auto, unfolding(crate::specs::Reading::context_in))]
-pub(crate) fn context(alloc: Global, n: u64, form: Form, test: &Value) -> Result<Vec<u8>, VectorFault>
+pub(crate) fn context(
+    alloc: Global,
+    n: u64,
+    form: Form,
+    test: &Value,
+) -> Result<Vec<u8>, VectorFault>
     ensures { Gives (λ v. v.items) result (context_in n form (view test.now)) }
 {
     match form {
@@ -144,7 +154,12 @@ pub(crate) fn context(alloc: Global, n: u64, form: Form, test: &Value) -> Result
 
 /// The member `random`: n bytes, or none.
 #[tactic(auto, unfolding(crate::specs::Reading::random_in))]
-pub(crate) fn random(alloc: Global, n: u64, set: ParamSet, test: &Value) -> Result<Vec<u8>, VectorFault>
+pub(crate) fn random(
+    alloc: Global,
+    n: u64,
+    set: ParamSet,
+    test: &Value,
+) -> Result<Vec<u8>, VectorFault>
     ensures value { Gives (λ v. v.items) result (random_in n set (view test.now)) }
     ensures sized { IfOk result (λ v. (length v.items ≢ 0) → length v.items ≡ (params set).n) }
 {
@@ -158,4 +173,3 @@ pub(crate) fn random(alloc: Global, n: u64, set: ParamSet, test: &Value) -> Resu
         })
     }
 }
-

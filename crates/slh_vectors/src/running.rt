@@ -11,8 +11,10 @@ ghost use Rattle.slh_vectors.specs.declared.outcome.Outcome.TheVariants.{Pass};
 use super::fault::VectorFault;
 use super::outcome::Outcome;
 use super::test::{Form, Input, KeygenTest, SignTest, Test, VerifyTest};
-use slh_core::{PublicKey, Randomizer, SecretKey, SignFault};
-use slh_core::{hash_sign, hash_verify, keygen_internal, sign, sign_internal, verify, verify_internal};
+use slh_core::{
+    PublicKey, Randomizer, SecretKey, SignFault, hash_sign, hash_verify, keygen_internal, sign,
+    sign_internal, verify, verify_internal,
+};
 use std::alloc::Allocator;
 
 /// What comes of a test. A keygen test passes where both keys are the generated ones; a sign test where signing is

@@ -40,7 +40,10 @@ fn judges_the_file(rt: HostRuntime) {
             b"[{\"kind\":\"x\",\"kind\":\"sign\"}]",
             missing(1, Member::Set),
         ),
-        (b"[{\"kind\":\"sign\",\"kind\":\"x\"}]", bad(1, Member::Kind)),
+        (
+            b"[{\"kind\":\"sign\",\"kind\":\"x\"}]",
+            bad(1, Member::Kind),
+        ),
     ];
     for (file, fault) in cases {
         assert_eq!(rt; fault_of(rt.alloc(), file), fault);
@@ -136,7 +139,10 @@ fn nests_no_deeper_than_json_is_read(rt: HostRuntime) -> Result<(), Fail> {
     for _ in 0..100_000 {
         file.push_str("]")?;
     }
-    assert_eq!(rt; fault_of(alloc, file.as_bytes()), Some(VectorFault::NotJson));
+    assert_eq!(rt;
+        fault_of(alloc, file.as_bytes()),
+        Some(VectorFault::NotJson)
+    );
     Ok(())
 }
 

@@ -15,7 +15,8 @@ const SK_PRF: &str = "\"101112131415161718191a1b1c1d1e1f\"";
 const PK_SEED: &str = "\"202122232425262728292a2b2c2d2e2f\"";
 
 /// The secret key, its public key and another public key. The root is OpenSSL's.
-const SK: &str = "\"000102030405060708090a0b0c0d0e0f101112131415161718191a1b1c1d1e1f202122232425262728292a2b2c2d2e2f3b56e816847f000386aeec2e2bb9e1b5\"";
+const SK: &str =
+    "\"000102030405060708090a0b0c0d0e0f101112131415161718191a1b1c1d1e1f202122232425262728292a2b2c2d2e2f3b56e816847f000386aeec2e2bb9e1b5\"";
 
 const PK: &str = "\"202122232425262728292a2b2c2d2e2f3b56e816847f000386aeec2e2bb9e1b5\"";
 
@@ -124,7 +125,14 @@ fn verify_passes_with_its_answer(rt: HostRuntime) -> Result<(), Fail> {
         (PK, pure, "\"616264\"", "\"\"", valid.as_str(), false),
         (OTHER_PK, pure, "\"616263\"", "\"\"", valid.as_str(), false),
         (PK, pure, "\"616263\"", long.as_str(), valid.as_str(), false),
-        (PK, "\"SHA2-256\"", "\"616263\"", "\"\"", valid.as_str(), false),
+        (
+            PK,
+            "\"SHA2-256\"",
+            "\"616263\"",
+            "\"\"",
+            valid.as_str(),
+            false,
+        ),
         (PK, internal, "\"0000616263\"", "1", valid.as_str(), true),
         (PK, internal, "\"616263\"", "1", valid.as_str(), false),
     ] {
@@ -152,7 +160,11 @@ fn outcomes_are_in_order(rt: HostRuntime) -> Result<(), Fail> {
     let mut tests = Vec::new(alloc);
     let wanted = [Outcome::Pass, Outcome::Fail, Outcome::Fail, Outcome::Pass];
     for outcome in wanted {
-        let valid = if outcome == Outcome::Pass { "false" } else { "true" };
+        let valid = if outcome == Outcome::Pass {
+            "false"
+        } else {
+            "true"
+        };
         let file = file_with(alloc, &VERIFY, 7, Some(valid), true)?;
         for test in read_vectors(alloc, file.as_bytes())? {
             tests.push(test)?;

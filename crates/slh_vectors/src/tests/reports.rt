@@ -26,7 +26,8 @@ fn three_tests(alloc: Global) -> Result<Vec<Test>, Fail>
 
 const OUTCOMES: [Outcome; 3] = [Outcome::Fail, Outcome::Pass, Outcome::Fail];
 
-const REPORT: &[u8] = b"test 1 keygen SLH-DSA-SHA2-128f fail\ntest 2 sign SLH-DSA-SHA2-128f pass\ntest 3 verify SLH-DSA-SHA2-128f fail\npassed 1 failed 2\n";
+const REPORT: &[u8] =
+    b"test 1 keygen SLH-DSA-SHA2-128f fail\ntest 2 sign SLH-DSA-SHA2-128f pass\ntest 3 verify SLH-DSA-SHA2-128f fail\npassed 1 failed 2\n";
 
 #[test]
 fn a_test_has_its_kind_and_set(rt: HostRuntime) -> Result<(), Fail> {
@@ -48,7 +49,10 @@ fn reports_a_line_for_each_test(rt: HostRuntime) -> Result<(), Fail> {
 
     let mut output = Writer::new(Vec::new(alloc));
     assert!(rt; report(&[], &[], &mut output).is_ok());
-    assert_eq!(rt; output.into_inner().as_slice(), b"passed 0 failed 0\n".as_slice());
+    assert_eq!(rt;
+        output.into_inner().as_slice(),
+        b"passed 0 failed 0\n".as_slice()
+    );
     Ok(())
 }
 
