@@ -36,7 +36,7 @@ pub record IsGeneratedFrom (name : Text) (old new : SourceState) (key : Key) : T
   pub read : AreSeeds key.set old new seeds
   pub generated : key ≡ key_of_seeds key.set seeds
 
--- why no key was generated in this thread: no set has the name, or the input has no seeds
+-- why no key was generated: no set has the name, or the input has no seeds
 abbrev pub RefusesSeedsOf : Text → SourceState → SourceState → Fault → Type 0
 RefusesSeedsOf name old new NoMemory = ⊤
 RefusesSeedsOf name old new UnknownSet = set_named name ≡ None

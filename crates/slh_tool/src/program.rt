@@ -87,13 +87,7 @@ fn respond<
     A: Allocator + Clone + Send + Sync,
     F: Files,
     S: Source,
->(
-    rt: &R,
-    alloc: A,
-    words: &[String],
-    files: &mut F,
-    input: &mut S,
-) -> Result<Reply<A>, Fault>
+>(rt: &R, alloc: A, words: &[String], files: &mut F, input: &mut S) -> Result<Reply<A>, Fault>
     ensures done { IfOk result (λ r. Replies (map string_bytes words.now) (F.state files.old) (S.state input.old) (S.state input.new) r.status r.output.items) }
     ensures refused { IfErr result (Refuses (map string_bytes words.now) (F.state files.old) (F.state files.new) (S.state input.old) (S.state input.new)) }
     ensures at_most { TakesAtMost (S.state input.old).left (S.state input.new).left
@@ -116,12 +110,7 @@ fn help<A: Allocator>(global: Global, alloc: A, error: &clap::Error) -> Result<R
 }
 
 /// The answer to a request, or the refusal.
-fn run<
-    R: AllocGlobal + Threads + Sync,
-    A: Allocator + Clone + Send + Sync,
-    F: Files,
-    S: Source,
->(
+fn run<R: AllocGlobal + Threads + Sync, A: Allocator + Clone + Send + Sync, F: Files, S: Source>(
     rt: &R,
     alloc: A,
     request: Request<'_>,

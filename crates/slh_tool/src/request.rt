@@ -152,10 +152,7 @@ fn keygen_request<'a>(values: &ArgMatches<'a>) -> Option<Request<'a>>
 fn vectors_request<'a>(values: &ArgMatches<'a>) -> Option<Request<'a>>
     ensures { option_map asked result ≡ vectors_in (rows_of (found_of values.now)) }
 {
-    Some(Request::Vectors(
-        value(values, "file")?,
-        number(values, "workers"),
-    ))
+    Some(Request::Vectors(value(values, "file")?, number(values, "workers")))
 }
 
 fn sign_request<'a>(values: &ArgMatches<'a>) -> Option<Request<'a>>

@@ -53,7 +53,16 @@ fn sign_with<R: Threads + Sync, A: Allocator + Clone + Send + Sync, F: Files>(
     let cutting = cutting_of(key.set(), words.work)?;
     let message = read_file(alloc.clone()?, files, words.message)?;
     let workers = workers_of(words.work.workers);
-    signature_of(rt, alloc, key, message.as_slice(), &form, &random, workers, &cutting)
+    signature_of(
+        rt,
+        alloc,
+        key,
+        message.as_slice(),
+        &form,
+        &random,
+        workers,
+        &cutting,
+    )
 }
 
 /// The signature of a message in a form, by several workers.
@@ -80,7 +89,9 @@ fn signature_of<R: Threads + Sync, A: Allocator + Clone + Send + Sync>(
     let mut signature = Vec::new(alloc.clone()?);
     signature.resize(key.set().sig_len(), 0)?;
     let out = signature.as_mut_slice();
-    match signed(rt, alloc, key, message, form, randomizer, workers, cutting, out) {
+    match signed(
+        rt, alloc, key, message, form, randomizer, workers, cutting, out,
+    ) {
         Ok(()) => Ok(signature),
         Err(ParFault::NoMemory) => Err(Fault::NoMemory),
         Err(ParFault::ContextTooLong) => Err(Fault::ContextTooLong),

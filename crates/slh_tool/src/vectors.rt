@@ -18,13 +18,7 @@ pub(crate) fn run_file<
     R: AllocGlobal + Threads + Sync,
     A: Allocator + Clone + Send + Sync,
     F: Files,
->(
-    rt: &R,
-    alloc: A,
-    path: &str,
-    workers: Workers,
-    files: &mut F,
-) -> Result<Reply<A>, Fault>
+>(rt: &R, alloc: A, path: &str, workers: Workers, files: &mut F) -> Result<Reply<A>, Fault>
     ensures done { IfOk result (λ r. RunsVectors path.now (F.state files.old) r.status r.output.items) }
     ensures refused { IfErr result (RefusesVectors path.now (F.state files.old) (F.state files.new)) }
 {

@@ -11,5 +11,5 @@ pub returns : goal.returns
 returns c =
     c.unwrap_or.ensures
     ∙ number_read _ (λ t r. ParsesUnsigned 8 10 t r × ExplainsUnsignedError 10 t r × HasUnsignedDigitsIfOk t r) _ c.get_one.result (λ t x h. h.0)
-        c.get_one.ensures.none c.get_one.ensures.value
+    c.get_one.ensures.none c.get_one.ensures.value
     ∙ ap (λ (o : Option Text). option_map_or byte_or_zero o 0) (one_text-rows (found_of c.args.values.now) c.args.name.now)
