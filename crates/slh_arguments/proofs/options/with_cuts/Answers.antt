@@ -1,4 +1,4 @@
-use Rattle.std.proofs.Common.{◌≡◌, ◌||◌, ◌∙◌, ap, ap₂, Bool}
+use Rattle.std.proofs.Common.{◌||◌, ◌∙◌, ap, ap₂, Bool}
 use Rattle.std.proofs.lemmas.Result.{IfOk-weaker}
 use Rattle.clap.specs.Words.{App, with_rule}
 use Rattle.slh_arguments.proofs.options.with_cuts.Goals as goal

@@ -3,7 +3,7 @@ use Rattle.slh_vectors.specs.Cases.{views}
 use Rattle.slh_vectors.specs.Outcomes.{AreOutcomes}
 use Rattle.slh_vectors.specs.declared.outcome.Outcome.{Outcome}
 use Rattle.slh_vectors.specs.declared.test.Test.{Test}
-use Rattle.slh_vectors.proofs.AllOutcomes.{HasRun, all_run, more_run}
+use Rattle.slh_vectors.proofs.AllOutcomes.{HasRun, more_run}
 use Rattle.slh_vectors.proofs.runs.run_in_turn.Goals as goal
 
 pub loop-workers-preserved : goal.loop-workers-preserved
