@@ -1,5 +1,5 @@
 -- The key file of seeds.
-use Rattle.std.proofs.Common.{◌≡◌, Some, ap, subst, sym, ◌∙◌, ◌++◌}
+use Rattle.std.proofs.Common.{◌≡◌, Some, ap, subst, sym, ◌∙◌}
 use Rattle.clap.specs.Words.{Text}
 use Rattle.slh_core.specs.Keys.{Key}
 use Rattle.slh_cutting.specs.CutTrees.{CutTrees}

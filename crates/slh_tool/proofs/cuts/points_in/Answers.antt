@@ -1,8 +1,8 @@
-use Rattle.std.proofs.Common.{lit<, ◌≡◌, ◌≢◌, Some, ℕ, ◌+◌, ◌<◌, ◌≤◌, ◌==◌, ◌++◌, ◌∷◌, [], length, List, rules, arith, sym, subst, ◌∙◌}
+use Rattle.std.proofs.Common.{lit<, ◌≡◌, ◌≢◌, Some, ◌+◌, length, rules, arith, ◌∙◌}
 use Rattle.std.proofs.lemmas.Iterator.Consumers.{YieldsList-end, YieldsList-turn}
 use Rattle.std.proofs.lemmas.Iterator.Splits.{YieldsList-from_str_split}
 use Rattle.std.proofs.lemmas.List.{length_push}
-use Rattle.slh_tool.proofs.CutLists.{HasRead, all_read, more_read, part_fails, too_many}
+use Rattle.slh_tool.proofs.CutLists.{all_read, more_read, part_fails, too_many}
 use Rattle.slh_tool.specs.Cuts.{number_in, parts_of}
 use Rattle.slh_tool.proofs.cuts.points_in.Goals as goal
 

@@ -1,4 +1,4 @@
-use Rattle.std.proofs.Common.{◌≡◌, Some, rules, string_bytes, sym}
+use Rattle.std.proofs.Common.{◌≡◌, Some, rules, string_bytes}
 use Rattle.slh_tool.specs.Keys.{key_of_seeds}
 use Rattle.slh_tool.specs.Requests.{keygen_asked}
 use Rattle.slh_tool.specs.Sets.{set_named}

@@ -1,4 +1,4 @@
-use Rattle.std.proofs.Common.{◌≡◌, Some, option_map, rules, sym, subst}
+use Rattle.std.proofs.Common.{◌≡◌, Some, option_map, sym, subst}
 use Rattle.slh_params.specs.declared.param_set.ParamSet.{ParamSet}
 use Rattle.slh_tool.specs.Cuts.{IsCutting}
 use Rattle.slh_tool.specs.Options.{random_of}
