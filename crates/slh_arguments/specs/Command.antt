@@ -18,6 +18,21 @@ required name = record (optional name) { required = true }
 abbrev pub workers_rule : Rule
 workers_rule = record (optional (codes "workers")) { parser = Some (parsers.Signed (pos 1) (pos 64)); defaults = codes "1" ∷ [] }
 
+-- the levels by which trees are cut, from 0 to 8, and 0 where the option is left out
+abbrev pub levels_rule : Text → Rule
+levels_rule name = record (optional name) { parser = Some (parsers.Signed (pos 0) (pos 8)); defaults = codes "0" ∷ [] }
+
+-- for either kind of tree, the levels and the cut points
+abbrev pub levels_rules : List Rule
+levels_rules = levels_rule (codes "xmss-levels") ∷ levels_rule (codes "fors-levels") ∷ []
+
+abbrev pub cuts_rules : List Rule
+cuts_rules = optional (codes "xmss-cuts") ∷ optional (codes "fors-cuts") ∷ []
+
+-- how the work is shared among workers
+abbrev pub work_rules : List Rule
+work_rules = workers_rule ∷ (levels_rules ++ cuts_rules)
+
 -- a subcommand with its options
 abbrev pub subcommand : Text → List Rule → Shape
 subcommand name rules = record (new_shape name) { rules = rules }
@@ -29,7 +44,7 @@ abbrev pub root_shape : Shape
 root_shape = subcommand (codes "root") (required (codes "set") ∷ [])
 
 abbrev pub keygen_shape : Shape
-keygen_shape = subcommand (codes "keygen") (required (codes "set") ∷ [])
+keygen_shape = subcommand (codes "keygen") (required (codes "set") ∷ work_rules)
 
 abbrev pub public_shape : Shape
 public_shape = subcommand (codes "public") (required (codes "key") ∷ [])
@@ -42,7 +57,7 @@ abbrev pub form_rules : List Rule
 form_rules = optional (codes "context") ∷ optional (codes "prehash") ∷ []
 
 abbrev pub sign_shape : Shape
-sign_shape = subcommand (codes "sign") (message_rules ++ form_rules ++ optional (codes "random") ∷ [])
+sign_shape = subcommand (codes "sign") (message_rules ++ form_rules ++ optional (codes "random") ∷ work_rules)
 
 abbrev pub verify_shape : Shape
 verify_shape = subcommand (codes "verify") (message_rules ++ form_rules ++ required (codes "signature") ∷ [])

@@ -7,7 +7,7 @@ ghost use Rattle.slh_arguments.specs.Command.{CommandIs, no_command, subcommand}
 ghost use Rattle.slh_arguments.specs.Command.{check_shape, key_app, keygen_shape, message_app, params_shape, public_shape, root_shape, seed_app, sign_shape, slh_app, vectors_shape, verify_shape};
 
 use clap::Command;
-use options::{message_command, optional, required, with_form, workers};
+use options::{message_command, optional, required, with_form, with_work, workers};
 use std::alloc::{AllocError, Global};
 
 mod options;
@@ -48,13 +48,14 @@ fn root_command<'a>(alloc: Global) -> Result<Command<'a>, AllocError>
 fn keygen_command<'a>(alloc: Global) -> Result<Command<'a>, AllocError>
     ensures { IfOk result (CommandIs keygen_shape) }
 {
-    subcommand(
+    let command = subcommand(
         alloc,
         "keygen",
         "Writes the secret key file of the seeds on standard input",
         "Example: slh keygen --set SLH-DSA-SHA2-128f < seeds.txt > secret.key",
-    )
-    .arg(required(alloc, "set", "NAME", SET_HELP))
+    );
+    let command = command.arg(required(alloc, "set", "NAME", SET_HELP))?;
+    with_work(alloc, command)
 }
 
 fn public_command<'a>(alloc: Global) -> Result<Command<'a>, AllocError>
@@ -93,7 +94,8 @@ fn sign_command<'a>(alloc: Global) -> Result<Command<'a>, AllocError>
         "Example: slh sign --key secret.key --message letter.txt > letter.sig",
     );
     let command = message_command(alloc, command, "A secret key file")?;
-    with_form(alloc, command)?.arg(optional(alloc, "random", "HEX", RANDOM_HELP))
+    let command = with_form(alloc, command)?.arg(optional(alloc, "random", "HEX", RANDOM_HELP))?;
+    with_work(alloc, command)
 }
 
 fn verify_command<'a>(alloc: Global) -> Result<Command<'a>, AllocError>

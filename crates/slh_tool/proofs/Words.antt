@@ -1,6 +1,10 @@
 -- From what `clap` answers to what the words ask for.
-use Rattle.std.proofs.Common.{◌⊎◌, inl, inr, subst, ◌≡◌, ◌≢◌, ◌∙◌, true, [], refl, sym}
-use Rattle.clap.specs.Words.{is_simple}
+use Rattle.std.proofs.Common.{◌⊎◌, inl, inr, subst, ◌≡◌, ◌≢◌, ◌∙◌, ℕ, true, [], Option, Some, None, Result, Ok, Err, unwrap_or, refl, sym}
+use Rattle.std.specs.Option.{option_map_or}
+use Rattle.std.specs.Str.Parse.{ParsesUnsigned}
+use Rattle.clap.proofs.WalkLemmas.{byte_read}
+use Rattle.clap.specs.Walk.{byte_or_zero}
+use Rattle.clap.specs.Words.{ReadsOne, Text, is_simple}
 use Rattle.clap.specs.Faults.{is_simple_and_free}
 use Rattle.clap.specs.Kinds.{IsAmong, Kinds}
 use Rattle.clap.specs.declared.error.ErrorKind.{ErrorKind}
@@ -23,3 +27,10 @@ help_among k kinds (inr a) e = subst (λ (x : ErrorKind). IsAmong x kinds) (sym 
 pub has_fault : (k : ErrorKind) (kinds : Kinds) → (k ≡ OutOfMemory) ⊎ IsAmong k kinds → (k ≢ OutOfMemory) → kinds ≢ []
 has_fault k kinds (inl o) other e = other o
 has_fault k kinds (inr a) other e = subst (λ (x : Kinds). IsAmong k x) e a
+
+-- the number that `get_one` reads of an option, and 0 where there is none
+pub number_read : (E : Type 0) (G : Text → Result ℕ E → Type 0) (o : Option Text) (r : Option ℕ) → ((t : Text) (x : Result ℕ E) → G t x → ParsesUnsigned 8 10 t x)
+    → (o ≡ None → r ≡ None) → ((t : Text) → o ≡ Some t → ReadsOne G t r) → unwrap_or r 0 ≡ option_map_or byte_or_zero o 0
+number_read E G None r parses none value = rw (none refl) refl
+number_read E G (Some t) (Some n) parses none value = byte_read {E = E} t (Ok n) (parses t (Ok n) (value t refl))
+number_read E G (Some t) None parses none value = let e = value t refl in byte_read {E = E} t (Err e.0) (parses t (Err e.0) e.1)

@@ -8,12 +8,13 @@ use Rattle.slh_vectors.specs.declared.fault.Member.{Member}
 use Rattle.slh_vectors.specs.declared.fault.VectorFault.{VectorFault}
 use Rattle.slh_vectors.specs.declared.fault.VectorFault.TheVariants as vectors
 use Rattle.slh_tool.specs.declared.fault.Fault.{Fault}
-use Rattle.slh_tool.specs.declared.fault.Fault.TheVariants.{BadHex, BadKeyLength, BadOption, BadSeeds, BadWords, Bad, ContextTooLong, FileTooLong, Missing}
+use Rattle.slh_tool.specs.declared.fault.Fault.TheVariants.{BadCutting, BadHex, BadKeyLength, BadOption, BadSeeds, BadWords, Bad, ContextTooLong, FileTooLong, Missing}
 use Rattle.slh_tool.specs.declared.fault.Fault.TheVariants.{NoMemory, NotAList, NotJson, NotAKeyFile, ReadFailed, TrailingBytes, UnknownSet, WriteFailed}
 
 abbrev pub number : Fault → ℕ
 number NoMemory = 1
 number ContextTooLong = 2
+number BadCutting = 4
 number NotAKeyFile = 11
 number UnknownSet = 12
 number BadHex = 13
@@ -33,6 +34,7 @@ number FileTooLong = 36
 abbrev pub name : Fault → List ℕ
 name NoMemory = codes "NoMemory"
 name ContextTooLong = codes "ContextTooLong"
+name BadCutting = codes "BadCutting"
 name NotAKeyFile = codes "NotAKeyFile"
 name UnknownSet = codes "UnknownSet"
 name BadHex = codes "BadHex"

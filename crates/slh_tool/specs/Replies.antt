@@ -5,17 +5,19 @@ use Rattle.hex.specs.Hex.{encode_lower}
 use Rattle.slh_core.specs.Keys.{IsGeneratedKey, Key, public_of}
 use Rattle.slh_core.specs.Signatures.{IsValid}
 use Rattle.slh_core.specs.declared.pre_hash.PreHash.{PreHash}
+use Rattle.slh_cutting.specs.CutTrees.{CutTrees}
 use Rattle.slh_devices.specs.Devices.{FilesState, SourceState}
 use Rattle.slh_files.specs.KeyFile.{key_text}
 use Rattle.slh_files.specs.Lines.{line}
 use Rattle.slh_files.specs.declared.key_kind.KeyKind.TheVariants.{Public, Secret}
 use Rattle.slh_params.specs.declared.param_set.ParamSet.{ParamSet}
+use Rattle.slh_tool.specs.Cuts.{HasCutting, IsCutting, RefusesCutting}
 use Rattle.slh_tool.specs.Keys.{HoldsKey, IsGeneratedFrom, RefusesKey, RefusesSeedsOf}
 use Rattle.slh_tool.specs.Options.{HasForm, RefusesForm, message_of, random_of, signature_of}
 use Rattle.slh_tool.specs.Reading.{IsFile, RefusesFile}
-use Rattle.slh_tool.specs.Requests.{Asked, SignOptions, VerifyOptions}
+use Rattle.slh_tool.specs.Requests.{Asked, KeygenOptions, SignOptions, VerifyOptions}
 use Rattle.slh_tool.specs.Requests as requests
-use Rattle.slh_tool.specs.Seeds.{seeds_limit}
+use Rattle.slh_tool.specs.Seeds.{RefusesSeeds, seeds_limit}
 use Rattle.slh_tool.specs.Sets.{lines, set_named, sets}
 use Rattle.slh_tool.specs.TestRuns.{RefusesVectors, RunsVectors}
 use Rattle.slh_tool.specs.declared.fault.Fault.{Fault}
@@ -35,9 +37,17 @@ RefusesSets name fault = ⊥
 abbrev pub ShowsRoot : Text → SourceState → SourceState → Text → Type 0
 ShowsRoot name old new text = (key : Key) × IsGeneratedFrom name old new key × (text ≡ encode_lower (public_of key).bytes ++ 10 ∷ [])
 
--- `keygen`: the secret key file
-abbrev pub WritesKey : Text → SourceState → SourceState → Text → Type 0
-WritesKey name old new text = (key : Key) × IsGeneratedFrom name old new key × (text ≡ key_text Secret key)
+-- `keygen`: the secret key file, whatever the cutting
+abbrev pub WritesKey : KeygenOptions → SourceState → SourceState → Text → Type 0
+WritesKey options old new text = (key : Key) × IsGeneratedFrom options.set old new key × HasCutting options.work key.set
+    × (text ≡ key_text Secret key)
+
+-- why there is none: no set has the name, or the options give no cutting, or the input has no seeds
+abbrev pub RefusesKeygen : KeygenOptions → SourceState → SourceState → Fault → Type 0
+RefusesKeygen options old new NoMemory = ⊤
+RefusesKeygen options old new UnknownSet = set_named options.set ≡ None
+RefusesKeygen options old new fault = (set : ParamSet) × (set_named options.set ≡ Some set)
+    × (RefusesCutting options.work set fault ⊎ (HasCutting options.work set × RefusesSeeds set old new fault))
 
 -- `public`: the public key file of a secret key file
 abbrev pub WritesPublic : Text → FilesState → Text → Type 0
@@ -55,14 +65,16 @@ ChecksKey path files status text = (key : Key) × HoldsKey Secret files path key
     × ((answer : Bool) × (IsTrue answer ↔ IsGeneratedKey key)
     × IsVerdict answer (line (codes "consistent")) (line (codes "inconsistent")) status text)
 
--- a signature with a key
+-- a signature with a key, whatever the cutting
 pub record SignsWith (options : SignOptions) (files : FilesState) (key : Key) (text : Text) : Type 0 where
   pub context : Text
   pub prehash : Option PreHash
   pub random : Option Text
   pub message : Text
+  pub cutting : CutTrees
   pub form : HasForm options.form context prehash
   pub randomizer : random_of key.set options.random ≡ Some random
+  pub cut : IsCutting options.work key.set cutting
   pub read : IsFile files options.message message
   pub short : length context ≤ 255
   pub signed : text ≡ signature_of key (message_of prehash context message) random
@@ -80,11 +92,16 @@ abbrev pub HasSignForm : SignOptions → ParamSet → Text → Type 0
 HasSignForm options set context = ((prehash : Option PreHash) × HasForm options.form context prehash)
     × ((random : Option Text) × (random_of set options.random ≡ Some random))
 
--- why nothing is signed with a key that was read: an option, then the message, then the context's length
+-- why no message is signed under a context: the message, then the context's length
+abbrev pub RefusesMessage : SignOptions → Text → FilesState → FilesState → Fault → Type 0
+RefusesMessage options context old new fault = RefusesFile old new options.message fault
+    ⊎ (((message : Text) × IsFile old options.message message) × ((fault ≡ NoMemory) ⊎ ((fault ≡ ContextTooLong) × (255 < length context))))
+
+-- why nothing is signed with a key that was read: an option on the form, then the cutting, then the message
 abbrev pub RefusesSigning : SignOptions → ParamSet → FilesState → FilesState → Fault → Type 0
 RefusesSigning options set old new fault = RefusesSignForm options set fault
-    ⊎ ((context : Text) × HasSignForm options set context × (RefusesFile old new options.message fault
-    ⊎ (((message : Text) × IsFile old options.message message) × ((fault ≡ NoMemory) ⊎ ((fault ≡ ContextTooLong) × (255 < length context))))))
+    ⊎ ((context : Text) × HasSignForm options set context × (RefusesCutting options.work set fault
+    ⊎ (HasCutting options.work set × RefusesMessage options context old new fault)))
 
 abbrev pub RefusesSign : SignOptions → FilesState → FilesState → Fault → Type 0
 RefusesSign options old new fault = RefusesKey Secret old new options.key fault
@@ -130,23 +147,23 @@ RefusesVerify options old new fault = RefusesKey Public old new options.key faul
 abbrev pub IsReply : Asked → FilesState → SourceState → SourceState → ℕ → Text → Type 0
 IsReply (requests.params name) files old new status text = (status ≡ 0) × ShowsSets name text
 IsReply (requests.root name) files old new status text = (status ≡ 0) × ShowsRoot name old new text
-IsReply (requests.keygen name) files old new status text = (status ≡ 0) × WritesKey name old new text
+IsReply (requests.keygen options) files old new status text = (status ≡ 0) × WritesKey options old new text
 IsReply (requests.public path) files old new status text = (status ≡ 0) × WritesPublic path files text
 IsReply (requests.check path) files old new status text = ChecksKey path files status text
 IsReply (requests.sign options) files old new status text = (status ≡ 0) × SignsMessage options files text
 IsReply (requests.verify options) files old new status text = VerifiesMessage options files status text
-IsReply (requests.vectors path) files old new status text = RunsVectors path files status text
+IsReply (requests.vectors path workers) files old new status text = RunsVectors path files status text
 
 -- a command's refusal, which has its cause, by the states of the files and of the input before and after
 abbrev pub IsRefusal : Asked → FilesState → FilesState → SourceState → SourceState → Fault → Type 0
 IsRefusal (requests.params name) before after old new fault = RefusesSets name fault
 IsRefusal (requests.root name) before after old new fault = RefusesSeedsOf name old new fault
-IsRefusal (requests.keygen name) before after old new fault = RefusesSeedsOf name old new fault
+IsRefusal (requests.keygen options) before after old new fault = RefusesKeygen options old new fault
 IsRefusal (requests.public path) before after old new fault = RefusesKey Secret before after path fault
 IsRefusal (requests.check path) before after old new fault = RefusesKey Secret before after path fault
 IsRefusal (requests.sign options) before after old new fault = RefusesSign options before after fault
 IsRefusal (requests.verify options) before after old new fault = RefusesVerify options before after fault
-IsRefusal (requests.vectors path) before after old new fault = RefusesVectors path before after fault
+IsRefusal (requests.vectors path workers) before after old new fault = RefusesVectors path before after fault
 
 -- so many bytes of the input a command takes at most
 abbrev pub limit_of_set : Option ParamSet → ℕ
@@ -155,5 +172,5 @@ limit_of_set None = 0
 
 abbrev pub input_limit : Option Asked → ℕ
 input_limit (Some (requests.root name)) = limit_of_set (set_named name)
-input_limit (Some (requests.keygen name)) = limit_of_set (set_named name)
+input_limit (Some (requests.keygen options)) = limit_of_set (set_named options.set)
 input_limit other = 0

@@ -14,6 +14,8 @@ pub enum Fault {
     NoMemory,
     #[error("the context has over 255 bytes")]
     ContextTooLong,
+    #[error("the levels or cut points are out of rule")]
+    BadCutting,
     #[error("the file is no key file of the kind that is asked for")]
     NotAKeyFile,
     #[error("no parameter set has this name")]
@@ -54,6 +56,7 @@ impl Fault {
         match self {
             Fault::NoMemory => 1,
             Fault::ContextTooLong => 2,
+            Fault::BadCutting => 4,
             Fault::NotAKeyFile => 11,
             Fault::UnknownSet => 12,
             Fault::BadHex => 13,
@@ -79,6 +82,7 @@ impl Fault {
         match self {
             Fault::NoMemory => "NoMemory",
             Fault::ContextTooLong => "ContextTooLong",
+            Fault::BadCutting => "BadCutting",
             Fault::NotAKeyFile => "NotAKeyFile",
             Fault::UnknownSet => "UnknownSet",
             Fault::BadHex => "BadHex",
@@ -105,6 +109,7 @@ impl Fault {
         match self {
             Fault::NoMemory => "slh: 1 NoMemory",
             Fault::ContextTooLong => "slh: 2 ContextTooLong",
+            Fault::BadCutting => "slh: 4 BadCutting",
             Fault::NotAKeyFile => "slh: 11 NotAKeyFile",
             Fault::UnknownSet => "slh: 12 UnknownSet",
             Fault::BadHex => "slh: 13 BadHex",

@@ -4,6 +4,7 @@
 pub use fault::Fault;
 pub use program::{command, refuse};
 
+mod cuts;
 mod fault;
 mod generate;
 mod keys;

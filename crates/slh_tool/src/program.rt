@@ -10,6 +10,7 @@ ghost use Rattle.slh_tool.specs.Runs.{IsTold, Refuses, Replies};
 ghost use Rattle.slh_tool.specs.declared.fault.Fault.{Fault};
 ghost use Rattle.slh_tool.specs.declared.fault.Fault.TheVariants.{WriteFailed};
 
+use super::cuts::workers_of;
 use super::fault::Fault;
 use super::generate::{keygen, root};
 use super::keys::{check, public};
@@ -22,12 +23,21 @@ use super::vectors::run_file;
 use super::verify::verify_file;
 use slh_devices::{Files, Sink, Source, put_all};
 use std::alloc::{AllocError, Allocator, Global};
+use std::thread::Threads;
 
 /// Runs the command of the words after the program's name, and gives the exit status: 0 for done, valid,
 /// consistent or all tests passed, 1 for invalid, inconsistent or a failed test, 2 for refused.
 ///
-/// `clap` and `serde_json` take their memory from the runtime, and all else takes it from `alloc`.
-pub fn command<R: AllocGlobal, A: Allocator + Clone, F: Files, S: Source, O: Sink, E: Sink>(
+/// `clap` and `serde_json` take their memory from the runtime, and all else takes it from `alloc`. `keygen`, `sign` and
+/// `vectors` run on as many threads as they are asked for workers, and wait only for the threads that they started.
+pub fn command<
+    R: AllocGlobal + Threads + Sync,
+    A: Allocator + Clone + Send + Sync,
+    F: Files,
+    S: Source,
+    O: Sink,
+    E: Sink,
+>(
     rt: &R,
     alloc: A,
     words: &[String],
@@ -72,20 +82,19 @@ pub fn refuse<E: Sink>(errors: &mut E, fault: Fault) -> u8
 }
 
 /// The answer to the words, or the refusal.
-fn respond<R: AllocGlobal, A: Allocator + Clone, F: Files, S: Source>(
-    rt: &R,
-    alloc: A,
-    words: &[String],
-    files: &mut F,
-    input: &mut S,
-) -> Result<Reply<A>, Fault>
+fn respond<
+    R: AllocGlobal + Threads + Sync,
+    A: Allocator + Clone + Send + Sync,
+    F: Files,
+    S: Source,
+>(rt: &R, alloc: A, words: &[String], files: &mut F, input: &mut S) -> Result<Reply<A>, Fault>
     ensures done { IfOk result (λ r. Replies (map string_bytes words.now) (F.state files.old) (S.state input.old) (S.state input.new) r.status r.output.items) }
     ensures refused { IfErr result (Refuses (map string_bytes words.now) (F.state files.old) (F.state files.new) (S.state input.old) (S.state input.new)) }
     ensures at_most { TakesAtMost (S.state input.old).left (S.state input.new).left
         (input_limit (asked_by (subcommand_of slh_app (map string_bytes words.now)))) }
 {
     match parsed(rt.alloc(), words) {
-        Ok(request) => run(rt.alloc(), alloc, request, files, input),
+        Ok(request) => run(rt, alloc, request, files, input),
         Err(Refusal::Help(error)) => Ok(help(rt.alloc(), alloc, &error)?),
         Err(Refusal::BadWords) => Err(Fault::BadWords),
         Err(Refusal::NoMemory) => Err(Fault::NoMemory),
@@ -101,8 +110,8 @@ fn help<A: Allocator>(global: Global, alloc: A, error: &clap::Error) -> Result<R
 }
 
 /// The answer to a request, or the refusal.
-fn run<A: Allocator + Clone, F: Files, S: Source>(
-    global: Global,
+fn run<R: AllocGlobal + Threads + Sync, A: Allocator + Clone + Send + Sync, F: Files, S: Source>(
+    rt: &R,
     alloc: A,
     request: Request<'_>,
     files: &mut F,
@@ -116,11 +125,11 @@ fn run<A: Allocator + Clone, F: Files, S: Source>(
         Request::Params(Some(name)) => Ok(Reply::text(named_set(alloc, name)?)),
         Request::Params(None) => Ok(Reply::text(all_sets(alloc)?)),
         Request::Root(name) => Ok(Reply::text(root(alloc, name, input)?)),
-        Request::Keygen(name) => Ok(Reply::text(keygen(alloc, name, input)?)),
+        Request::Keygen(words) => Ok(Reply::text(keygen(rt, alloc, words, input)?)),
         Request::Public(path) => Ok(Reply::text(public(alloc, path, files)?)),
         Request::Check(path) => check(alloc, path, files),
-        Request::Sign(words) => Ok(Reply::done(sign_file(alloc, words, files)?)),
+        Request::Sign(words) => Ok(Reply::done(sign_file(rt, alloc, words, files)?)),
         Request::Verify(words) => verify_file(alloc, words, files),
-        Request::Vectors(path) => run_file(global, alloc, path, files),
+        Request::Vectors(path, workers) => run_file(rt, alloc, path, workers_of(workers), files),
     }
 }

@@ -1,6 +1,6 @@
 ghost use Rattle.std.specs.Prelude.{◌≡◌, Some, option_map, map, IfOk, IfErr, string_bytes};
 ghost use Rattle.clap.specs.Words.{first_of, found_of, rows_of, subcommand_rows_of};
-ghost use Rattle.slh_tool.specs.Requests.{Asks, IsGround, asked, asked_by, asked_in, asked_of_file, form_asked, form_in, sign_in, verify_in};
+ghost use Rattle.slh_tool.specs.Requests.{Asks, IsGround, asked, asked_by, asked_in, asked_of_file, cut_asked, cut_in, form_asked, form_in, keygen_in, number_of, sign_in, vectors_in, verify_in, work_asked, work_in};
 
 use clap::ArgMatches;
 use clap::error::ErrorKind;
@@ -12,12 +12,12 @@ use std::alloc::Global;
 pub(crate) enum Request<'a> {
     Params(Option<&'a str>),
     Root(&'a str),
-    Keygen(&'a str),
+    Keygen(KeygenWords<'a>),
     Public(&'a str),
     Check(&'a str),
     Sign(SignWords<'a>),
     Verify(VerifyWords<'a>),
-    Vectors(&'a str),
+    Vectors(&'a str, u8),
 }
 
 /// The options on the form in which a message is signed.
@@ -27,6 +27,28 @@ pub(crate) struct FormWords<'a> {
     pub(crate) prehash: Option<&'a str>,
 }
 
+/// The options on how the trees of one kind are cut: where a list of cut points stands, the levels are not looked at.
+#[derive(Clone, Copy)]
+pub(crate) struct CutWords<'a> {
+    pub(crate) levels: u32,
+    pub(crate) points: Option<&'a str>,
+}
+
+/// The options on how the work is shared among workers.
+#[derive(Clone, Copy)]
+pub(crate) struct WorkWords<'a> {
+    pub(crate) workers: u8,
+    pub(crate) xmss: CutWords<'a>,
+    pub(crate) fors: CutWords<'a>,
+}
+
+/// The options of `keygen`.
+#[derive(Clone, Copy)]
+pub(crate) struct KeygenWords<'a> {
+    pub(crate) set: &'a str,
+    pub(crate) work: WorkWords<'a>,
+}
+
 /// The options of `sign`.
 #[derive(Clone, Copy)]
 pub(crate) struct SignWords<'a> {
@@ -34,6 +56,7 @@ pub(crate) struct SignWords<'a> {
     pub(crate) message: &'a str,
     pub(crate) form: FormWords<'a>,
     pub(crate) random: Option<&'a str>,
+    pub(crate) work: WorkWords<'a>,
 }
 
 /// The options of `verify`.
@@ -92,7 +115,7 @@ fn request_in<'a>(name: &str, values: &ArgMatches<'a>) -> Option<Request<'a>>
     } else if name == "root" {
         Some(Request::Root(value(values, "set")?))
     } else if name == "keygen" {
-        Some(Request::Keygen(value(values, "set")?))
+        keygen_request(values)
     } else {
         request_of_file(name, values)
     }
@@ -111,10 +134,25 @@ fn request_of_file<'a>(name: &str, values: &ArgMatches<'a>) -> Option<Request<'a
     } else if name == "verify" {
         verify_request(values)
     } else if name == "vectors" {
-        Some(Request::Vectors(value(values, "file")?))
+        vectors_request(values)
     } else {
         None
     }
+}
+
+fn keygen_request<'a>(values: &ArgMatches<'a>) -> Option<Request<'a>>
+    ensures { option_map asked result ≡ keygen_in (rows_of (found_of values.now)) }
+{
+    Some(Request::Keygen(KeygenWords {
+        set: value(values, "set")?,
+        work: work_words(values),
+    }))
+}
+
+fn vectors_request<'a>(values: &ArgMatches<'a>) -> Option<Request<'a>>
+    ensures { option_map asked result ≡ vectors_in (rows_of (found_of values.now)) }
+{
+    Some(Request::Vectors(value(values, "file")?, number(values, "workers")))
 }
 
 fn sign_request<'a>(values: &ArgMatches<'a>) -> Option<Request<'a>>
@@ -125,6 +163,7 @@ fn sign_request<'a>(values: &ArgMatches<'a>) -> Option<Request<'a>>
         message: value(values, "message")?,
         form: form_words(values),
         random: value(values, "random"),
+        work: work_words(values),
     }))
 }
 
@@ -146,6 +185,32 @@ fn form_words<'a>(values: &ArgMatches<'a>) -> FormWords<'a>
         context: value(values, "context"),
         prehash: value(values, "prehash"),
     }
+}
+
+fn work_words<'a>(values: &ArgMatches<'a>) -> WorkWords<'a>
+    ensures { work_asked result ≡ work_in (rows_of (found_of values.now)) }
+{
+    WorkWords {
+        workers: number(values, "workers"),
+        xmss: cut_words(values, "xmss-levels", "xmss-cuts"),
+        fors: cut_words(values, "fors-levels", "fors-cuts"),
+    }
+}
+
+fn cut_words<'a>(values: &ArgMatches<'a>, levels: &str, points: &str) -> CutWords<'a>
+    ensures { cut_asked result ≡ cut_in levels.now points.now (rows_of (found_of values.now)) }
+{
+    CutWords {
+        levels: u32::from(number(values, levels)),
+        points: value(values, points),
+    }
+}
+
+/// The number that an option has. `clap` gives each of them a default, so there is one.
+fn number(values: &ArgMatches, name: &str) -> u8
+    ensures { result ≡ number_of name.now (rows_of (found_of values.now)) }
+{
+    values.get_one::<u8>(name).unwrap_or(0)
 }
 
 /// The value of an option.

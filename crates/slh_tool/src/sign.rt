@@ -1,4 +1,4 @@
-ghost use Rattle.std.specs.Prelude.{◌≡◌, ◌↔◌, ◌<◌, ◌≤◌, ◌⊎◌, IsOk, IfOk, IfErr, IfSome, OnOk, length, option_map};
+ghost use Rattle.std.specs.Prelude.{◌≡◌, ◌≢◌, ◌↔◌, ◌<◌, ◌≤◌, ◌⊎◌, Err, IfOk, IfErr, IfSome, OnOk, length, option_map};
 ghost use Rattle.slh_core.specs.Randomizers.{HasLength};
 ghost use Rattle.slh_core.specs.Signatures.{signature_by};
 ghost use Rattle.slh_params.specs.Params.{sig_len};
@@ -6,19 +6,24 @@ ghost use Rattle.slh_params.specs.ParamSet.{params};
 ghost use Rattle.slh_tool.specs.Options.{message_of, signature_of};
 ghost use Rattle.slh_tool.specs.Replies.{RefusesSign, RefusesSigning, SignsMessage, SignsWith};
 ghost use Rattle.slh_tool.specs.Requests.{sign_asked};
+ghost use Rattle.slh_par.specs.declared.fault.ParFault.TheVariants as par;
 ghost use Rattle.slh_tool.specs.declared.fault.Fault.TheVariants.{ContextTooLong, NoMemory};
 
+use super::cuts::{cutting_of, workers_of};
 use super::fault::Fault;
 use super::keys::secret_key;
 use super::options::{Form, Random, form_of, random_of};
 use super::reading::read_file;
 use super::request::SignWords;
-use slh_core::{Randomizer, SecretKey, SignFault, hash_sign, sign};
+use slh_core::{Randomizer, SecretKey};
 use slh_devices::Files;
+use slh_par::{Cutting, NoGate, ParFault, Workers, hash_sign_par, sign_par};
 use std::alloc::Allocator;
+use std::thread::Threads;
 
 /// The signature of a message file.
-pub(crate) fn sign_file<A: Allocator + Clone, F: Files>(
+pub(crate) fn sign_file<R: Threads + Sync, A: Allocator + Clone + Send + Sync, F: Files>(
+    rt: &R,
     alloc: A,
     words: SignWords<'_>,
     files: &mut F,
@@ -27,11 +32,12 @@ pub(crate) fn sign_file<A: Allocator + Clone, F: Files>(
     ensures refused { IfErr result (RefusesSign (sign_asked words.entry) (F.state files.old) (F.state files.new)) }
 {
     let key = secret_key(alloc.clone()?, files, words.key)?;
-    sign_with(alloc, words, files, &key)
+    sign_with(rt, alloc, words, files, &key)
 }
 
 /// The signature of a message file with a key.
-fn sign_with<A: Allocator + Clone, F: Files>(
+fn sign_with<R: Threads + Sync, A: Allocator + Clone + Send + Sync, F: Files>(
+    rt: &R,
     alloc: A,
     words: SignWords<'_>,
     files: &mut F,
@@ -44,19 +50,34 @@ fn sign_with<A: Allocator + Clone, F: Files>(
     let Some(random) = random_of(key.set(), words) else {
         return Err(Fault::BadOption);
     };
+    let cutting = cutting_of(key.set(), words.work)?;
     let message = read_file(alloc.clone()?, files, words.message)?;
-    signature_of(alloc, key, message.as_slice(), &form, &random)
+    let workers = workers_of(words.work.workers);
+    signature_of(
+        rt,
+        alloc,
+        key,
+        message.as_slice(),
+        &form,
+        &random,
+        workers,
+        &cutting,
+    )
 }
 
-/// The signature of a message in a form.
-fn signature_of<A: Allocator>(
+/// The signature of a message in a form, by several workers.
+fn signature_of<R: Threads + Sync, A: Allocator + Clone + Send + Sync>(
+    rt: &R,
     alloc: A,
     key: &SecretKey,
     message: &[u8],
     form: &Form<A>,
     random: &Option<Random>,
+    workers: Workers,
+    cutting: &Cutting,
 ) -> Result<Vec<u8, A>, Fault>
-    requires { IfSome random.now (λ bytes. length bytes.items ≡ (params key.now.set).n) }
+    requires random { IfSome random.now (λ bytes. length bytes.items ≡ (params key.now.set).n) }
+    requires cutting { cutting.now.set ≡ key.now.set }
     ensures short { OnOk result (length form.now.context.items ≤ 255) }
     ensures done { IfOk result (λ bytes. bytes.items ≡ signature_of key.now (message_of form.now.prehash form.now.context.items message.now) (option_map (λ r. r.items) random.now)) }
     ensures refused { IfErr result (λ e. (e ≡ NoMemory) ⊎ ((e ≡ ContextTooLong) × (255 < length form.now.context.items))) }
@@ -65,30 +86,45 @@ fn signature_of<A: Allocator>(
         Some(bytes) => Randomizer::Given(bytes.as_slice()),
         None => Randomizer::Deterministic,
     };
-    let mut signature = Vec::new(alloc);
+    let mut signature = Vec::new(alloc.clone()?);
     signature.resize(key.set().sig_len(), 0)?;
-    match signed(key, message, form, randomizer, signature.as_mut_slice()) {
+    let out = signature.as_mut_slice();
+    match signed(
+        rt, alloc, key, message, form, randomizer, workers, cutting, out,
+    ) {
         Ok(()) => Ok(signature),
-        Err(_) => Err(Fault::ContextTooLong),
+        Err(ParFault::NoMemory) => Err(Fault::NoMemory),
+        Err(ParFault::ContextTooLong) => Err(Fault::ContextTooLong),
+        Err(ParFault::Stopped) => unreachable!(),
     }
 }
 
-/// Signs a message in a form.
-fn signed<A: Allocator>(
+/// Signs a message in a form, by several workers. No gate stops it.
+fn signed<R: Threads + Sync, A: Allocator + Clone + Send + Sync>(
+    rt: &R,
+    alloc: A,
     key: &SecretKey,
     message: &[u8],
     form: &Form<A>,
     randomizer: Randomizer,
+    workers: Workers,
+    cutting: &Cutting,
     out: &mut [u8],
-) -> Result<(), SignFault>
+) -> Result<(), ParFault>
     requires randomizer { HasLength randomizer (params key.now.set).n }
+    requires cutting { cutting.now.set ≡ key.now.set }
     requires out { length out.old ≡ sig_len (params key.now.set) }
-    ensures accepted { IsOk result ↔ (length form.now.context.items ≤ 255) }
+    ensures too_long { (result ≡ Err par.ContextTooLong) ↔ (255 < length form.now.context.items) }
+    ensures never_stopped { result ≢ Err par.Stopped }
     ensures signature { OnOk result (out.new ≡ signature_by key.now (message_of form.now.prehash form.now.context.items message.now) randomizer.entry) }
 {
     let context = form.context.as_slice();
     match form.prehash {
-        None => sign(message, context, key, randomizer, out),
-        Some(function) => hash_sign(message, context, function, key, randomizer, out),
+        None => sign_par(
+            rt, alloc, message, context, key, randomizer, workers, cutting, &NoGate, out,
+        ),
+        Some(function) => hash_sign_par(
+            rt, alloc, message, context, function, key, randomizer, workers, cutting, &NoGate, out,
+        ),
     }
 }

@@ -8,22 +8,23 @@ use super::fault::Fault;
 use super::reading::read_file;
 use super::reply::Reply;
 use slh_devices::{Files, Writer};
+use slh_par::Workers;
 use slh_vectors::{Outcome, Test, all_passed, read_vectors, report, run_vectors};
-use std::alloc::{Allocator, Global};
+use std::alloc::Allocator;
+use std::thread::Threads;
 
 /// The report on the tests of a vector file.
-pub(crate) fn run_file<A: Allocator + Clone, F: Files>(
-    global: Global,
-    alloc: A,
-    path: &str,
-    files: &mut F,
-) -> Result<Reply<A>, Fault>
+pub(crate) fn run_file<
+    R: AllocGlobal + Threads + Sync,
+    A: Allocator + Clone + Send + Sync,
+    F: Files,
+>(rt: &R, alloc: A, path: &str, workers: Workers, files: &mut F) -> Result<Reply<A>, Fault>
     ensures done { IfOk result (λ r. RunsVectors path.now (F.state files.old) r.status r.output.items) }
     ensures refused { IfErr result (RefusesVectors path.now (F.state files.old) (F.state files.new)) }
 {
     let bytes = read_file(alloc.clone()?, files, path)?;
-    let tests = read_vectors(global, bytes.as_slice())?;
-    let outcomes = run_vectors(alloc.clone()?, tests.as_slice())?;
+    let tests = read_vectors(rt.alloc(), bytes.as_slice())?;
+    let outcomes = run_vectors(rt, alloc.clone()?, tests.as_slice(), workers)?;
     reported(alloc, tests.as_slice(), outcomes.as_slice())
 }
 

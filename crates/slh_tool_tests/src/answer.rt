@@ -5,6 +5,7 @@ use super::folder::Folder;
 use slh_devices::{Reader, Writer};
 use slh_tool::command;
 use std::alloc::{AllocError, Global};
+use std::thread::Threads;
 
 /// What a command answered: its status, and what it wrote to the output and to the errors.
 #[derive(Drop)]
@@ -26,7 +27,11 @@ pub fn words_of(alloc: Global, words: &[&str]) -> Result<Vec<String>, AllocError
 }
 
 /// Runs a command over files of known bytes and an empty input.
-pub fn answer_over<R: AllocGlobal>(rt: &R, words: &[String], files: &[(&str, &[u8])]) -> Answer
+pub fn answer_over<R: AllocGlobal + Threads + Sync>(
+    rt: &R,
+    words: &[String],
+    files: &[(&str, &[u8])],
+) -> Answer
     ensures { result.status ≢ 2 → RepliesOver (map string_bytes words.now) files.now result.status result.output.items }
 {
     let mut output = Writer::new(Vec::new(rt.alloc()));

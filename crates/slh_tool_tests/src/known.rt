@@ -3,9 +3,13 @@ ghost use Rattle.slh_tool_tests.specs.Answers.{TellsConsistency, TellsValidity};
 
 use super::answer::{Answer, answer_over, words_of};
 use std::alloc::AllocError;
+use std::thread::Threads;
 
 /// What `check` answers over these bytes of a key file.
-pub fn check_known<R: AllocGlobal>(rt: &R, key: &[u8]) -> Result<Answer, AllocError>
+pub fn check_known<R: AllocGlobal + Threads + Sync>(
+    rt: &R,
+    key: &[u8],
+) -> Result<Answer, AllocError>
     ensures { IfOk result (λ answer. answer.status ≢ 2 → TellsConsistency key.now answer.status answer.output.items) }
 {
     let words = words_of(rt.alloc(), &["check", "--key", "key"])?;
@@ -14,7 +18,7 @@ pub fn check_known<R: AllocGlobal>(rt: &R, key: &[u8]) -> Result<Answer, AllocEr
 
 /// What `verify` answers over these bytes of a key file, of a message and of a signature, in the pure form with an
 /// empty context.
-pub fn verify_known<R: AllocGlobal>(
+pub fn verify_known<R: AllocGlobal + Threads + Sync>(
     rt: &R,
     key: &[u8],
     message: &[u8],

@@ -9,14 +9,16 @@ mod roots;
 mod sets;
 mod vectors;
 mod words;
+mod workers;
 
 use crate::{Answer, Folder, words_of};
 use slh_devices::{Files, Reader, Sink, Source, Writer};
 use slh_tool::command;
 use std::test::Fail;
+use std::thread::Threads;
 
 /// Runs a command over files, an input and an output.
-fn run_to<R: AllocGlobal, F: Files, S: Source, O: Sink>(
+fn run_to<R: AllocGlobal + Threads + Sync, F: Files, S: Source, O: Sink>(
     rt: &R,
     words: &[&str],
     files: &mut F,
@@ -39,7 +41,11 @@ fn run_to<R: AllocGlobal, F: Files, S: Source, O: Sink>(
 }
 
 /// Runs a command over an input.
-fn run<R: AllocGlobal, S: Source>(rt: &R, words: &[&str], input: &mut S) -> Result<Answer, Fail> {
+fn run<R: AllocGlobal + Threads + Sync, S: Source>(
+    rt: &R,
+    words: &[&str],
+    input: &mut S,
+) -> Result<Answer, Fail> {
     let mut output = Writer::new(Vec::new(rt.alloc()));
     let (status, errors) = run_to(rt, words, &mut Folder::new(&[]), input, &mut output)?;
     Ok(Answer {
@@ -50,7 +56,7 @@ fn run<R: AllocGlobal, S: Source>(rt: &R, words: &[&str], input: &mut S) -> Resu
 }
 
 /// Runs a command over files.
-fn run_over<R: AllocGlobal, F: Files>(
+fn run_over<R: AllocGlobal + Threads + Sync, F: Files>(
     rt: &R,
     words: &[&str],
     files: &mut F,

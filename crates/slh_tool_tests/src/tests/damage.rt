@@ -6,6 +6,7 @@ use crate::{Answer, Folder, check_known, verify_known};
 use slh_devices::Reader;
 use std::process::Abort;
 use std::test::Fail;
+use std::thread::Threads;
 
 /// The file of the public key of the bytes 0 to 31 under SLH-DSA-SHA2-128f.
 const COUNTING: &[u8; 100] =
@@ -30,7 +31,7 @@ fn number_of(answer: &Answer) -> u8 {
 }
 
 /// What `verify` says of a public key file and of an empty signature: the number of its refusal, or 0 and `invalid`.
-fn verify_number<R: Abort + AllocGlobal>(rt: &R, file: &[u8]) -> Result<u8, Fail> {
+fn verify_number<R: Abort + AllocGlobal + Threads + Sync>(rt: &R, file: &[u8]) -> Result<u8, Fail> {
     let answer = verify_known(rt, file, b"abc", b"")?;
     let number = number_of(&answer);
     let (status, output) = if number == 0 {
@@ -125,7 +126,7 @@ fn reads_the_lines_of_a_public_key_file(rt: HostRuntime) -> Result<(), Fail> {
 }
 
 /// Runs a command where each of the two key files stands in the other's place, and no other file.
-fn answer_over_exchanged<R: AllocGlobal>(
+fn answer_over_exchanged<R: AllocGlobal + Threads + Sync>(
     rt: &R,
     words: &[&str],
     secret: &[u8],

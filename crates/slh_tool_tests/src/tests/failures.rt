@@ -5,11 +5,16 @@ use super::{run_over, run_to};
 use slh_devices::Reader;
 use std::process::Abort;
 use std::test::Fail;
+use std::thread::Threads;
 
 const PREHASH: [&str; 2] = ["--prehash", "SHA2-256"];
 
 /// How many fetches the command makes, where each of them ends it by 32 if it fails.
-fn fetches<R: Abort + AllocGlobal>(rt: &R, words: &[&str], secret: &[u8]) -> Result<u64, Fail> {
+fn fetches<R: Abort + AllocGlobal + Threads + Sync>(
+    rt: &R,
+    words: &[&str],
+    secret: &[u8],
+) -> Result<u64, Fail> {
     let files = [
         ("secret", secret),
         ("public", PUBLIC),

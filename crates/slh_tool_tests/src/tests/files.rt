@@ -4,9 +4,14 @@ use super::messages::{SIGN, VERIFY, joined, secret_key};
 use super::run_over;
 use crate::Answer;
 use std::test::Fail;
+use std::thread::Threads;
 
 /// What `sign` says where the message can't be fetched.
-fn refusal(rt: &HostRuntime, key: &[u8], options: &[&str]) -> Result<Answer, Fail> {
+fn refusal<R: AllocGlobal + Threads + Sync>(
+    rt: &R,
+    key: &[u8],
+    options: &[&str],
+) -> Result<Answer, Fail> {
     let files = [("secret", key)];
     let words = joined(rt, &SIGN, options)?;
     run_over(rt, words.as_slice(), &mut Folder::new(&files))

@@ -1,45 +1,51 @@
 //! Memory that is refused.
 use super::devices::Folder;
-use super::messages::{SIGN, VERIFY, secret_key};
+use super::messages::{SIGN, VERIFY, joined, secret_key};
 use super::vectors::{NOT_VALID, VECTORS};
 use crate::{Answer, words_of};
-use linked_list_allocator::LocalHeap;
+use refusing_allocator::Refusing;
 use slh_devices::{Reader, Writer};
 use slh_tool::command;
 use std::test::Fail;
+use std::thread::Threads;
 
-/// Runs a command with a budget of so many bytes.
-fn run_within(
-    rt: &HostRuntime,
+/// More growths than any command here asks for.
+const MANY: u64 = 2000;
+
+/// Runs a command, of which one growth is refused, and tells whether it was asked for.
+fn run_refused<R: AllocGlobal + Threads + Sync>(
+    rt: &R,
     words: &[&str],
     files: &[(&str, &[u8])],
-    budget: usize,
-) -> Result<Answer, Fail> {
-    let heap = LocalHeap::new(rt.alloc(), budget)?;
+    refused: u64,
+) -> Result<(Answer, bool), Fail> {
+    let alloc = Refusing::new(rt.alloc(), rt.alloc(), refused)?;
     let words = words_of(rt.alloc(), words)?;
     let digits = [b'7'; 96];
     let mut output = Writer::new(Vec::new(rt.alloc()));
     let mut errors = Writer::new(Vec::new(rt.alloc()));
     let status = command(
         rt,
-        &heap,
+        alloc.clone()?,
         words.as_slice(),
         &mut Folder::new(files),
         &mut Reader::new(digits.as_slice()),
         &mut output,
         &mut errors,
     );
-    Ok(Answer {
+    let answer = Answer {
         status,
         output: output.into_inner(),
         errors: errors.into_inner(),
-    })
+    };
+    Ok((answer, alloc.has_refused()))
 }
 
 #[test]
 fn refuses_each_growth_and_then_works(rt: HostRuntime) -> Result<(), Fail> {
     let secret = secret_key(&rt)?;
     let set = ["--set", "SLH-DSA-SHA2-128f"];
+    let sign_shared = joined(&rt, &SIGN, &["--workers", "2", "--fors-cuts", "31,33"])?;
     let files = [
         ("secret", secret.as_slice()),
         (
@@ -50,32 +56,41 @@ fn refuses_each_growth_and_then_works(rt: HostRuntime) -> Result<(), Fail> {
         ("sig", b"no signature".as_slice()),
         ("tests", NOT_VALID),
     ];
-    let commands: [&[&str]; 10] = [
+    let commands: [&[&str]; 12] = [
         &["params"],
         &["params", set[0], set[1]],
         &["root", set[0], set[1]],
         &["root", "--help"],
         &["keygen", set[0], set[1]],
+        &[
+            "keygen",
+            set[0],
+            set[1],
+            "--workers",
+            "3",
+            "--xmss-levels",
+            "1",
+        ],
         &["public", "--key", "secret"],
         &["check", "--key", "secret"],
         &SIGN,
+        sign_shared.as_slice(),
         &VERIFY,
         &VECTORS,
     ];
     for words in commands {
-        let mut refused = false;
-        let mut done = false;
-        for step in 1..400 {
-            let answer = run_within(&rt, words, &files, 64 * step)?;
-            if answer.status < 2 {
-                done = true;
+        let mut refusals = 0u64;
+        for nth in 1..MANY {
+            let (answer, refused) = run_refused(&rt, words, &files, nth)?;
+            if !refused {
+                assert!(rt; answer.status < 2);
                 break;
             }
-            refused = true;
             assert!(rt; answer.output.is_empty());
             assert_eq!(rt; answer.errors.as_slice(), b"slh: 1 NoMemory\n".as_slice());
+            refusals = nth;
         }
-        assert!(rt; done && refused);
+        assert!(rt; 0 < refusals && refusals.wrapping_add(1) < MANY);
     }
     Ok(())
 }

@@ -4,13 +4,14 @@ use super::{run, run_over};
 use sha2::{Digest, Sha256};
 use slh_devices::Reader;
 use std::test::Fail;
+use std::thread::Threads;
 
 /// The key files of SLH-DSA-SHA2-128f and the seeds 00, 01, 02, .. , the second as another implementation has it.
 pub(super) const PUBLIC: &[u8] =
     b"slh-dsa-public 1\nSLH-DSA-SHA2-128f\n202122232425262728292a2b2c2d2e2f3b56e816847f000386aeec2e2bb9e1b5\n";
 
 /// Options of `sign` for the message "abc", and SHA-256 of the signature, as another implementation makes it.
-const SIGNATURES: [(&[&str], &str); 5] = [
+pub(super) const SIGNATURES: [(&[&str], &str); 5] = [
     (
         &[],
         "7c4622720e758897ec5f2089049bb5e5d98fc2e88bfdacf4fad3a1e20f80d5f8",
@@ -39,7 +40,7 @@ const SIGNATURES: [(&[&str], &str); 5] = [
 ];
 
 /// The secret key file of the seeds 00, 01, 02, ..
-pub(super) fn secret_key<R: AllocGlobal>(rt: &R) -> Result<Vec<u8>, Fail> {
+pub(super) fn secret_key<R: AllocGlobal + Threads + Sync>(rt: &R) -> Result<Vec<u8>, Fail> {
     let digits = b"000102030405060708090a0b0c0d0e0f\
         101112131415161718191a1b1c1d1e1f202122232425262728292a2b2c2d2e2f";
     let words = ["keygen", "--set", "SLH-DSA-SHA2-128f"];
@@ -140,7 +141,7 @@ fn signs_and_verifies(rt: HostRuntime) -> Result<(), Fail> {
 }
 
 /// The signature of "abc" under some options.
-fn signature(rt: &HostRuntime, options: &[&str]) -> Result<Vec<u8>, Fail> {
+fn signature<R: AllocGlobal + Threads + Sync>(rt: &R, options: &[&str]) -> Result<Vec<u8>, Fail> {
     let secret = secret_key(rt)?;
     let files = [("secret", secret.as_slice()), ("abc", b"abc".as_slice())];
     let words = joined(rt, &SIGN, options)?;
@@ -148,7 +149,11 @@ fn signature(rt: &HostRuntime, options: &[&str]) -> Result<Vec<u8>, Fail> {
 }
 
 /// What `verify` says of a signature of "abc".
-fn verdict(rt: &HostRuntime, sig: &[u8], options: &[&str]) -> Result<Vec<u8>, Fail> {
+fn verdict<R: AllocGlobal + Threads + Sync>(
+    rt: &R,
+    sig: &[u8],
+    options: &[&str],
+) -> Result<Vec<u8>, Fail> {
     let files = [("public", PUBLIC), ("abc", b"abc".as_slice()), ("sig", sig)];
     let words = joined(rt, &VERIFY, options)?;
     Ok(run_over(rt, words.as_slice(), &mut Folder::new(&files))?.output)

@@ -5,6 +5,7 @@ use crate::{Folder, check_known, verify_known};
 use slh_devices::Reader;
 use std::process::Abort;
 use std::test::Fail;
+use std::thread::Threads;
 
 /// A set, and the parts of its signature in bytes: the randomizer R has n, then come the FORS part and the layers.
 #[derive(Clone, Copy)]
@@ -18,7 +19,11 @@ struct Parts {
 }
 
 /// Whether `verify` says of a signature of the empty message that it is valid.
-fn is_valid<R: Abort + AllocGlobal>(rt: &R, public: &[u8], signature: &[u8]) -> Result<bool, Fail> {
+fn is_valid<R: Abort + AllocGlobal + Threads + Sync>(
+    rt: &R,
+    public: &[u8],
+    signature: &[u8],
+) -> Result<bool, Fail> {
     let answer = verify_known(rt, public, b"", signature)?;
     if answer.status == 0 {
         assert_eq!(rt; answer.output.as_slice(), b"valid\n".as_slice());
@@ -30,7 +35,10 @@ fn is_valid<R: Abort + AllocGlobal>(rt: &R, public: &[u8], signature: &[u8]) -> 
 }
 
 /// The secret key file of the seeds 00, 01, 02, ..
-fn secret_of<R: Abort + AllocGlobal>(rt: &R, parts: &Parts) -> Result<Vec<u8>, Fail> {
+fn secret_of<R: Abort + AllocGlobal + Threads + Sync>(
+    rt: &R,
+    parts: &Parts,
+) -> Result<Vec<u8>, Fail> {
     let digits = seed_digits(rt, parts.n)?;
     let mut input = Reader::new(digits.as_slice());
     let secret = run(rt, &["keygen", "--set", parts.set], &mut input)?.output;
@@ -41,13 +49,20 @@ fn secret_of<R: Abort + AllocGlobal>(rt: &R, parts: &Parts) -> Result<Vec<u8>, F
 }
 
 /// What a command writes over a secret key file and an empty message.
-fn output_over<R: AllocGlobal>(rt: &R, words: &[&str], secret: &[u8]) -> Result<Vec<u8>, Fail> {
+fn output_over<R: AllocGlobal + Threads + Sync>(
+    rt: &R,
+    words: &[&str],
+    secret: &[u8],
+) -> Result<Vec<u8>, Fail> {
     let files = [("secret", secret), ("empty", b"".as_slice())];
     Ok(run_over(rt, words, &mut Folder::new(&files))?.output)
 }
 
 /// Flips the first bit of R, of the FORS part and of each layer in turn.
-fn refuses_a_bit_in_each_part<R: Abort + AllocGlobal>(rt: &R, parts: &Parts) -> Result<(), Fail> {
+fn refuses_a_bit_in_each_part<R: Abort + AllocGlobal + Threads + Sync>(
+    rt: &R,
+    parts: &Parts,
+) -> Result<(), Fail> {
     let secret = secret_of(rt, parts)?;
     let public = output_over(rt, &["public", "--key", "secret"], secret.as_slice())?;
     let words = ["sign", "--key", "secret", "--message", "empty"];

@@ -6,6 +6,7 @@ use slh_devices::Reader;
 use slh_tool::Fault;
 use slh_vectors::Member;
 use std::test::Fail;
+use std::thread::Threads;
 
 pub(super) const VECTORS: [&str; 3] = ["vectors", "--file", "tests"];
 
@@ -25,7 +26,11 @@ const SHORT_KEY: &[u8] =
 const NO_CONTEXT: &[u8] =
     b"[{\"kind\":\"verify\",\"set\":\"SLH-DSA-SHA2-128f\",\"pk\":\"0000000000000000000000000000000000000000000000000000000000000000\",\"form\":\"pure\",\"message\":\"\"}]";
 
-fn answer_to(rt: &HostRuntime, words: &[&str], file: &[u8]) -> Result<Answer, Fail> {
+fn answer_to<R: AllocGlobal + Threads + Sync>(
+    rt: &R,
+    words: &[&str],
+    file: &[u8],
+) -> Result<Answer, Fail> {
     run_over(rt, words, &mut Folder::new(&[("tests", file)]))
 }
 
@@ -53,6 +58,29 @@ fn reports_on_tests(rt: HostRuntime) -> Result<(), Fail> {
             assert!(rt; answer.errors.is_empty());
             assert_eq!(rt; answer.status, status);
         }
+    }
+    Ok(())
+}
+
+#[test]
+fn reports_on_tests_in_their_order(rt: HostRuntime) -> Result<(), Fail> {
+    let tests = [NOT_VALID, VALID, VALID, NOT_VALID, VALID];
+    let mut file = Vec::from_slice(rt.alloc(), b"[")?;
+    for (at, test) in tests.iter().enumerate() {
+        if at > 0 {
+            file.push(b',')?;
+        }
+        file.extend_from_slice(&test[1..test.len() - 1])?;
+    }
+    file.push(b']')?;
+    let report =
+        b"test 1 verify SLH-DSA-SHA2-128f pass\ntest 2 verify SLH-DSA-SHA2-128f fail\ntest 3 verify SLH-DSA-SHA2-128f fail\ntest 4 verify SLH-DSA-SHA2-128f pass\ntest 5 verify SLH-DSA-SHA2-128f fail\npassed 2 failed 3\n";
+    for workers in ["1", "2", "64"] {
+        let [command, option, path] = VECTORS;
+        let words = [command, option, path, "--workers", workers];
+        let answer = answer_to(&rt, &words, file.as_slice())?;
+        assert_eq!(rt; answer.output.as_slice(), report.as_slice());
+        assert_eq!(rt; answer.status, 1);
     }
     Ok(())
 }

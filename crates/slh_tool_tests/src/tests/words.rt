@@ -82,7 +82,15 @@ fn help_names_the_options_and_an_example(rt: HostRuntime) -> Result<(), Fail> {
         (&["root", "--help"], &["--set <NAME>", "Example: slh root"]),
         (
             &["keygen", "--help"],
-            &["--set <NAME>", "Example: slh keygen"],
+            &[
+                "--set <NAME>",
+                "--workers <N>",
+                "--xmss-levels <N>",
+                "--fors-levels <N>",
+                "--xmss-cuts <LIST>",
+                "--fors-cuts <LIST>",
+                "Example: slh keygen",
+            ],
         ),
         (
             &["public", "--help"],
@@ -100,6 +108,11 @@ fn help_names_the_options_and_an_example(rt: HostRuntime) -> Result<(), Fail> {
                 "--context <HEX>",
                 "--prehash <NAME>",
                 "--random <HEX>",
+                "--workers <N>",
+                "--xmss-levels <N>",
+                "--fors-levels <N>",
+                "--xmss-cuts <LIST>",
+                "--fors-cuts <LIST>",
                 "Example: slh sign",
             ],
         ),

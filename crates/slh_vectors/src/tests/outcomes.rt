@@ -3,6 +3,7 @@ use super::files::{VERIFY, file_of, file_with};
 use crate::{Member, Outcome, all_passed, read_vectors, run_test, run_vectors};
 use slh_core::{Randomizer, keygen_internal, sign};
 use slh_params::ParamSet;
+use slh_workers::Workers;
 use std::alloc::Global;
 use std::test::Fail;
 
@@ -170,10 +171,13 @@ fn outcomes_are_in_order(rt: HostRuntime) -> Result<(), Fail> {
             tests.push(test)?;
         }
     }
-    let outcomes = run_vectors(alloc, &tests)?;
-    assert_eq!(rt; outcomes.as_slice(), wanted.as_slice());
-    assert!(rt; !all_passed(&outcomes));
-    assert!(rt; all_passed(&outcomes.as_slice()[..1]));
+    for number in [1u8, 2, 64] {
+        let workers = Workers::new(number).ok_or("workers")?;
+        let outcomes = run_vectors(&rt, alloc, &tests, workers)?;
+        assert_eq!(rt; outcomes.as_slice(), wanted.as_slice(), "{number} workers");
+        assert!(rt; !all_passed(&outcomes));
+        assert!(rt; all_passed(&outcomes.as_slice()[..1]));
+    }
     assert!(rt; all_passed(&[]));
     Ok(())
 }

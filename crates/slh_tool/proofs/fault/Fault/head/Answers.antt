@@ -11,6 +11,10 @@ pub returns-in-ContextTooLong : goal.returns-in-ContextTooLong
 unfolding head
 returns-in-ContextTooLong c = rw (c.in-ContextTooLong.is, one_digit 2 (omega arith)) refl
 
+pub returns-in-BadCutting : goal.returns-in-BadCutting
+unfolding head
+returns-in-BadCutting c = rw (c.in-BadCutting.is, one_digit 4 (omega arith)) refl
+
 pub returns-in-NotAKeyFile : goal.returns-in-NotAKeyFile
 unfolding head
 returns-in-NotAKeyFile c = rw (c.in-NotAKeyFile.is, two_digits 11 (omega arith) (omega arith)) refl

@@ -1,0 +1,14 @@
+use Rattle.std.proofs.Common.{◌≡◌, Some, rules, string_bytes}
+use Rattle.slh_tool.specs.Keys.{key_of_seeds}
+use Rattle.slh_tool.specs.Requests.{keygen_asked}
+use Rattle.slh_tool.specs.Sets.{set_named}
+use Rattle.slh_tool.proofs.Generation.{key_written}
+use Rattle.slh_tool.proofs.generate.keygen.Goals as goal
+
+pub returns-clause-done : goal.returns-clause-done
+returns-clause-done g c =
+    let named : set_named c.args.words.set.now ≡ Some c.in-Some.set = search rules in
+    let generated : c.in_ok-key.key ≡ key_of_seeds c.in-Some.set c.in_ok-seeds.seeds.items = rw c.as_slice.ensures.value at c.in_ok-key.ensures.generated in
+    key_written (keygen_asked c.args.words) (g.S.Source.state c.args.input.now) (g.S.Source.state c.read_seeds.new.input) c.in-Some.set c.in_ok-cutting.cutting
+    c.in_ok-seeds.seeds.items c.in_ok-key.key (string_bytes c.in-Ok.text) named c.in_ok-cutting.ensures.done c.in_ok-seeds.ensures.seeds c.in_ok-key.ensures.set
+    generated c.in-Ok.ensures.written

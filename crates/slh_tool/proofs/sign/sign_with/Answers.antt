@@ -1,0 +1,18 @@
+use Rattle.std.proofs.Common.{◌≡◌, Some, option_map, sym, subst}
+use Rattle.slh_params.specs.declared.param_set.ParamSet.{ParamSet}
+use Rattle.slh_tool.specs.Cuts.{IsCutting}
+use Rattle.slh_tool.specs.Options.{random_of}
+use Rattle.slh_tool.specs.Requests.{sign_asked, work_asked}
+use Rattle.slh_tool.proofs.Refusals.{message_refused}
+use Rattle.slh_tool.proofs.sign.sign_with.Goals as goal
+
+pub returns-clause-refused : goal.returns-clause-refused
+returns-clause-refused g c =
+    let set = c.args.key.now.set in
+    let random : random_of set (sign_asked c.args.words).random ≡ Some (option_map (λ bytes. bytes.items) c.in-Some.random) =
+    subst (λ (s : ParamSet). random_of s (sign_asked c.args.words).random ≡ Some (option_map (λ bytes. bytes.items) c.in-Some.random)) c.set.ensures (sym c.in-Some.ensures.value) in
+    let cut : IsCutting (work_asked c.args.words.work) set c.in_ok-cutting.cutting =
+    subst (λ (s : ParamSet). IsCutting (work_asked c.args.words.work) s c.in_ok-cutting.cutting) c.set-2.ensures c.in_ok-cutting.ensures.done in
+    message_refused (sign_asked c.args.words) set c.in_ok-form.form.context.items c.in_ok-message.message.items (g.F.Files.state c.args.files.now)
+    (g.F.Files.state c.read_file.new.files) c.signature_of.result ((c.in_ok-form.form.prehash, c.in_ok-form.ensures.done), (_, random))
+    (c.in_ok-cutting.cutting, cut) c.in_ok-message.ensures.done c.signature_of.ensures.refused
