@@ -1,14 +1,13 @@
 -- What words ask for, as `clap` reads them.
-use Rattle.std.proofs.Common.{◌≡◌, ◌⊎◌, inl, inr, ℕ, List, [], ◌∷◌, Some, None, refl, sym, subst, ◌∙◌, codes}
+use Rattle.std.proofs.Common.{◌≡◌, inl, inr, ℕ, List, [], ◌∷◌, None, refl, sym, subst, ◌∙◌, codes}
 use Rattle.clap.specs.Faults.{defaults_fault, walk_fault}
 use Rattle.clap.specs.Kinds.{IsAmong, Kinds}
 use Rattle.clap.specs.Walk.{walked}
-use Rattle.clap.specs.Words.{Text, fault_of, subcommand_of}
+use Rattle.clap.specs.Words.{Text}
 use Rattle.clap.specs.declared.error.ErrorKind.TheVariants.{DisplayHelp}
-use Rattle.slh_arguments.specs.Command.{slh_app}
 use Rattle.slh_devices.specs.Devices.{FilesState, SourceState}
 use Rattle.slh_tool.specs.Replies.{IsReply}
-use Rattle.slh_tool.specs.Requests.{Asked, Asks, FormOptions, VerifyOptions, asked_by, check, verify}
+use Rattle.slh_tool.specs.Requests.{Asked, Asks, FormOptions, VerifyOptions, check, verify}
 use Rattle.slh_tool.specs.Runs.{Replies}
 
 abbrev pub check_words : List Text

@@ -1,5 +1,5 @@
 -- Parts of files that are known.
-use Rattle.std.proofs.Common.{◌≡◌, ◌≤◌, ◌<◌, ◌+◌, ◌-◌, ℕ, min, List, ◌++◌, length, take, drop, Option, Some, refl, subst, sym, ap, ◌∙◌, arith}
+use Rattle.std.proofs.Common.{◌≡◌, ◌≤◌, ◌<◌, ◌+◌, ◌-◌, ℕ, min, List, ◌++◌, length, take, drop, Option, Some, subst, ap, ◌∙◌, arith}
 use Rattle.std.proofs.lemmas.List.{length-append, length-drop, length-take-le, take_all, take-append-le}
 use Rattle.std.proofs.lemmas.Grind.{common_steps}
 use Rattle.slh_devices.specs.Devices.{EndsBy, HasPart}

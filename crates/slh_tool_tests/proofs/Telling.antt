@@ -1,5 +1,5 @@
 -- From what a command replies over known files to what its answer tells.
-use Rattle.std.proofs.Common.{◌≡◌, ◌≤◌, ◌↔◌, inl, inr, ℕ, Bool, true, false, IsTrue, List, [], ◌∷◌, Option, Some, None, IfSome, Ok, length, refl, sym, ap, subst, ◌∙◌, lit≤, codes}
+use Rattle.std.proofs.Common.{◌≡◌, ◌↔◌, inl, inr, ℕ, Bool, true, false, IsTrue, [], Option, Some, None, IfSome, Ok, refl, sym, ap, subst, ◌∙◌, lit≤, codes}
 use Rattle.clap.specs.Words.{Text}
 use Rattle.slh_core.specs.Keys.{IsGeneratedKey, Key}
 use Rattle.slh_core.specs.Messages.{pure_message}

@@ -1,4 +1,4 @@
-use Rattle.std.proofs.Common.{◌∙◌, ap, ◌++◌, List, ℕ}
+use Rattle.std.proofs.Common.{◌∙◌, ap, ◌++◌}
 use Rattle.slh_tool_tests.proofs.Answering.{replies_over}
 use Rattle.slh_tool_tests.proofs.answer.answer_over.Goals as goal
 
