@@ -13,6 +13,7 @@ The second form times signing, key generation and the verifying of 64 signatures
 threads of which each signs the message alone. It prints the speed-up over one worker, and for signing also the share
 of what the independent threads reach together.
 """
+import itertools
 import os
 import re
 import subprocess
@@ -31,12 +32,12 @@ BLOCKS = {"sha256": 65536 // 64 + 1, "sha512": 65536 // 128 + 1}
 
 # How often one run of a task calls the compression functions of SHA-256 and SHA-512 (tools/count_calls.py).
 COMPRESSIONS = {
-    "SLH-DSA-SHA2-128s": {"keygen": (293886, 0), "sign": (2229170, 0), "verify": (2309, 0)},
-    "SLH-DSA-SHA2-128f": {"keygen": (4590, 0), "sign": (107237, 0), "verify": (6406, 0)},
-    "SLH-DSA-SHA2-192s": {"keygen": (418304, 6654), "sign": (3484862, 325311), "verify": (2695, 687)},
-    "SLH-DSA-SHA2-192f": {"keygen": (6536, 102), "sign": (160306, 10922), "verify": (8726, 913)},
-    "SLH-DSA-SHA2-256s": {"keygen": (274688, 5374), "sign": (2917944, 403706), "verify": (4126, 906)},
-    "SLH-DSA-SHA2-256f": {"keygen": (17168, 334), "sign": (327204, 23870), "verify": (8348, 1103)},
+    "SLH-DSA-SHA2-128s": {"keygen": (293886, 0), "sign": (2225448, 0), "verify": (2086, 0)},
+    "SLH-DSA-SHA2-128f": {"keygen": (4590, 0), "sign": (106932, 0), "verify": (6165, 0)},
+    "SLH-DSA-SHA2-192s": {"keygen": (418304, 6654), "sign": (3484862, 321519), "verify": (2695, 394)},
+    "SLH-DSA-SHA2-192f": {"keygen": (6536, 102), "sign": (160306, 10551), "verify": (8726, 606)},
+    "SLH-DSA-SHA2-256s": {"keygen": (274688, 5374), "sign": (2917944, 401382), "verify": (4126, 543)},
+    "SLH-DSA-SHA2-256f": {"keygen": (17168, 334), "sign": (327204, 23338), "verify": (8348, 738)},
 }
 
 
@@ -82,20 +83,19 @@ def line(parameter_set, task, least, other):
 
 
 def by_workers(parameter_set):
-    """The rows of the tasks of several workers."""
-    runs = 1 if parameter_set.endswith("s") else 5
-    for task in ("sign_par", "keygen_par", "verify_all", "independent"):
-        times = {}
-        for _ in range(TURNS):
-            for workers in WORKERS:
-                time = ours(task, runs, parameter_set, workers)
-                times[workers] = min(time, times.get(workers, time))
-        yield task, times
+    """The least times of the tasks of several workers, by turns."""
+    small = parameter_set.endswith("s")
+    runs = {"sign_par": 2 if small else 20, "keygen_par": 10, "verify_all": 10, "independent": 2 if small else 20}
+    least = {task: {} for task in runs}
+    for task, workers in [pair for _ in range(TURNS) for pair in itertools.product(runs, WORKERS)]:
+        time = ours(task, runs[task], parameter_set, workers)
+        least[task][workers] = min(time, least[task].get(workers, time))
+    return least
 
 
 def print_by_workers(parameter_set):
     """Prints milliseconds, and the speed-up over one worker; independent threads do that many times the work."""
-    rows = dict(by_workers(parameter_set))
+    rows = by_workers(parameter_set)
     reached = {w: w * rows["independent"][1] / rows["independent"][w] for w in WORKERS}
     for task, times in rows.items():
         speed_up = {w: reached[w] if task == "independent" else times[1] / times[w] for w in WORKERS}
