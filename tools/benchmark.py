@@ -10,8 +10,9 @@ Needs `rt`. Usage: tools/benchmark.py [SET ..]
        tools/benchmark.py --workers [SET ..]
 
 The second form times signing, key generation and the verifying of 64 signatures by 1, 2 and 4 workers, and as many
-threads of which each signs the message alone. It prints the speed-up over one worker, and for signing also the share
-of what the independent threads reach together.
+threads of which each signs the message alone. It prints the speed-up over one worker, and for signing and verifying
+also the share of what the independent threads reach together: less than their number where threads share the cores of
+the processor, with each other or with other machines.
 """
 import itertools
 import os
@@ -26,6 +27,7 @@ PROGRAM = os.path.join(ROOT, "crates", "slh_bench", "out", "slh_bench")
 OPENSSL = os.environ.get("OPENSSL")
 TURNS = 3
 WORKERS = (1, 2, 4)
+WORKERS_TURNS = 4
 
 # Bytes that one run of the tasks sha256 and sha512 hashes, and the blocks that they and their padding fill.
 BLOCKS = {"sha256": 65536 // 64 + 1, "sha512": 65536 // 128 + 1}
@@ -83,11 +85,11 @@ def line(parameter_set, task, least, other):
 
 
 def by_workers(parameter_set):
-    """The least times of the tasks of several workers, by turns."""
+    """The least times of the tasks of several workers, by turns. Few runs a turn, so that each task meets each state of the machine."""
     small = parameter_set.endswith("s")
-    runs = {"sign_par": 2 if small else 20, "keygen_par": 10, "verify_all": 10, "independent": 2 if small else 20}
+    runs = {"sign_par": 1 if small else 10, "keygen_par": 5, "verify_all": 5, "independent": 1 if small else 10}
     least = {task: {} for task in runs}
-    for task, workers in [pair for _ in range(TURNS) for pair in itertools.product(runs, WORKERS)]:
+    for task, workers in [pair for _ in range(WORKERS_TURNS) for pair in itertools.product(runs, WORKERS)]:
         time = ours(task, runs[task], parameter_set, workers)
         least[task][workers] = min(time, least[task].get(workers, time))
     return least
@@ -100,7 +102,7 @@ def print_by_workers(parameter_set):
     for task, times in rows.items():
         speed_up = {w: reached[w] if task == "independent" else times[1] / times[w] for w in WORKERS}
         cells = [f"{times[w] / 1e6:.2f} ({speed_up[w]:.2f})" for w in WORKERS]
-        share = f"{speed_up[WORKERS[-1]] / reached[WORKERS[-1]]:.2f}" if task == "sign_par" else ""
+        share = f"{speed_up[WORKERS[-1]] / reached[WORKERS[-1]]:.2f}" if task in ("sign_par", "verify_all") else ""
         print(f"| {parameter_set} | {task} | {' | '.join(cells)} | {share} |", flush=True)
 
 

@@ -37,6 +37,9 @@ one_failed() {
         sed "\$s/.*/passed $(($2 - 1)) failed 1/"
 }
 
+# The script slh builds the program where it is missing, and prints what that prints; so it runs once before any report is read.
+"$program" params >"$work/report" 2>"$work/errors"
+
 for file in "$vectors"/*.json; do
     name=$(basename "$file")
     tests=$(grep -c '"kind":' "$file")

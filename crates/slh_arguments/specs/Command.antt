@@ -96,7 +96,7 @@ no_command = on_top (λ s. record s { no_binary_name = true }) (new_app (codes "
 abbrev pub seed_app : App
 seed_app = with_subcommands no_command (params_shape ∷ root_shape ∷ keygen_shape ∷ [])
 
--- and the ones that sign
+-- and `public` and `sign`
 abbrev pub message_app : App
 message_app = with_subcommands seed_app (public_shape ∷ sign_shape ∷ [])
 

@@ -143,7 +143,7 @@ fn seed_commands<'a>(alloc: Global) -> Result<Command<'a>, AllocError>
         .subcommand(keygen_command(alloc)?)
 }
 
-/// The program with the commands on messages too.
+/// The program with `public` and `sign` too.
 fn message_commands<'a>(alloc: Global) -> Result<Command<'a>, AllocError>
     ensures { IfOk result (λ c. app_of c ≡ message_app) }
 {

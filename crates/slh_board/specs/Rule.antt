@@ -22,7 +22,7 @@ one_if b = if b then 1 else 0
 
 -- What the rule says of the words and of all views together.
 -- Their lists hold the numbers below the lesser of next and jobs, each once, and so are that long; next is that length plus the done marks; the views stand for
--- the board's seats; halt is 1 where a view is raised, else 0
+-- the board's seats; halt is 1 where a view is raised, else 0; there are fewer than 2^32 jobs, and at most 64 seats
 pub record Keeps (plan : Plan) (next halt : ℕ) (views : List View) : Type 0 where
   pub each_once : (x : ℕ) → sum_by (λ (v : View). times x v.drawn) views ≡ once_below x (min next plan.jobs)
   pub drawn : sum_by (λ (v : View). length v.drawn) views ≡ min next plan.jobs

@@ -2,3 +2,4 @@ pub mod Parts
 pub mod Lengths
 pub mod Messages
 pub mod Valid
+pub mod Names

@@ -1,7 +1,7 @@
 -- The messages M' that are signed (FIPS 205, Algorithms 22 and 23), for contexts of at most 255 bytes.
-use Rattle.std.specs.Prelude.{ℕ, List, ◌++◌, length}
+use Rattle.std.specs.Prelude.{ℕ, List, ◌++◌, length, Option, None, Some}
 use Rattle.slh_params.specs.Bits.{to_byte}
-use Rattle.slh_core.specs.PreHash.{oid}
+use Rattle.slh_core.specs.PreHash.{PH, oid}
 use Rattle.slh_core.specs.declared.pre_hash.PreHash.{PreHash}
 
 -- the pure form: 0, the length of the context, the context, the message
@@ -11,3 +11,8 @@ pure_message ctx msg = to_byte 0 1 ++ to_byte (length ctx) 1 ++ ctx ++ msg
 -- the pre-hash form: 1, the length of the context, the context, the function's object identifier, the digest
 abbrev pub pre_hash_message : List ℕ → PreHash → List ℕ → List ℕ
 pre_hash_message ctx function digest = to_byte 1 1 ++ to_byte (length ctx) 1 ++ ctx ++ oid function ++ digest
+
+-- M' in the pure form, or in the pre-hash form by a function
+abbrev pub message_in_form : Option PreHash → List ℕ → List ℕ → List ℕ
+message_in_form None ctx msg = pure_message ctx msg
+message_in_form (Some function) ctx msg = pre_hash_message ctx function (PH function msg)

@@ -1,5 +1,7 @@
 -- The pre-hash functions (FIPS 205, section 10.2.2).
-use Rattle.std.specs.Prelude.{ℕ, List, [], ◌∷◌, codes}
+use Rattle.std.specs.Prelude.{ℕ, List, [], ◌∷◌, Option, codes}
+use Rattle.std.specs.List.{find}
+use Rattle.std.specs.Str.{bytes_eq}
 use Rattle.sha2.specs.Sha256.{sha224, sha256}
 use Rattle.sha2.specs.Sha512.{sha384, sha512, sha512_224, sha512_256}
 use Rattle.slh_core.specs.declared.pre_hash.PreHash.{PreHash}
@@ -17,6 +19,14 @@ name Sha384 = codes "SHA2-384"
 name Sha512 = codes "SHA2-512"
 name Sha512_224 = codes "SHA2-512/224"
 name Sha512_256 = codes "SHA2-512/256"
+
+-- the functions, in the order of the enum
+abbrev pub functions : List PreHash
+functions = Sha224 ∷ Sha256 ∷ Sha384 ∷ Sha512 ∷ Sha512_224 ∷ Sha512_256 ∷ []
+
+-- the function of this name
+unfoldable pub function_named : List ℕ → Option PreHash
+function_named text = find (λ function. bytes_eq (name function) text) functions
 
 -- the last byte of the object identifier
 abbrev pub last_arc : PreHash → ℕ

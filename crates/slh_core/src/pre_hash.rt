@@ -1,5 +1,5 @@
 ghost use Rattle.std.specs.Prelude.{◌≡◌, IsNone, IfSome};
-ghost use Rattle.slh_core.specs.PreHash.{name, oid, digest_len};
+ghost use Rattle.slh_core.specs.PreHash.{name, oid, digest_len, function_named};
 
 /// A function that hashes a message before it is signed (FIPS 205, section 10.2.2). Each goes with each set.
 #[derive(Clone, Copy, PartialEq, Eq, Debug)]
@@ -28,7 +28,9 @@ impl PreHash {
     }
 
     /// The function of this name. `None` where it is no function's; letter case counts.
+    #[tactic(auto, unfolding(crate::specs::PreHash::function_named))]
     pub fn from_name(text: &str) -> Option<PreHash>
+        ensures named { result ≡ function_named text.now }
         ensures none { IsNone result → (function : PreHash) → name function ≡ text.now → ⊥ }
         ensures some { IfSome result (λ function. name function ≡ text.now) }
     {

@@ -1,15 +1,16 @@
 -- A key file is read exactly where it is in the grammar, and what is written is in it.
-use Rattle.std.proofs.Common.{◌≡◌, ℕ, ◌*◌, ◌==◌, Bool, true, false, not, cond, inr, List, [], ◌∷◌, ◌++◌, length, Option, Some, None, Result, Ok, Err, refl, sym, ap, ap₂, ◌∙◌, arith, append_assoc, eq-eqb, subst}
+use Rattle.std.proofs.Common.{◌≡◌, ℕ, ◌*◌, ◌==◌, Bool, true, false, not, cond, inr, [], ◌∷◌, ◌++◌, length, Option, Some, None, Result, Ok, Err, refl, sym, ap, ap₂, ◌∙◌, arith, append_assoc, eq-eqb, subst}
 use Rattle.std.proofs.lemmas.Bool.{eqb-true}
 use Rattle.std.proofs.lemmas.Slice.Eq.{bytes_eq-Decides}
 use Rattle.std.proofs.lemmas.List.Sums.{AllPass-from_list_all, list_all-from_AllPass}
-use Rattle.std.specs.List.{find, list_all}
+use Rattle.std.specs.List.{list_all}
 use Rattle.std.specs.Prelude.{◌↔◌}
 use Rattle.std.specs.Str.{bytes_eq}
 use Rattle.std.specs.Result.{result_unwrap_or}
 use Rattle.hex.specs.Hex.{decode_of, encode_lower, is_hex_digit}
 use Rattle.hex.proofs.HexLemmas.{decode_of-digits, decode_of-encode_lower, decode_of-ok}
-use Rattle.slh_params.specs.ParamSet.{params, name}
+use Rattle.slh_params.specs.ParamSet.{params, name, set_named}
+use Rattle.slh_params.proofs.Names.{set_named-name, set_named_is}
 use Rattle.slh_params.specs.declared.param_set.ParamSet.{ParamSet}
 use Rattle.slh_params.specs.declared.param_set.ParamSet.TheVariants.{S128s, S128f, S192s, S192f, S256s, S256f}
 use Rattle.slh_core.specs.Keys.{Key}
@@ -18,7 +19,7 @@ use Rattle.slh_files.specs.declared.fault.FileFault.TheVariants.{NotAKeyFile, Ba
 use Rattle.slh_files.specs.declared.key_kind.KeyKind.{KeyKind}
 use Rattle.slh_files.specs.declared.key_kind.KeyKind.TheVariants.{Public, Secret}
 use Rattle.slh_files.specs.Lines.{Text, line, cut_line, last_line}
-use Rattle.slh_files.specs.KeyFile.{IsKey, IsKeyFile, after_kind, after_set, first_line, key_digits, key_file, key_len, key_line, key_text, set_named, sets, with_rest, ◌>>=◌}
+use Rattle.slh_files.specs.KeyFile.{IsKey, IsKeyFile, after_kind, after_set, first_line, key_digits, key_file, key_len, key_line, key_text, with_rest, ◌>>=◌}
 use Rattle.slh_files.proofs.Cut.{cut_line-Some, cut_line-at, last_line-at, last_line-whole, no_feed}
 use Rattle.slh_files.proofs.Decoding.{digits_no_feed}
 
@@ -46,19 +47,6 @@ after_kind-ok kind (Some parts) rest h = chosen (bytes_eq parts.0 (first_line ki
         ap Some (ap₂ (λ (a b : Text). let q : Text × Text = (a, b) in q) same back)
     chosen false e k = cc k
 
--- what a search finds passes its test
-find-ok : {A : Type 0} (test : A → Bool) (xs : List A) (x : A) → find test xs ≡ Some x → test x ≡ true
-find-ok test [] x h = cc h
-find-ok test (y ∷ ys) x h = chosen (find-ok test ys x) (test y) refl h
-  where
-    chosen : (find test ys ≡ Some x → test x ≡ true) → (b : Bool) → test y ≡ b → cond b (Some y) (find test ys) ≡ Some x → test x ≡ true
-    chosen later true e k = let same : y ≡ x = cc k in rw (← same) e
-    chosen later false e k = later k
-
--- the set that was found has the name
-set_named-ok : (line : Text) (set : ParamSet) → set_named line ≡ Some set → line ≡ name set
-set_named-ok line set h = sym ((bytes_eq-Decides (name set) line).0 (find-ok (λ s. bytes_eq (name s) line) sets set h))
-
 with_rest-ok : (found : Option ParamSet) (rest : Text) (s : ParamSet × Text) → with_rest found rest ≡ Ok s → (found ≡ Some s.0) × (rest ≡ s.1)
 with_rest-ok None rest s h = cc h
 with_rest-ok (Some set) rest s h = (cc h, cc h)
@@ -68,7 +56,7 @@ after_set-ok : (cut : Option (Text × Text)) (s : ParamSet × Text) → after_se
 after_set-ok None s h = cc h
 after_set-ok (Some parts) s h =
     let t = with_rest-ok (set_named parts.0) parts.1 s h in
-    ap Some (ap₂ (λ (a b : Text). let q : Text × Text = (a, b) in q) (set_named-ok parts.0 s.0 t.0) t.1)
+    ap Some (ap₂ (λ (a b : Text). let q : Text × Text = (a, b) in q) (sym (set_named_is parts.0 s.0 t.0)) t.1)
 
 length-zero : (xs : Text) → length xs ≡ 0 → xs ≡ []
 length-zero [] h = refl
@@ -162,14 +150,6 @@ name_no_feed S192s = refl
 name_no_feed S192f = refl
 name_no_feed S256s = refl
 name_no_feed S256f = refl
-
-set_named-name : (set : ParamSet) → set_named (name set) ≡ Some set
-set_named-name S128s = refl
-set_named-name S128f = refl
-set_named-name S192s = refl
-set_named-name S192f = refl
-set_named-name S256s = refl
-set_named-name S256f = refl
 
 -- good digits are taken
 key_digits-at : (len : ℕ) (digits : Text) → list_all is_hex_digit digits ≡ true → length digits ≡ 2 * len → key_digits len (digits, []) ≡ Ok digits

@@ -1,14 +1,13 @@
 -- The key file, version 1: the kind of the key, the name of its parameter set, and its bytes as
 -- hexadecimal digits, a line each.
-use Rattle.std.specs.Prelude.{◌≡◌, ◌==◌, ◌*◌, ◌⊎◌, ℕ, not, if◌then◌else◌, List, [], ◌∷◌, ◌++◌, length, find, Option, Some, None, Result, Ok, Err, codes}
+use Rattle.std.specs.Prelude.{◌≡◌, ◌==◌, ◌*◌, ◌⊎◌, ℕ, not, if◌then◌else◌, [], ◌∷◌, ◌++◌, length, Option, Some, None, Result, Ok, Err, codes}
 use Rattle.std.specs.List.{list_all}
 use Rattle.std.specs.Str.{bytes_eq}
 use Rattle.std.specs.Result.{result_unwrap_or}
 use Rattle.hex.specs.Hex.{IsBytes, decode_of, encode_lower, is_hex_digit}
 use Rattle.slh_params.specs.Params.{Params, pk_len, sk_len}
-use Rattle.slh_params.specs.ParamSet.{params, name}
+use Rattle.slh_params.specs.ParamSet.{params, name, set_named}
 use Rattle.slh_params.specs.declared.param_set.ParamSet.{ParamSet}
-use Rattle.slh_params.specs.declared.param_set.ParamSet.TheVariants.{S128s, S128f, S192s, S192f, S256s, S256f}
 use Rattle.slh_core.specs.Keys.{Key}
 use Rattle.slh_files.specs.declared.fault.FileFault.{FileFault}
 use Rattle.slh_files.specs.declared.fault.FileFault.TheVariants.{NotAKeyFile, UnknownSet, BadHex, BadKeyLength, TrailingBytes}
@@ -56,14 +55,6 @@ Err e >>= f = Err e
 abbrev pub after_kind : KeyKind → Option (Text × Text) → Result Text FileFault
 after_kind kind None = Err NotAKeyFile
 after_kind kind (Some parts) = if bytes_eq parts.0 (first_line kind) then Ok parts.1 else Err NotAKeyFile
-
--- the parameter sets, in the order of the standard's table
-abbrev pub sets : List ParamSet
-sets = S128s ∷ S128f ∷ S192s ∷ S192f ∷ S256s ∷ S256f ∷ []
-
--- the set of this name
-abbrev pub set_named : Text → Option ParamSet
-set_named text = find (λ set. bytes_eq (name set) text) sets
 
 -- the set, if there is one, and what comes after its line
 abbrev pub with_rest : Option ParamSet → Text → Result (ParamSet × Text) FileFault

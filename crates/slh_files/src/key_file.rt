@@ -2,10 +2,10 @@ ghost use Rattle.std.specs.Prelude.{◌≡◌, ◌↔◌, ◌*◌, ◌≤◌, tr
 ghost use Rattle.std.specs.List.{list_all};
 ghost use Rattle.hex.specs.Hex.{is_hex_digit};
 ghost use Rattle.slh_core.specs.Keys.{Key};
-ghost use Rattle.slh_params.specs.ParamSet.{params};
+ghost use Rattle.slh_params.specs.ParamSet.{params, set_named};
 ghost use Rattle.slh_files.specs.declared.key_kind.KeyKind.TheVariants.{Public, Secret};
 ghost use Rattle.slh_files.specs.Lines.{cut_line, last_line};
-ghost use Rattle.slh_files.specs.KeyFile.{Gives, IsKeyFile, after_kind, after_set, key_digits, key_file, key_len, key_line, set_named};
+ghost use Rattle.slh_files.specs.KeyFile.{Gives, IsKeyFile, after_kind, after_set, key_digits, key_file, key_len, key_line};
 
 use super::digits::{are_hex_digits, decode_digits};
 use super::fault::FileFault;

@@ -118,16 +118,21 @@ fn refuses_other_files(rt: HostRuntime) -> Result<(), Fail> {
     Ok(())
 }
 
+/// The refusal of a file cut to `len` bytes, of which the digits end before byte `end`: its number, or 0 where they are all there.
+fn cut_status(len: usize, end: usize) -> u8 {
+    match len {
+        0..=16 => 11,
+        17..=34 => 12,
+        _ if len < end => 14,
+        _ => 0,
+    }
+}
+
 #[test]
 fn refuses_damaged_files(rt: HostRuntime) {
     for len in 0..=100 {
-        let number = match len {
-            0..=16 => 11,
-            17..=34 => 12,
-            35..=98 => 14,
-            _ => 0,
-        };
-        assert_eq!(rt; status(read_public(&PUBLIC[..len])), number, "{len} bytes");
+        let read = status(read_public(&PUBLIC[..len]));
+        assert_eq!(rt; read, cut_status(len, 99), "{len} bytes");
     }
     for place in 0..100 {
         let number = match place {
@@ -140,12 +145,7 @@ fn refuses_damaged_files(rt: HostRuntime) {
         assert_eq!(rt; status(read_public(&file)), number, "at {place}");
     }
     for len in 0..=164 {
-        let number = match len {
-            0..=16 => 11,
-            17..=34 => 12,
-            35..=162 => 14,
-            _ => 0,
-        };
-        assert_eq!(rt; status(read_secret(&SECRET[..len])), number, "{len} bytes");
+        let read = status(read_secret(&SECRET[..len]));
+        assert_eq!(rt; read, cut_status(len, 163), "{len} bytes");
     }
 }

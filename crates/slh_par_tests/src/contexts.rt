@@ -1,9 +1,7 @@
 //! Contexts of 0, 255 and 256 bytes.
 ghost use Rattle.std.specs.Prelude.{◌≡◌};
 
-use crate::fixtures::{
-    SET, hash_signature, is_unwritten, key, signature, unwritten, whole_trees, workers,
-};
+use crate::fixtures::{SET, is_unwritten, key, unwritten, whole_trees, workers};
 use crate::signing::{FORMS, Form};
 use slh_core::{PreHash, PublicKey, hash_verify, verify};
 use slh_par::NoGate;
@@ -30,10 +28,7 @@ fn contexts_of_up_to_255_bytes(rt: HostRuntime) -> Result<(), Fail> {
             form.sign_par(
                 &rt, alloc, b"abc", ctx, &sk, two, &cutting, &NoGate, &mut sig,
             )?;
-            let expected = match form {
-                Form::Pure => signature(alloc, b"abc", ctx, &sk)?,
-                Form::PreHash => hash_signature(alloc, b"abc", ctx, &sk)?,
-            };
+            let expected = form.abc_under(alloc, ctx, &sk)?;
             assert!(rt; sig.as_slice() == expected.as_slice(), "{form:?}");
             assert!(rt; is_valid(form, ctx, &sig, &sk.public()), "{form:?}");
             assert!(rt; !is_valid(form, other, &sig, &sk.public()), "{form:?}");

@@ -4,7 +4,7 @@ ghost use Rattle.slh_params.specs.Params.{sig_len};
 ghost use Rattle.slh_params.specs.ParamSet.{params};
 
 use sha2::{Digest, Sha256};
-use slh_core::{PreHash, Randomizer, SecretKey, hash_sign, keygen_internal, sign};
+use slh_core::{SecretKey, keygen_internal};
 use slh_par::{Cuts, Cutting, Gate, ParFault, Workers, keygen_par};
 use slh_params::ParamSet;
 use std::alloc::{Allocator, Global};
@@ -12,10 +12,10 @@ use std::test::Fail;
 use std::thread::Threads;
 
 /// The set of the tests that need one set alone.
-pub(crate) const SET: ParamSet = ParamSet::S128f;
+pub const SET: ParamSet = ParamSet::S128f;
 
 /// Nothing is written over these bytes where a call is refused.
-pub(crate) const UNWRITTEN: u8 = 0xa5;
+pub const UNWRITTEN: u8 = 0xa5;
 
 /// The bytes 00, 01, 02, ...
 fn counting() -> [u8; 96] {
@@ -29,7 +29,7 @@ fn counting() -> [u8; 96] {
 }
 
 /// The key whose seeds are the bytes 00, 01, 02, .., by one thread.
-pub(crate) fn key(set: ParamSet) -> SecretKey
+pub fn key(set: ParamSet) -> SecretKey
     ensures { result.set ≡ set }
 {
     let bytes = counting();
@@ -38,7 +38,7 @@ pub(crate) fn key(set: ParamSet) -> SecretKey
 }
 
 /// The same key, by several workers.
-pub(crate) fn key_par<R: Threads + Sync, A: Allocator + Clone + Send + Sync, G: Gate>(
+pub fn key_par<R: Threads + Sync, A: Allocator + Clone + Send + Sync, G: Gate>(
     rt: &R,
     alloc: A,
     workers: Workers,
@@ -64,65 +64,30 @@ pub(crate) fn key_par<R: Threads + Sync, A: Allocator + Clone + Send + Sync, G: 
 }
 
 /// That many workers.
-pub(crate) fn workers(number: u8) -> Result<Workers, Fail> {
+pub fn workers(number: u8) -> Result<Workers, Fail> {
     Ok(Workers::new(number).ok_or("no such number of workers")?)
 }
 
 /// Trees of the set 128f with one range each: 22 XMSS trees and 33 FORS trees, so the jobs of a signature are 0 to 54.
-pub(crate) fn whole_trees() -> Result<Cutting, Fail>
+pub fn whole_trees() -> Result<Cutting, Fail>
     ensures { IfOk result (λ cutting. cutting.set ≡ SET) }
 {
     Ok(Cutting::new(SET, Cuts::Levels(0), Cuts::Levels(0))?)
 }
 
 /// Room for a signature.
-pub(crate) fn unwritten(alloc: Global, set: ParamSet) -> Result<Vec<u8>, Fail>
+pub fn unwritten(alloc: Global, set: ParamSet) -> Result<Vec<u8>, Fail>
     ensures { IfOk result (λ out. length out.items ≡ sig_len (params set)) }
 {
     Ok(vec![in alloc; UNWRITTEN; set.sig_len()]?)
 }
 
 /// Whether nothing was written.
-pub(crate) fn is_unwritten(out: &[u8]) -> bool {
+pub fn is_unwritten(out: &[u8]) -> bool {
     out.iter().all(|&byte| byte == UNWRITTEN)
 }
 
-/// The deterministic signature of a message under a context, by one thread.
-pub(crate) fn signature(
-    alloc: Global,
-    msg: &[u8],
-    ctx: &[u8],
-    sk: &SecretKey,
-) -> Result<Vec<u8>, Fail>
-    ensures { IfOk result (λ sig. length sig.items ≡ sig_len (params sk.now.set)) }
-{
-    let mut sig = unwritten(alloc, sk.set())?;
-    sign(msg, ctx, sk, Randomizer::Deterministic, &mut sig)?;
-    Ok(sig)
-}
-
-/// The deterministic signature of a message by its digest under SHA-256, under a context, by one thread.
-pub(crate) fn hash_signature(
-    alloc: Global,
-    msg: &[u8],
-    ctx: &[u8],
-    sk: &SecretKey,
-) -> Result<Vec<u8>, Fail>
-    ensures { IfOk result (λ sig. length sig.items ≡ sig_len (params sk.now.set)) }
-{
-    let mut sig = unwritten(alloc, sk.set())?;
-    hash_sign(
-        msg,
-        ctx,
-        PreHash::Sha256,
-        sk,
-        Randomizer::Deterministic,
-        &mut sig,
-    )?;
-    Ok(sig)
-}
-
 /// The SHA-256 of the bytes, in hexadecimal digits.
-pub(crate) fn sha256_hex(alloc: Global, bytes: &[u8]) -> Result<String, Fail> {
+pub fn sha256_hex(alloc: Global, bytes: &[u8]) -> Result<String, Fail> {
     Ok(hex::encode(alloc, Sha256::digest(bytes).as_slice())?)
 }

@@ -1,9 +1,7 @@
 //! Calls with the 1st growth of memory refused, then the 2nd, and so on until a call meets no refusal.
 ghost use Rattle.std.specs.Prelude.{◌≡◌, ◌<◌};
 
-use crate::fixtures::{
-    SET, is_unwritten, key, key_par, signature, unwritten, whole_trees, workers,
-};
+use crate::fixtures::{SET, is_unwritten, key, key_par, unwritten, whole_trees, workers};
 use crate::signing::{FORMS, Form};
 use refusing_allocator::Refusing;
 use slh_par::{Cuts, Cutting, NoGate, ParFault, VerifyItem, verify_all};
@@ -86,7 +84,7 @@ fn signing_refuses_at_each_growth(rt: HostRuntime) -> Result<(), Fail> {
 fn verify_all_refuses_at_each_growth(rt: HostRuntime) -> Result<(), Fail> {
     let sk = key(SET);
     let pk = sk.public();
-    let good = signature(rt.alloc(), b"abc", b"", &sk)?;
+    let good = Form::Pure.abc(rt.alloc(), &sk)?;
     let item = |sig| VerifyItem {
         pk: &pk,
         msg: b"abc",

@@ -8,8 +8,7 @@ mod contexts;
 mod cuttings;
 #[cfg(test)]
 mod faults;
-#[cfg(test)]
-mod fixtures;
+pub mod fixtures;
 #[cfg(test)]
 mod gates;
 #[cfg(test)]

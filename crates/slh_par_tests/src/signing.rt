@@ -1,10 +1,10 @@
-//! The two parallel signing calls under one name.
+//! The two forms of signing under one name, by several workers and by one thread.
 ghost use Rattle.std.specs.Prelude.{◌≡◌, IfOk, OnErr, length};
 ghost use Rattle.slh_params.specs.Params.{sig_len};
 ghost use Rattle.slh_params.specs.ParamSet.{params};
 
-use crate::fixtures::{hash_signature, signature, unwritten};
-use slh_core::{PreHash, Randomizer, SecretKey};
+use crate::fixtures::unwritten;
+use slh_core::{PreHash, Randomizer, SecretKey, hash_sign, sign};
 use slh_par::{Cutting, Gate, ParFault, Workers, hash_sign_par, sign_par};
 use std::alloc::{Allocator, Global};
 use std::test::Fail;
@@ -83,9 +83,26 @@ impl Form {
     pub(crate) fn abc(self, alloc: Global, sk: &SecretKey) -> Result<Vec<u8>, Fail>
         ensures { IfOk result (λ sig. length sig.items ≡ sig_len (params sk.now.set)) }
     {
+        self.abc_under(alloc, b"", sk)
+    }
+
+    /// The deterministic signature of "abc" under a context, by one thread.
+    pub(crate) fn abc_under(
+        self,
+        alloc: Global,
+        ctx: &[u8],
+        sk: &SecretKey,
+    ) -> Result<Vec<u8>, Fail>
+        ensures { IfOk result (λ sig. length sig.items ≡ sig_len (params sk.now.set)) }
+    {
+        let mut sig = unwritten(alloc, sk.set())?;
+        let randomizer = Randomizer::Deterministic;
         match self {
-            Form::Pure => signature(alloc, b"abc", b"", sk),
-            Form::PreHash => hash_signature(alloc, b"abc", b"", sk),
+            Form::Pure => sign(b"abc", ctx, sk, randomizer, &mut sig)?,
+            Form::PreHash => {
+                hash_sign(b"abc", ctx, PreHash::Sha256, sk, randomizer, &mut sig)?;
+            }
         }
+        Ok(sig)
     }
 }

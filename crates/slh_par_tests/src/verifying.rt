@@ -1,7 +1,8 @@
 //! Many signatures at once.
 ghost use Rattle.std.specs.Prelude.{◌≡◌};
 
-use crate::fixtures::{SET, hash_signature, key, signature, workers};
+use crate::fixtures::{SET, key, workers};
+use crate::signing::Form;
 use slh_core::PreHash;
 use slh_par::{VerifyItem, verify_all};
 use std::test::Fail;
@@ -10,11 +11,11 @@ use std::test::Fail;
 fn verdicts_in_the_order_of_the_items(rt: HostRuntime) -> Result<(), Fail> {
     let sk = key(SET);
     let pk = sk.public();
-    let good = signature(rt.alloc(), b"abc", b"", &sk)?;
-    let of_digest = hash_signature(rt.alloc(), b"abc", b"", &sk)?;
-    let mut shorter = signature(rt.alloc(), b"abc", b"", &sk)?;
+    let good = Form::Pure.abc(rt.alloc(), &sk)?;
+    let of_digest = Form::PreHash.abc(rt.alloc(), &sk)?;
+    let mut shorter = Form::Pure.abc(rt.alloc(), &sk)?;
     let _ = shorter.pop();
-    let mut longer = signature(rt.alloc(), b"abc", b"", &sk)?;
+    let mut longer = Form::Pure.abc(rt.alloc(), &sk)?;
     longer.push(0)?;
     assert_eq!(rt;
         (shorter.len(), good.len(), longer.len()),

@@ -1,5 +1,5 @@
 ghost use Rattle.std.specs.Prelude.{◌≡◌, IsNone, IfSome};
-ghost use Rattle.slh_params.specs.ParamSet.{params, name};
+ghost use Rattle.slh_params.specs.ParamSet.{params, name, set_named};
 ghost use Rattle.slh_params.specs.Params.{h, m, md_len, tree_len, leaf_len, len, pk_len, sk_len, sig_len};
 
 /// A parameter set of SLH-DSA with SHA-2 (FIPS 205, section 11, Table 2).
@@ -175,7 +175,9 @@ impl ParamSet {
     }
 
     /// The set of this name; `None` where the text is no name of a set. Letter case counts.
+    #[tactic(auto, unfolding(crate::specs::ParamSet::set_named))]
     pub fn from_name(text: &str) -> Option<ParamSet>
+        ensures named { result ≡ set_named text.now }
         ensures none { IsNone result → (set : ParamSet) → name set ≡ text.now → ⊥ }
         ensures some { IfSome result (λ set. name set ≡ text.now) }
     {

@@ -1,8 +1,7 @@
 //! Tests of the trees of a signature by several threads: they are those that one thread makes, and their refusals.
 #![tactic(auto)]
 
-#[cfg(test)]
-mod key;
+pub mod key;
 #[cfg(test)]
 mod one_thread;
 #[cfg(test)]

@@ -6,13 +6,13 @@ use Rattle.slh_cutting.specs.CutTrees.{CutTrees}
 use Rattle.slh_devices.specs.Devices.{SourceState}
 use Rattle.slh_files.specs.KeyFile.{key_text}
 use Rattle.slh_files.specs.declared.key_kind.KeyKind.TheVariants.{Secret}
+use Rattle.slh_params.specs.ParamSet.{set_named}
 use Rattle.slh_params.specs.declared.param_set.ParamSet.{ParamSet}
 use Rattle.slh_tool.specs.Cuts.{IsCutting}
 use Rattle.slh_tool.specs.Keys.{key_of_seeds}
 use Rattle.slh_tool.specs.Replies.{WritesKey}
 use Rattle.slh_tool.specs.Requests.{KeygenOptions}
 use Rattle.slh_tool.specs.Seeds.{AreSeeds}
-use Rattle.slh_tool.specs.Sets.{set_named}
 
 -- the key of the named set and of the seeds that were read is written
 pub key_written : (options : KeygenOptions) (old new : SourceState) (set : ParamSet) (cutting : CutTrees) (seeds : Text) (key : Key) (text : Text)

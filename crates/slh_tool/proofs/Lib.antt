@@ -1,7 +1,6 @@
 pub mod CutLists
 pub mod Decoding
 pub mod Digits
-pub mod Functions
 pub mod Generation
 pub mod Hashing
 pub mod Pieces

@@ -1,5 +1,5 @@
 -- From what `clap` answers to what the words ask for.
-use Rattle.std.proofs.Common.{◌⊎◌, inl, inr, subst, ◌≡◌, ◌≢◌, ◌∙◌, ℕ, true, [], Option, Some, None, Result, Ok, Err, unwrap_or, refl, sym}
+use Rattle.std.proofs.Common.{◌⊎◌, inl, inr, subst, ◌≡◌, ◌≢◌, ◌∙◌, ℕ, true, Option, Some, None, Result, Ok, Err, unwrap_or, refl, sym}
 use Rattle.std.specs.Option.{option_map_or}
 use Rattle.std.specs.Str.Parse.{ParsesUnsigned}
 use Rattle.clap.proofs.WalkLemmas.{byte_read}
@@ -23,10 +23,10 @@ pub help_among : (k : ErrorKind) (kinds : Kinds) → (k ≡ OutOfMemory) ⊎ IsA
 help_among k kinds (inl o) e = cc (e ∙ o)
 help_among k kinds (inr a) e = subst (λ (x : ErrorKind). IsAmong x kinds) (sym e) a
 
--- an error of another kind than memory is a fault
-pub has_fault : (k : ErrorKind) (kinds : Kinds) → (k ≡ OutOfMemory) ⊎ IsAmong k kinds → (k ≢ OutOfMemory) → kinds ≢ []
-has_fault k kinds (inl o) other e = other o
-has_fault k kinds (inr a) other e = subst (λ (x : Kinds). IsAmong k x) e a
+-- an error of another kind than memory has a kind that may come
+pub among_other : (k : ErrorKind) (kinds : Kinds) → (k ≡ OutOfMemory) ⊎ IsAmong k kinds → (k ≢ OutOfMemory) → IsAmong k kinds
+among_other k kinds (inl o) other = absurd (other o)
+among_other k kinds (inr a) other = a
 
 -- the number that `get_one` reads of an option, and 0 where there is none
 pub number_read : (E : Type 0) (G : Text → Result ℕ E → Type 0) (o : Option Text) (r : Option ℕ) → ((t : Text) (x : Result ℕ E) → G t x → ParsesUnsigned 8 10 t x)

@@ -6,12 +6,11 @@ use Rattle.slh_devices.specs.Devices.{FilesState, SourceState}
 use Rattle.slh_files.specs.KeyFile.{key_file}
 use Rattle.slh_files.specs.declared.fault.FileFault.{FileFault}
 use Rattle.slh_files.specs.declared.key_kind.KeyKind.{KeyKind}
-use Rattle.slh_params.specs.ParamSet.{params}
+use Rattle.slh_params.specs.ParamSet.{params, set_named}
 use Rattle.slh_params.specs.declared.param_set.ParamSet.{ParamSet}
 use Rattle.slh_tool.specs.Faults.{of_file}
 use Rattle.slh_tool.specs.Reading.{IsFile, RefusesFile}
 use Rattle.slh_tool.specs.Seeds.{AreSeeds, RefusesSeeds}
-use Rattle.slh_tool.specs.Sets.{set_named}
 use Rattle.slh_tool.specs.declared.fault.Fault.{Fault}
 use Rattle.slh_tool.specs.declared.fault.Fault.TheVariants.{NoMemory, UnknownSet}
 
@@ -24,7 +23,7 @@ abbrev pub RefusesKey : KeyKind → FilesState → FilesState → Text → Fault
 RefusesKey kind old new path fault = RefusesFile old new path fault
     ⊎ ((bytes : Text) × IsFile old path bytes × ((e : FileFault) × (key_file kind bytes ≡ Err e) × (fault ≡ of_file e)))
 
--- the secret key of the seeds SK.seed, SK.prf and PK.seed, put end to end
+-- the secret key of the seeds SK.seed, SK.prf and PK.seed, put end to end (FIPS 205, Algorithm 18)
 abbrev pub key_of_seeds : ParamSet → List ℕ → Key
 key_of_seeds set seeds =
     let n = (params set).n in generated_key set (take n seeds) (take n (drop n seeds)) (drop n (drop n seeds))
@@ -36,7 +35,7 @@ pub record IsGeneratedFrom (name : Text) (old new : SourceState) (key : Key) : T
   pub read : AreSeeds key.set old new seeds
   pub generated : key ≡ key_of_seeds key.set seeds
 
--- why no key was generated: no set has the name, or the input has no seeds
+-- why no key was generated: memory, or no set has the name, or the input has no seeds
 abbrev pub RefusesSeedsOf : Text → SourceState → SourceState → Fault → Type 0
 RefusesSeedsOf name old new NoMemory = ⊤
 RefusesSeedsOf name old new UnknownSet = set_named name ≡ None

@@ -1,16 +1,12 @@
 -- The options on the form in which a message is signed.
-use Rattle.std.specs.Prelude.{◌≡◌, ⊤, ◌⊎◌, List, [], ◌∷◌, Option, Some, None, option_map}
-use Rattle.std.specs.List.{find}
+use Rattle.std.specs.Prelude.{◌≡◌, ⊤, ◌⊎◌, [], Option, Some, None, option_map}
 use Rattle.std.specs.Result.{result_ok}
-use Rattle.std.specs.Str.{bytes_eq}
 use Rattle.clap.specs.Words.{Text}
 use Rattle.hex.specs.Hex.{decode_of, decode_sized}
 use Rattle.slh_core.specs.Keys.{Key, pk_seed, public_of}
-use Rattle.slh_core.specs.Messages.{pre_hash_message, pure_message}
-use Rattle.slh_core.specs.PreHash.{PH, name}
+use Rattle.slh_core.specs.PreHash.{function_named}
 use Rattle.slh_core.specs.Signatures.{signature}
 use Rattle.slh_core.specs.declared.pre_hash.PreHash.{PreHash}
-use Rattle.slh_core.specs.declared.pre_hash.PreHash.TheVariants.{Sha224, Sha256, Sha384, Sha512, Sha512_224, Sha512_256}
 use Rattle.slh_params.specs.ParamSet.{params}
 use Rattle.slh_params.specs.declared.param_set.ParamSet.{ParamSet}
 use Rattle.slh_tool.specs.Requests.{FormOptions}
@@ -21,13 +17,6 @@ use Rattle.slh_tool.specs.declared.fault.Fault.TheVariants.{BadOption, NoMemory}
 unfoldable pub context_of : Option Text → Option Text
 context_of None = Some []
 context_of (Some digits) = result_ok (decode_of digits)
-
-abbrev pub functions : List PreHash
-functions = Sha224 ∷ Sha256 ∷ Sha384 ∷ Sha512 ∷ Sha512_224 ∷ Sha512_256 ∷ []
-
--- the pre-hash function of this name
-unfoldable pub function_named : Text → Option PreHash
-function_named text = find (λ function. bytes_eq (name function) text) functions
 
 -- the pre-hash function that an option names, if it stands there
 unfoldable pub prehash_of : Option Text → Option (Option PreHash)
@@ -43,22 +32,17 @@ random_of set (Some digits) = option_map (λ bytes. Some bytes) (result_ok (deco
 abbrev pub HasForm : FormOptions → Text → Option PreHash → Type 0
 HasForm form context prehash = (context_of form.context ≡ Some context) × (prehash_of form.prehash ≡ Some prehash)
 
--- why the options give none
+-- why the options give none: memory, or one of them is not as stated
 abbrev pub RefusesForm : FormOptions → Fault → Type 0
 RefusesForm form NoMemory = ⊤
 RefusesForm form BadOption = (context_of form.context ≡ None) ⊎ (prehash_of form.prehash ≡ None)
 RefusesForm form fault = ⊥
 
--- the message M' of the form (FIPS 205, Algorithms 22 and 23)
-abbrev pub message_of : Option PreHash → Text → Text → Text
-message_of None context message = pure_message context message
-message_of (Some function) context message = pre_hash_message context function (PH function message)
-
--- opt_rand: the given randomizer, or PK.seed in the deterministic variant
+-- opt_rand: the given randomizer, or PK.seed in the deterministic variant (FIPS 205, Algorithm 19, line 2)
 abbrev pub opt_rand_of : Option Text → Text → Text
 opt_rand_of None seed = seed
 opt_rand_of (Some random) seed = random
 
--- the signature of M' under a secret key and a randomizer
+-- the signature of M' under a secret key and a randomizer (Algorithms 19, 22 and 23)
 abbrev pub signature_of : Key → Text → Option Text → Text
 signature_of sk message random = signature sk message (opt_rand_of random (pk_seed (public_of sk)))

@@ -15,7 +15,7 @@ pub record IsFile (files : FilesState) (path bytes : List ℕ) : Type 0 where
   pub known : IfSome (files.bytes_at path) (λ whole. bytes ≡ whole)
   pub at_most : length bytes ≤ file_limit
 
--- why a file is not read: it is too long, or a read of it failed
+-- why a file is not read: memory, or it is too long, or a read of some file failed
 abbrev pub RefusesFile : FilesState → FilesState → List ℕ → Fault → Type 0
 RefusesFile old new path NoMemory = ⊤
 RefusesFile old new path FileTooLong = IfSome (old.bytes_at path) (λ whole. file_limit < length whole)

@@ -3,6 +3,7 @@ use Rattle.std.specs.Prelude.{◌≡◌, ⊤, ◌⊎◌, ◌↔◌, ℕ, ◌<◌
 use Rattle.clap.specs.Words.{Text}
 use Rattle.hex.specs.Hex.{encode_lower}
 use Rattle.slh_core.specs.Keys.{IsGeneratedKey, Key, public_of}
+use Rattle.slh_core.specs.Messages.{message_in_form}
 use Rattle.slh_core.specs.Signatures.{IsValid}
 use Rattle.slh_core.specs.declared.pre_hash.PreHash.{PreHash}
 use Rattle.slh_cutting.specs.CutTrees.{CutTrees}
@@ -10,15 +11,16 @@ use Rattle.slh_devices.specs.Devices.{FilesState, SourceState}
 use Rattle.slh_files.specs.KeyFile.{key_text}
 use Rattle.slh_files.specs.Lines.{line}
 use Rattle.slh_files.specs.declared.key_kind.KeyKind.TheVariants.{Public, Secret}
+use Rattle.slh_params.specs.ParamSet.{set_named, sets}
 use Rattle.slh_params.specs.declared.param_set.ParamSet.{ParamSet}
 use Rattle.slh_tool.specs.Cuts.{HasCutting, IsCutting, RefusesCutting}
 use Rattle.slh_tool.specs.Keys.{HoldsKey, IsGeneratedFrom, RefusesKey, RefusesSeedsOf}
-use Rattle.slh_tool.specs.Options.{HasForm, RefusesForm, message_of, random_of, signature_of}
+use Rattle.slh_tool.specs.Options.{HasForm, RefusesForm, random_of, signature_of}
 use Rattle.slh_tool.specs.Reading.{IsFile, RefusesFile}
 use Rattle.slh_tool.specs.Requests.{Asked, KeygenOptions, SignOptions, VerifyOptions}
 use Rattle.slh_tool.specs.Requests as requests
 use Rattle.slh_tool.specs.Seeds.{RefusesSeeds, seeds_limit}
-use Rattle.slh_tool.specs.Sets.{lines, set_named, sets}
+use Rattle.slh_tool.specs.Sets.{lines}
 use Rattle.slh_tool.specs.TestRuns.{RefusesVectors, RunsVectors}
 use Rattle.slh_tool.specs.declared.fault.Fault.{Fault}
 use Rattle.slh_tool.specs.declared.fault.Fault.TheVariants.{BadOption, ContextTooLong, NoMemory, UnknownSet}
@@ -77,7 +79,7 @@ pub record SignsWith (options : SignOptions) (files : FilesState) (key : Key) (t
   pub cut : IsCutting options.work key.set cutting
   pub read : IsFile files options.message message
   pub short : length context ≤ 255
-  pub signed : text ≡ signature_of key (message_of prehash context message) random
+  pub signed : text ≡ signature_of key (message_in_form prehash context message) random
 
 -- `sign`: the signature with the key of a secret key file
 abbrev pub SignsMessage : SignOptions → FilesState → Text → Type 0
@@ -110,7 +112,7 @@ RefusesSign options old new fault = RefusesKey Secret old new options.key fault
 -- whether the context is short enough and the signature valid (FIPS 205, Algorithms 24 and 25)
 abbrev pub IsValidIn : Option PreHash → Text → Text → Text → Key → Type 0
 IsValidIn prehash context message signature key =
-    (length context ≤ 255) × IsValid key (message_of prehash context message) signature
+    (length context ≤ 255) × IsValid key (message_in_form prehash context message) signature
 
 -- the truth of a signature file with a key, in a form
 pub record JudgesFiles (options : VerifyOptions) (files : FilesState) (key : Key) (context : Text) (prehash : Option PreHash) (answer : Bool) : Type 0 where

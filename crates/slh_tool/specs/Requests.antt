@@ -5,6 +5,7 @@ use Rattle.std.specs.Str.{bytes_eq}
 use Rattle.clap.specs.Kinds.{IsAmong}
 use Rattle.clap.specs.Walk.{byte_or_zero}
 use Rattle.clap.specs.Words.{Row, Text, fault_of, first_of, one_of, subcommand_of}
+use Rattle.clap.specs.declared.error.ErrorKind.{ErrorKind}
 use Rattle.clap.specs.declared.error.ErrorKind.TheVariants.{DisplayHelp}
 use Rattle.slh_arguments.specs.Command.{slh_app}
 use Rattle.slh_tool.specs.declared.request.CutWords.{CutWords}
@@ -153,9 +154,10 @@ asked_by (Some p) = asked_in p.0 p.1
 abbrev pub Asks : List Text → Asked → Type 0
 Asks words a = (fault_of slh_app words ≡ []) × (asked_by (subcommand_of slh_app words) ≡ Some a)
 
--- `clap` refuses the words, or they ask for no command
+-- `clap` refuses the words for another cause than a request for help, or takes them and they ask for no command
 abbrev pub AreBad : List Text → Type 0
-AreBad words = (fault_of slh_app words ≢ []) ⊎ (asked_by (subcommand_of slh_app words) ≡ None)
+AreBad words = ((k : ErrorKind) × IsAmong k (fault_of slh_app words) × (k ≢ DisplayHelp))
+    ⊎ ((fault_of slh_app words ≡ []) × (asked_by (subcommand_of slh_app words) ≡ None))
 
 -- the words ask for help
 abbrev pub AskHelp : List Text → Type 0

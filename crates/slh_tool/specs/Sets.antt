@@ -1,20 +1,9 @@
--- Parameter sets by name, and what is said of them.
-use Rattle.std.specs.Prelude.{ℕ, List, [], ◌∷◌, ◌++◌, Option, codes}
+-- What is said of the parameter sets.
+use Rattle.std.specs.Prelude.{ℕ, List, [], ◌∷◌, ◌++◌, codes}
 use Rattle.std.specs.Fmt.{decimal}
-use Rattle.std.specs.List.{find}
-use Rattle.std.specs.Str.{bytes_eq}
 use Rattle.slh_params.specs.Params.{h, m, pk_len, sk_len, sig_len}
 use Rattle.slh_params.specs.ParamSet.{name, params}
 use Rattle.slh_params.specs.declared.param_set.ParamSet.{ParamSet}
-use Rattle.slh_params.specs.declared.param_set.ParamSet.TheVariants.{S128s, S128f, S192s, S192f, S256s, S256f}
-
--- the sets, in the order of the standard's table
-abbrev pub sets : List ParamSet
-sets = S128s ∷ S128f ∷ S192s ∷ S192f ∷ S256s ∷ S256f ∷ []
-
--- the set of this name
-unfoldable pub set_named : List ℕ → Option ParamSet
-set_named text = find (λ set. bytes_eq (name set) text) sets
 
 -- a number of a set, as ` LABEL=NUMBER`
 abbrev pub number_text : List ℕ → ℕ → List ℕ

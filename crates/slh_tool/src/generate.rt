@@ -2,18 +2,16 @@ ghost use Rattle.std.specs.Prelude.{◌≡◌, ◌*◌, ◌++◌, ◌∷◌, [],
 ghost use Rattle.hex.specs.Hex.{encode_lower};
 ghost use Rattle.slh_core.specs.Keys.{public_of};
 ghost use Rattle.slh_devices.specs.Devices.{TakesAtMost};
-ghost use Rattle.slh_params.specs.ParamSet.{params};
+ghost use Rattle.slh_params.specs.ParamSet.{params, set_named};
 ghost use Rattle.slh_tool.specs.Keys.{IsGeneratedFrom, RefusesSeedsOf, key_of_seeds};
 ghost use Rattle.slh_tool.specs.Replies.{RefusesKeygen, ShowsRoot, WritesKey, limit_of_set};
 ghost use Rattle.slh_tool.specs.Requests.{keygen_asked};
-ghost use Rattle.slh_tool.specs.Sets.{set_named};
 ghost use Rattle.slh_tool.specs.declared.fault.Fault.TheVariants.{NoMemory};
 
 use super::cuts::{cutting_of, workers_of};
 use super::fault::Fault;
 use super::request::KeygenWords;
 use super::seeds::read_seeds;
-use super::set::set_named;
 use slh_core::{SecretKey, keygen_internal};
 use slh_devices::Source;
 use slh_files::write_secret;
@@ -47,7 +45,7 @@ pub(crate) fn keygen<R: Threads + Sync, A: Allocator + Clone + Send + Sync, S: S
     ensures refused { IfErr result (RefusesKeygen (keygen_asked words.entry) (S.state input.old) (S.state input.new)) }
     ensures at_most { TakesAtMost (S.state input.old).left (S.state input.new).left (limit_of_set (set_named words.entry.set.now)) }
 {
-    let Some(set) = set_named(words.set) else {
+    let Some(set) = ParamSet::from_name(words.set) else {
         return Err(Fault::UnknownSet);
     };
     let cutting = cutting_of(set, words.work)?;
@@ -92,7 +90,7 @@ fn generated<S: Source>(name: &str, input: &mut S) -> Result<SecretKey, Fault>
     ensures refused { IfErr result (RefusesSeedsOf name.now (S.state input.old) (S.state input.new)) }
     ensures at_most { TakesAtMost (S.state input.old).left (S.state input.new).left (limit_of_set (set_named name.now)) }
 {
-    let Some(set) = set_named(name) else {
+    let Some(set) = ParamSet::from_name(name) else {
         return Err(Fault::UnknownSet);
     };
     let seeds = read_seeds(set, input)?;

@@ -2,7 +2,7 @@ ghost use Rattle.std.specs.Prelude.{◌≡◌, Some, option_map, IfOk, IfErr, If
 ghost use Rattle.std.specs.Result.{result_ok};
 ghost use Rattle.hex.specs.Hex.{decode_sized};
 ghost use Rattle.slh_params.specs.ParamSet.{params};
-ghost use Rattle.slh_tool.specs.Options.{HasForm, RefusesForm, context_of, function_named, prehash_of, random_of};
+ghost use Rattle.slh_tool.specs.Options.{HasForm, RefusesForm, context_of, prehash_of, random_of};
 ghost use Rattle.slh_tool.specs.Requests.{form_asked, sign_asked};
 
 use super::fault::Fault;
@@ -53,19 +53,12 @@ fn prehash_of(words: FormWords<'_>) -> Option<Option<PreHash>>
     ensures { result ≡ prehash_of (form_asked words.entry).prehash }
 {
     match words.prehash {
-        Some(name) => match function_named(name) {
+        Some(name) => match PreHash::from_name(name) {
             Some(function) => Some(Some(function)),
             None => None,
         },
         None => Some(None),
     }
-}
-
-/// The pre-hash function of this name.
-fn function_named(name: &str) -> Option<PreHash>
-    ensures { result ≡ function_named name.now }
-{
-    PreHash::from_name(name)
 }
 
 /// A randomizer of any set.

@@ -2,7 +2,7 @@ ghost use Rattle.std.specs.Prelude.{None, Some, IfOk, IfErr, string_bytes};
 ghost use Rattle.slh_tool.specs.Replies.{RefusesSets, ShowsSets};
 
 use super::fault::Fault;
-use super::set::{set_lines, set_named};
+use super::set::set_lines;
 use slh_params::ParamSet;
 use std::alloc::Allocator;
 
@@ -11,7 +11,7 @@ pub(crate) fn named_set<A: Allocator + Clone>(alloc: A, name: &str) -> Result<St
     ensures done { IfOk result (λ s. ShowsSets (Some name.now) (string_bytes s)) }
     ensures refused { IfErr result (RefusesSets (Some name.now)) }
 {
-    let Some(set) = set_named(name) else {
+    let Some(set) = ParamSet::from_name(name) else {
         return Err(Fault::UnknownSet);
     };
     Ok(set_lines(alloc, &[set])?)

@@ -1,15 +1,8 @@
 ghost use Rattle.std.specs.Prelude.{◌≡◌, IfOk, string_bytes};
-ghost use Rattle.slh_tool.specs.Sets.{length_text, line, lines, set_named, tree_text};
+ghost use Rattle.slh_tool.specs.Sets.{length_text, line, lines, tree_text};
 
 use slh_params::ParamSet;
 use std::alloc::{AllocError, Allocator};
-
-/// The set of this name.
-pub(crate) fn set_named(name: &str) -> Option<ParamSet>
-    ensures { result ≡ set_named name.now }
-{
-    ParamSet::from_name(name)
-}
 
 /// The name of a set and the numbers of its hypertree.
 fn tree_text<A: Allocator>(alloc: A, set: ParamSet) -> Result<String<A>, AllocError>

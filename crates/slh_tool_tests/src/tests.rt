@@ -14,6 +14,7 @@ mod workers;
 use crate::{Answer, Folder, words_of};
 use slh_devices::{Files, Reader, Sink, Source, Writer};
 use slh_tool::command;
+use std::process::Abort;
 use std::test::Fail;
 use std::thread::Threads;
 
@@ -69,4 +70,11 @@ fn run_over<R: AllocGlobal + Threads + Sync, F: Files>(
         output: output.into_inner(),
         errors,
     })
+}
+
+/// A refusal: these errors, no output, and the status 2.
+fn check_refused(rt: &impl Abort, answer: &Answer, errors: &[u8]) {
+    assert_eq!(rt; answer.errors.as_slice(), errors);
+    assert!(rt; answer.output.is_empty());
+    assert_eq!(rt; answer.status, 2);
 }

@@ -3,6 +3,5 @@ pub mod FoundTests
 pub mod Json
 pub mod Loop
 pub mod MemberLaws
-pub mod NameLaws
 pub mod PutLines
 pub mod ReadAgain

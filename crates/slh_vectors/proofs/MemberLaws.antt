@@ -3,13 +3,14 @@ use Rattle.std.proofs.Common.{◌≡◌, ◌==◌, ℕ, Bool, true, false, cond,
 use Rattle.std.proofs.lemmas.Bool.{eqb-true}
 use Rattle.std.proofs.lemmas.Slice.Eq.{bytes_eq-Decides}
 use Rattle.std.specs.Str.{bytes_eq}
+use Rattle.slh_core.proofs.Names.{function_named_is}
 use Rattle.slh_core.specs.PreHash as pre_hash
 use Rattle.slh_core.specs.declared.pre_hash.PreHash.{PreHash}
+use Rattle.slh_params.proofs.Names.{set_named_is}
 use Rattle.slh_params.specs.ParamSet as param_set
-use Rattle.slh_params.specs.ParamSet.{params}
+use Rattle.slh_params.specs.ParamSet.{params, set_named}
 use Rattle.slh_params.specs.declared.param_set.ParamSet.{ParamSet}
-use Rattle.slh_vectors.specs.Names.{form_name, form_named, function_named, kind_name, kind_named, set_named}
-use Rattle.slh_vectors.proofs.NameLaws.{function_named_is, set_named_is}
+use Rattle.slh_vectors.specs.Names.{form_name, form_named, kind_name, kind_named}
 use Rattle.slh_vectors.specs.declared.test.Kind.{Kind}
 use Rattle.slh_vectors.specs.declared.test.Kind.TheVariants as kinds
 use Rattle.slh_vectors.specs.declared.test.Form.{Form}
@@ -124,7 +125,7 @@ form_named_is s f e =
       | inl a ↦ rw (← a.1) a.0
       | inr a ↦ elim (picked s (codes "pure") forms.Pure f _ a) [
         | inl b ↦ rw (← b.1) b.0
-        | inr b ↦ prehash_form (function_named s) s f (function_named_is s) b
+        | inr b ↦ prehash_form (pre_hash.function_named s) s f (function_named_is s) b
       ]
     ]
 

@@ -2,14 +2,15 @@
 use Rattle.std.proofs.Common.{◌≡◌, ◌≢◌, ◌+◌, ◌*◌, ◌==◌, ◌||◌, ℕ, Bool, true, false, List, [], ◌∷◌, length, Option, Some, Ok, refl, ap, ◌∙◌, codes, option_map, eq-eqb, arith}
 use Rattle.std.specs.Str.{is_utf8}
 use Rattle.std.proofs.lemmas.Str.{is_utf8-from_IsUtf8}
+use Rattle.slh_core.proofs.Names.{function_named-name}
 use Rattle.slh_core.specs.PreHash as pre_hash
 use Rattle.slh_core.specs.declared.pre_hash.PreHash.{PreHash}
 use Rattle.slh_core.specs.declared.pre_hash.PreHash.TheVariants.{Sha224, Sha256, Sha384, Sha512, Sha512_224, Sha512_256}
+use Rattle.slh_params.proofs.Names.{set_named-name}
 use Rattle.slh_params.specs.ParamSet as param_set
 use Rattle.slh_params.specs.ParamSet.{params}
 use Rattle.slh_params.specs.declared.param_set.ParamSet.{ParamSet}
 use Rattle.slh_vectors.specs.Names.{form_name, form_named, kind_name}
-use Rattle.slh_vectors.proofs.NameLaws.{function_named-name, set_named-name}
 use Rattle.slh_vectors.specs.declared.test.Kind.{Kind}
 use Rattle.slh_vectors.specs.declared.test.Kind.TheVariants as kinds
 use Rattle.slh_vectors.specs.declared.test.Form.{Form}

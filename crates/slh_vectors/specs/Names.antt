@@ -1,31 +1,11 @@
 -- What names stand for.
-use Rattle.std.specs.Prelude.{List, [], ◌∷◌, ℕ, Option, Some, None, option_map, codes, if◌then◌else◌}
-use Rattle.std.specs.List.{find}
+use Rattle.std.specs.Prelude.{List, ℕ, Option, Some, None, option_map, codes, if◌then◌else◌}
 use Rattle.std.specs.Str.{bytes_eq}
 use Rattle.slh_core.specs.PreHash as pre_hash
-use Rattle.slh_core.specs.declared.pre_hash.PreHash.{PreHash}
-use Rattle.slh_core.specs.declared.pre_hash.PreHash.TheVariants.{Sha224, Sha256, Sha384, Sha512, Sha512_224, Sha512_256}
-use Rattle.slh_params.specs.ParamSet as param_set
-use Rattle.slh_params.specs.declared.param_set.ParamSet.{ParamSet}
-use Rattle.slh_params.specs.declared.param_set.ParamSet.TheVariants.{S128s, S128f, S192s, S192f, S256s, S256f}
 use Rattle.slh_vectors.specs.declared.test.Kind.{Kind}
 use Rattle.slh_vectors.specs.declared.test.Kind.TheVariants as kinds
 use Rattle.slh_vectors.specs.declared.test.Form.{Form}
 use Rattle.slh_vectors.specs.declared.test.Form.TheVariants as forms
-
-abbrev pub sets : List ParamSet
-sets = S128s ∷ S128f ∷ S192s ∷ S192f ∷ S256s ∷ S256f ∷ []
-
--- the set of this name
-unfoldable pub set_named : List ℕ → Option ParamSet
-set_named text = find (λ set. bytes_eq (param_set.name set) text) sets
-
-abbrev pub functions : List PreHash
-functions = Sha224 ∷ Sha256 ∷ Sha384 ∷ Sha512 ∷ Sha512_224 ∷ Sha512_256 ∷ []
-
--- the pre-hash function of this name
-unfoldable pub function_named : List ℕ → Option PreHash
-function_named text = find (λ function. bytes_eq (pre_hash.name function) text) functions
 
 abbrev pub kind_name : Kind → List ℕ
 kind_name kinds.Keygen = codes "keygen"
@@ -46,4 +26,4 @@ form_name (forms.PreHash function) = pre_hash.name function
 -- the form of this name
 abbrev pub form_named : List ℕ → Option Form
 form_named text = if bytes_eq text (form_name forms.Internal) then Some forms.Internal
-    else (if bytes_eq text (form_name forms.Pure) then Some forms.Pure else option_map forms.PreHash (function_named text))
+    else (if bytes_eq text (form_name forms.Pure) then Some forms.Pure else option_map forms.PreHash (pre_hash.function_named text))

@@ -1,8 +1,7 @@
 -- What comes of a test, by FIPS 205.
-use Rattle.std.specs.Prelude.{◌≡◌, ◌↔◌, ◌≤◌, ⊤, ℕ, List, [], ◌∷◌, length, IsTrue}
+use Rattle.std.specs.Prelude.{◌≡◌, ◌↔◌, ◌≤◌, ⊤, ℕ, List, [], ◌∷◌, length, IsTrue, Some, None}
 use Rattle.slh_core.specs.Keys.{Key, generated_key, pk_seed, public_of}
-use Rattle.slh_core.specs.Messages.{pre_hash_message, pure_message}
-use Rattle.slh_core.specs.PreHash.{PH}
+use Rattle.slh_core.specs.Messages.{message_in_form}
 use Rattle.slh_core.specs.Signatures.{IsValid, signature}
 use Rattle.slh_vectors.specs.Cases.{Case, InputCase, KeygenCase, SignCase, VerifyCase, keygen, sign, verify}
 use Rattle.slh_vectors.specs.declared.outcome.Outcome.{Outcome}
@@ -13,8 +12,8 @@ use Rattle.slh_vectors.specs.declared.test.Form.TheVariants.{Internal, Pure, Pre
 -- M' of a form, a context and a message (Algorithms 22 and 23)
 abbrev pub message_in : Form → List ℕ → List ℕ → List ℕ
 message_in Internal context message = message
-message_in Pure context message = pure_message context message
-message_in (PreHash function) context message = pre_hash_message context function (PH function message)
+message_in Pure context message = message_in_form None context message
+message_in (PreHash function) context message = message_in_form (Some function) context message
 
 -- there is an M' of the form and the context: a context of over 255 bytes has none
 abbrev pub HasMessage : Form → List ℕ → Type 0
@@ -37,7 +36,7 @@ IsGenerated t key = (t.sk ≡ key.bytes) × (t.pk ≡ (public_of key).bytes)
 abbrev pub KeygenPasses : KeygenCase → Type 0
 KeygenPasses t = IsGenerated t (generated_key t.set t.seeds.sk_seed t.seeds.sk_prf t.seeds.pk_seed)
 
--- the message is signed, with exactly the signature of the test (Algorithm 19)
+-- the message is signed, with exactly the signature of the test (Algorithms 19, 22 and 23)
 abbrev pub IsSigned : SignCase → Key → Type 0
 IsSigned t sk = HasMessage t.input.form t.input.context
     × (t.signature ≡ signature sk (message_of t.input) (opt_rand_of t.random (pk_seed (public_of sk))))
@@ -45,7 +44,7 @@ IsSigned t sk = HasMessage t.input.form t.input.context
 abbrev pub SignPasses : SignCase → Type 0
 SignPasses t = IsSigned t (record { set = t.set; bytes = t.sk })
 
--- the signature is valid for the message (Algorithm 20)
+-- the signature is valid for the message (Algorithms 20, 24 and 25)
 abbrev pub IsValidFor : InputCase → Key → List ℕ → Type 0
 IsValidFor i pk sig = HasMessage i.form i.context × IsValid pk (message_of i) sig
 

@@ -6,10 +6,10 @@ use Rattle.hex.specs.Hex.{decode_of}
 use Rattle.serde_json.specs.Data.{Data, Items, no_items, item}
 use Rattle.serde_json.specs.Find.{get, as_bool, as_str, as_array}
 use Rattle.serde_json.specs.Read.{read}
-use Rattle.slh_params.specs.ParamSet.{params}
+use Rattle.slh_params.specs.ParamSet.{params, set_named}
 use Rattle.slh_params.specs.declared.param_set.ParamSet.{ParamSet}
 use Rattle.slh_vectors.specs.Cases.{SeedsCase, InputCase, KeygenCase, SignCase, VerifyCase, Case, keygen, sign, verify}
-use Rattle.slh_vectors.specs.Names.{set_named, kind_named, form_named}
+use Rattle.slh_vectors.specs.Names.{kind_named, form_named}
 use Rattle.slh_vectors.specs.declared.fault.Member.{Member}
 use Rattle.slh_vectors.specs.declared.fault.Member.TheVariants as members
 use Rattle.slh_vectors.specs.declared.fault.VectorFault.{VectorFault}

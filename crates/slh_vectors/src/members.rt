@@ -4,7 +4,7 @@ ghost use Rattle.serde_json.specs.View.{view};
 ghost use Rattle.slh_vectors.specs.Reading.{Gives, member_in, text_in, bool_in, hex_in, bytes_in, kind_in, set_in, form_in, context_in, random_in};
 
 use super::fault::{Member, VectorFault};
-use super::names::{form_named, kind_named, set_named};
+use super::names::{form_named, kind_named};
 use super::test::{Form, Kind};
 use hex::FromHexError;
 use serde_json::Value;
@@ -113,7 +113,7 @@ pub(crate) fn kind(n: u64, test: &Value) -> Result<Kind, VectorFault>
 pub(crate) fn set(n: u64, test: &Value) -> Result<ParamSet, VectorFault>
     ensures { Gives (λ s. s) result (set_in n (view test.now)) }
 {
-    match set_named(text(n, Member::Set, test)?) {
+    match ParamSet::from_name(text(n, Member::Set, test)?) {
         Some(set) => Ok(set),
         None => Err(VectorFault::Bad {
             test: n,

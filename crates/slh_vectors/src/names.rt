@@ -1,23 +1,8 @@
 ghost use Rattle.std.specs.Prelude.{◌≡◌};
-ghost use Rattle.slh_vectors.specs.Names.{form_named, function_named, kind_named, set_named};
+ghost use Rattle.slh_vectors.specs.Names.{form_named, kind_named};
 
 use super::test::{Form, Kind};
 use slh_core::PreHash;
-use slh_params::ParamSet;
-
-/// The set of this name.
-pub(crate) fn set_named(text: &str) -> Option<ParamSet>
-    ensures { result ≡ set_named text.now }
-{
-    ParamSet::from_name(text)
-}
-
-/// The pre-hash function of this name.
-fn function_named(text: &str) -> Option<PreHash>
-    ensures { result ≡ function_named text.now }
-{
-    PreHash::from_name(text)
-}
 
 /// The kind of this name.
 pub(crate) fn kind_named(text: &str) -> Option<Kind>
@@ -43,6 +28,6 @@ pub(crate) fn form_named(text: &str) -> Option<Form>
     } else if text == "pure" {
         Some(Form::Pure)
     } else {
-        function_named(text).map(Form::PreHash)
+        PreHash::from_name(text).map(Form::PreHash)
     }
 }

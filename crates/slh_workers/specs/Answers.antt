@@ -1,5 +1,5 @@
 -- What answers to numbered jobs are: right for their numbers, and none missing.
-use Rattle.std.specs.Prelude.{◌≡◌, ℕ, ◌<◌, List, [], ◌∷◌, ◌++◌, length, map, slice_index_or, Option, Some, None, IsSome}
+use Rattle.std.specs.Prelude.{◌≡◌, ℕ, ◌<◌, List, [], ◌∷◌, ◌++◌, length, map, slice_index_or}
 use Rattle.std.specs.List.{All, Contains}
 
 -- the numbers of the answers, in their order
@@ -17,12 +17,6 @@ RightByPlace {T} right outs = (i : ℕ) (d : T) → i < length outs → right i 
 -- each number below n has an answer
 abbrev pub Covers : {T : Type 0} → ℕ → List (ℕ × T) → Type 0
 Covers n answers = (j : ℕ) → j < n → Contains (numbers answers) j
-
--- Slot i holds an answer of those seen whose number is i, and each answer seen has left a slot full
-pub record Placed {T : Type 0} (n : ℕ) (seen : List (ℕ × T)) (slots : List (Option T)) : Type 0 where
-  pub len : length slots ≡ n
-  pub from_seen : (i : ℕ) (x : T) → i < n → slice_index_or slots i None ≡ Some x → Contains seen (i, x)
-  pub all_in : All (λ (a : ℕ × T). IsSome (slice_index_or slots a.0 None)) seen
 
 -- As many as there are numbers below n, the one in place i from an answer whose number is i
 pub record InPlace {T : Type 0} (n : ℕ) (answers : List (ℕ × T)) (outs : List T) : Type 0 where

@@ -14,7 +14,8 @@ use std::thread::{Threads, join};
 // The seats, and the answers of their workers.
 type Worked<T, A> = Result<(Vec<Seat, A>, Vec<(u32, T), A>), NoMemory>;
 
-// The workers at these seats of the board, numbered from `first` on, each on a thread of its own, where one can be had. Where memory for
+// The workers at these seats of the board, numbered from `first` on, the first on this thread and each other on a thread of its own, where one can
+// be had. This thread starts all of them: where threads start threads at the same time, the scheduler may put two on one processor. Where memory for
 // a division of the seats is refused, it stops the board.
 pub fn run_seats<R: Threads + Sync, A: Allocator + Clone + Send + Sync, W: Work, G: Gate>(
     rt: &R,
@@ -31,7 +32,7 @@ pub fn run_seats<R: Threads + Sync, A: Allocator + Clone + Send + Sync, W: Work,
     if seats.len() == 1 {
         return run_seat(alloc, board, seats, work, first, gate);
     }
-    let Ok((others, theirs)) = second_half(&alloc, &mut seats) else {
+    let Ok((others, theirs)) = last_seat(&alloc, &mut seats) else {
         board.stop(&mut seats[0]);
         return Err(NoMemory);
     };
@@ -44,9 +45,9 @@ pub fn run_seats<R: Threads + Sync, A: Allocator + Clone + Send + Sync, W: Work,
         requires { IsSync R.row × IsSync W.row × IsSync G.row × IsSync A.row × IsSend A.row × IsSend W.Out.row × Frees A.Allocator A.dealloc_token × IsReady board.now (W.jobs work.now) next others.items }
         ensures { IfOk result (λ r. RanSeats board.entry.now (G.may_stop gate.entry.now) (W.is_right work.entry.now) (W.jobs work.entry.now) (length others.items) r.0.items r.1.items) }
     { run_seats(rt, theirs, board, others, work, next, gate) };
-    let (one, other) = join(rt, front, back);
-    let (mut kept, mut answers) = one?;
-    let (mut more_kept, mut more_answers) = other?;
+    let (last, rest) = join(rt, back, front);
+    let (mut kept, mut answers) = rest?;
+    let (mut more_kept, mut more_answers) = last?;
     kept.append(&mut more_kept)?;
     answers.append(&mut more_answers)?;
     Ok((kept, answers))
@@ -72,17 +73,17 @@ fn run_seat<A: Allocator, W: Work, G: Gate>(
     Ok((seats, answers))
 }
 
-// Takes the second half of the seats off, with an allocator for the thread that gets them.
-fn second_half<A: Allocator + Clone>(
+// Takes the last seat off, with an allocator for the thread that gets it.
+fn last_seat<A: Allocator + Clone>(
     alloc: &A,
     seats: &mut Vec<Seat, A>,
 ) -> Result<(Vec<Seat, A>, A), NoMemory>
     requires { 2 ≤ length seats.old.items }
-    ensures halves { IfOk result (λ r. seats.old.items ≡ seats.new.items ++ r.0.items) }
+    ensures parts { IfOk result (λ r. seats.old.items ≡ seats.new.items ++ r.0.items) }
     ensures some { IfOk result (λ r. (1 ≤ length seats.new.items) × (1 ≤ length r.0.items)) }
     ensures err { OnErr result (seats.new.items ≡ seats.old.items) }
 {
     let theirs = alloc.clone()?;
-    let others = seats.split_off(seats.len() / 2)?;
+    let others = seats.split_off(seats.len() - 1)?;
     Ok((others, theirs))
 }

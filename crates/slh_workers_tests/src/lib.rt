@@ -9,5 +9,4 @@ mod refusals;
 mod run;
 #[cfg(test)]
 mod work_off;
-#[cfg(test)]
-mod works;
+pub mod works;

@@ -2,36 +2,58 @@
 use crate::works::{Lists, Squares};
 use refusing_allocator::Refusing;
 use slh_board::Board;
-use slh_workers::{End, NoGate, RunFault, Workers, run_all, work_off};
+use slh_workers::{End, NoGate, RunFault, Work, Workers, run_all, work_off};
+use std::alloc::Global;
+use std::process::Abort;
 use std::test::Fail;
+use std::thread::Threads;
 
 // More growths than any call here asks for.
 const MANY: u64 = 1000;
 
+// What so many workers give where each growth is granted. Where growth `nth` was refused, they say so, and it is `None`.
+fn run_if_granted<R: Abort + AllocGlobal + Threads + Sync, W: Work>(
+    rt: &R,
+    alloc: &Refusing<Global>,
+    work: &W,
+    number: u8,
+    nth: u64,
+) -> Result<Option<Vec<W::Out, Refusing<Global>>>, Fail> {
+    let workers = Workers::new(number).ok_or("workers")?;
+    let outcome = run_all(rt, alloc.clone()?, work, workers, &NoGate);
+    if !alloc.has_refused() {
+        return Ok(Some(outcome?));
+    }
+    assert_eq!(rt;
+        outcome.err(),
+        Some(RunFault::NoMemory),
+        "growth {nth}, {number} workers"
+    );
+    Ok(None)
+}
+
+// Some growths were refused, at least so many, and then a call came that met no refusal.
+fn check_count(rt: &impl Abort, least: u64, refusals: u64, number: u8) {
+    assert!(rt;
+        least <= refusals && refusals.wrapping_add(1) < MANY,
+        "{refusals} refusals, {number} workers"
+    );
+}
+
 #[test]
 fn run_all_refuses_at_each_growth(rt: HostRuntime) -> Result<(), Fail> {
     for number in [1u8, 2, 3] {
-        let workers = Workers::new(number).ok_or("workers")?;
         let mut refusals = 0u64;
         for nth in 1..MANY {
             let alloc = Refusing::new(rt.alloc(), rt.alloc(), nth)?;
-            let outcome = run_all(&rt, alloc.clone()?, &Squares::new(10), workers, &NoGate);
-            if !alloc.has_refused() {
+            if let Some(squares) = run_if_granted(&rt, &alloc, &Squares::new(10), number, nth)? {
                 let wanted = (0..10u64).map(|i| i.wrapping_mul(i));
-                assert!(rt; outcome?.iter().copied().eq(wanted));
+                assert!(rt; squares.iter().copied().eq(wanted));
                 break;
             }
-            assert_eq!(rt;
-                outcome.err(),
-                Some(RunFault::NoMemory),
-                "growth {nth}, {number} workers"
-            );
             refusals = nth;
         }
-        assert!(rt;
-            4 <= refusals && refusals.wrapping_add(1) < MANY,
-            "{refusals} refusals, {number} workers"
-        );
+        check_count(&rt, 4, refusals, number);
     }
     Ok(())
 }
@@ -39,29 +61,19 @@ fn run_all_refuses_at_each_growth(rt: HostRuntime) -> Result<(), Fail> {
 #[test]
 fn run_all_refuses_at_each_growth_of_its_jobs(rt: HostRuntime) -> Result<(), Fail> {
     for number in [1u8, 3] {
-        let workers = Workers::new(number).ok_or("workers")?;
         let mut refusals = 0u64;
         for nth in 1..MANY {
             let alloc = Refusing::new(rt.alloc(), rt.alloc(), nth)?;
             let work = Lists {
                 alloc: alloc.clone()?,
             };
-            let outcome = run_all(&rt, alloc.clone()?, &work, workers, &NoGate);
-            if !alloc.has_refused() {
-                assert!(rt; outcome?.iter().map(|list| list.len()).eq(1..6));
+            if let Some(lists) = run_if_granted(&rt, &alloc, &work, number, nth)? {
+                assert!(rt; lists.iter().map(|list| list.len()).eq(1..6));
                 break;
             }
-            assert_eq!(rt;
-                outcome.err(),
-                Some(RunFault::NoMemory),
-                "growth {nth}, {number} workers"
-            );
             refusals = nth;
         }
-        assert!(rt;
-            9 <= refusals && refusals.wrapping_add(1) < MANY,
-            "{refusals} refusals, {number} workers"
-        );
+        check_count(&rt, 9, refusals, number);
     }
     Ok(())
 }
@@ -85,9 +97,6 @@ fn work_off_stops_the_board_at_each_growth(rt: HostRuntime) -> Result<(), Fail> 
         assert!(rt; tally.stopped);
         refusals = nth;
     }
-    assert!(rt;
-        1 <= refusals && refusals.wrapping_add(1) < MANY,
-        "{refusals} refusals"
-    );
+    check_count(&rt, 1, refusals, 1);
     Ok(())
 }

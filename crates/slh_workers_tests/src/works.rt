@@ -1,4 +1,4 @@
-// Works for tests.
+//! Works for tests.
 ghost use Rattle.std.specs.Prelude.{◌≡◌, ℕ, ◌*◌};
 
 use slh_workers::{NoMemory, Work};
@@ -8,7 +8,7 @@ use std::sync::atomic::{AtomicU64, Ordering};
 // How often a job looks for what it waits for, before it gives up.
 const TURNS: u64 = 1_000_000_000;
 
-// Whether the counter reached the number before the turns ran out.
+/// Whether the counter reached the number before the turns ran out.
 pub fn turns_until(counter: &AtomicU64, number: u64) -> bool {
     for _ in 0..TURNS {
         if counter.load(Ordering::SeqCst) >= number {
@@ -18,7 +18,16 @@ pub fn turns_until(counter: &AtomicU64, number: u64) -> bool {
     false
 }
 
-// The square of each number below `jobs`. The job `refused`, where there is one, is refused memory.
+// The answer of a job that waits for the counter to reach the number; where the turns run out, it says that memory ran out.
+fn await_number(counter: &AtomicU64, number: u64) -> Result<(), NoMemory> {
+    if turns_until(counter, number) {
+        Ok(())
+    } else {
+        Err(NoMemory)
+    }
+}
+
+/// The square of each number below `jobs`. The job `refused`, where there is one, is refused memory.
 #[derive(Drop)]
 pub struct Squares {
     pub jobs: u32,
@@ -26,6 +35,7 @@ pub struct Squares {
 }
 
 impl Squares {
+    /// So many jobs, none of which is refused memory.
     pub fn new(jobs: u32) -> Squares
         ensures { result.jobs ≡ jobs }
     {
@@ -55,7 +65,7 @@ impl Work for Squares {
     }
 }
 
-// Ten jobs, of which job 0 turns until so many of the others ran.
+/// Ten jobs, of which job 0 turns until so many of the others ran.
 #[derive(Drop)]
 pub struct FirstWaits {
     pub others: u64,
@@ -78,15 +88,11 @@ impl Work for FirstWaits {
             self.ran.fetch_add(1, Ordering::SeqCst);
             return Ok(());
         }
-        if turns_until(&self.ran, self.others) {
-            Ok(())
-        } else {
-            Err(NoMemory)
-        }
+        await_number(&self.ran, self.others)
     }
 }
 
-// Two jobs, each of which turns until the other was called.
+/// Two jobs, each of which turns until the other was called.
 #[derive(Drop)]
 pub struct Meeting {
     pub called: AtomicU64,
@@ -105,15 +111,11 @@ impl Work for Meeting {
 
     fn run(&self, _i: u32) -> Result<(), NoMemory> {
         self.called.fetch_add(1, Ordering::SeqCst);
-        if turns_until(&self.called, 2) {
-            Ok(())
-        } else {
-            Err(NoMemory)
-        }
+        await_number(&self.called, 2)
     }
 }
 
-// Five jobs, of which each asks for a list of one number more than the last.
+/// Five jobs, of which each asks for a list of one number more than the last.
 #[derive(Drop)]
 pub struct Lists<A> {
     pub alloc: A,

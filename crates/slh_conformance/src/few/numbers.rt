@@ -30,19 +30,26 @@ fn digits_of_known_messages(rt: HostRuntime) {
     }
 }
 
+/// The tree and the leaf of each layer above those of layer 0.
+fn check_places(rt: &impl Abort, set: ParamSet, layers: &[(u64, u32)]) {
+    assert_eq!(rt; layers.len(), set.d() as usize);
+    assert!(rt; layers.len() < 256);
+    for layer in 0..layers.len() {
+        let (tree, leaf) = layers[0];
+        assert!(rt; leaf < 1 << set.hp());
+        let at = layer_place(set, tree, leaf, layer as u8);
+        assert_eq!(rt;
+            (at.layer as usize, at.tree, at.pair),
+            (layer, layers[layer].0, layers[layer].1)
+        );
+    }
+}
+
 #[test]
 fn places_of_known_leaves(rt: HostRuntime) {
-    for (set, layers) in &PLACES {
-        assert_eq!(rt; layers.len(), set.d() as usize);
-        assert!(rt; layers.len() < 256);
-        for layer in 0..layers.len() {
-            let (tree, leaf) = layers[0];
-            assert!(rt; leaf < 1 << set.hp());
-            let at = layer_place(*set, tree, leaf, layer as u8);
-            assert_eq!(rt;
-                (at.layer as usize, at.tree, at.pair),
-                (layer, layers[layer].0, layers[layer].1)
-            );
+    for (sets, layers) in &PLACES {
+        for set in *sets {
+            check_places(&rt, *set, *layers);
         }
     }
 }

@@ -2,10 +2,11 @@
 
 use slh_params::ParamSet;
 
-/// For a tree and a leaf of layer 0 the tree and the leaf of each layer from there up.
-pub(super) const PLACES: [(ParamSet, &[(u64, u32)]); 18] = [
+/// For a tree and a leaf of layer 0 the tree and the leaf of each layer from there up, under each
+/// of the sets.
+pub(super) const PLACES: [(&[ParamSet], &[(u64, u32)]); 16] = [
     (
-        ParamSet::S128s,
+        &[ParamSet::S128s, ParamSet::S192s],
         &[
             (0x3fffffffffffff, 511),
             (0x1fffffffffff, 511),
@@ -17,7 +18,7 @@ pub(super) const PLACES: [(ParamSet, &[(u64, u32)]); 18] = [
         ],
     ),
     (
-        ParamSet::S128s,
+        &[ParamSet::S128s],
         &[
             (0x15161718191a1b, 29),
             (0xa8b0b8c0c8d, 27),
@@ -29,7 +30,7 @@ pub(super) const PLACES: [(ParamSet, &[(u64, u32)]); 18] = [
         ],
     ),
     (
-        ParamSet::S128s,
+        &[ParamSet::S128s],
         &[
             (0x1ad12b75671ad8, 379),
             (0xd6895bab38d, 216),
@@ -41,7 +42,7 @@ pub(super) const PLACES: [(ParamSet, &[(u64, u32)]); 18] = [
         ],
     ),
     (
-        ParamSet::S128f,
+        &[ParamSet::S128f, ParamSet::S192f],
         &[
             (0x7fffffffffffffff, 7),
             (0xfffffffffffffff, 7),
@@ -68,7 +69,7 @@ pub(super) const PLACES: [(ParamSet, &[(u64, u32)]); 18] = [
         ],
     ),
     (
-        ParamSet::S128f,
+        &[ParamSet::S128f],
         &[
             (0x191a1b1c1d1e1f20, 1),
             (0x323436383a3c3e4, 0),
@@ -95,7 +96,7 @@ pub(super) const PLACES: [(ParamSet, &[(u64, u32)]); 18] = [
         ],
     ),
     (
-        ParamSet::S128f,
+        &[ParamSet::S128f],
         &[
             (0x671ad8bd7bebc628, 1),
             (0xce35b17af7d78c5, 0),
@@ -122,19 +123,7 @@ pub(super) const PLACES: [(ParamSet, &[(u64, u32)]); 18] = [
         ],
     ),
     (
-        ParamSet::S192s,
-        &[
-            (0x3fffffffffffff, 511),
-            (0x1fffffffffff, 511),
-            (0xfffffffff, 511),
-            (0x7ffffff, 511),
-            (0x3ffff, 511),
-            (0x1ff, 511),
-            (0x0, 511),
-        ],
-    ),
-    (
-        ParamSet::S192s,
+        &[ParamSet::S192s],
         &[
             (0x1e1f2021222324, 294),
             (0xf0f90109111, 292),
@@ -146,7 +135,7 @@ pub(super) const PLACES: [(ParamSet, &[(u64, u32)]); 18] = [
         ],
     ),
     (
-        ParamSet::S192s,
+        &[ParamSet::S192s],
         &[
             (0x2bc628094ae4c5, 0),
             (0x15e31404a572, 197),
@@ -158,34 +147,7 @@ pub(super) const PLACES: [(ParamSet, &[(u64, u32)]); 18] = [
         ],
     ),
     (
-        ParamSet::S192f,
-        &[
-            (0x7fffffffffffffff, 7),
-            (0xfffffffffffffff, 7),
-            (0x1ffffffffffffff, 7),
-            (0x3fffffffffffff, 7),
-            (0x7ffffffffffff, 7),
-            (0xffffffffffff, 7),
-            (0x1fffffffffff, 7),
-            (0x3ffffffffff, 7),
-            (0x7fffffffff, 7),
-            (0xfffffffff, 7),
-            (0x1ffffffff, 7),
-            (0x3fffffff, 7),
-            (0x7ffffff, 7),
-            (0xffffff, 7),
-            (0x1fffff, 7),
-            (0x3ffff, 7),
-            (0x7fff, 7),
-            (0xfff, 7),
-            (0x1ff, 7),
-            (0x3f, 7),
-            (0x7, 7),
-            (0x0, 7),
-        ],
-    ),
-    (
-        ParamSet::S192f,
+        &[ParamSet::S192f],
         &[
             (0x2122232425262728, 1),
             (0x424446484a4c4e5, 0),
@@ -212,7 +174,7 @@ pub(super) const PLACES: [(ParamSet, &[(u64, u32)]); 18] = [
         ],
     ),
     (
-        ParamSet::S192f,
+        &[ParamSet::S192f],
         &[
             (0x94ae4c53800b2e4, 6),
             (0x1295c98a700165c, 4),
@@ -239,7 +201,7 @@ pub(super) const PLACES: [(ParamSet, &[(u64, u32)]); 18] = [
         ],
     ),
     (
-        ParamSet::S256s,
+        &[ParamSet::S256s],
         &[
             (0xffffffffffffff, 255),
             (0xffffffffffff, 255),
@@ -252,7 +214,7 @@ pub(super) const PLACES: [(ParamSet, &[(u64, u32)]); 18] = [
         ],
     ),
     (
-        ParamSet::S256s,
+        &[ParamSet::S256s],
         &[
             (0x2728292a2b2c2d, 46),
             (0x2728292a2b2c, 45),
@@ -265,7 +227,7 @@ pub(super) const PLACES: [(ParamSet, &[(u64, u32)]); 18] = [
         ],
     ),
     (
-        ParamSet::S256s,
+        &[ParamSet::S256s],
         &[
             (0xb2e4f68ea1ee13, 50),
             (0xb2e4f68ea1ee, 19),
@@ -278,7 +240,7 @@ pub(super) const PLACES: [(ParamSet, &[(u64, u32)]); 18] = [
         ],
     ),
     (
-        ParamSet::S256f,
+        &[ParamSet::S256f],
         &[
             (0xffffffffffffffff, 15),
             (0xfffffffffffffff, 15),
@@ -300,7 +262,7 @@ pub(super) const PLACES: [(ParamSet, &[(u64, u32)]); 18] = [
         ],
     ),
     (
-        ParamSet::S256f,
+        &[ParamSet::S256f],
         &[
             (0x28292a2b2c2d2e2f, 0),
             (0x28292a2b2c2d2e2, 15),
@@ -322,7 +284,7 @@ pub(super) const PLACES: [(ParamSet, &[(u64, u32)]); 18] = [
         ],
     ),
     (
-        ParamSet::S256f,
+        &[ParamSet::S256f],
         &[
             (0xe4f68ea1ee133217, 10),
             (0xe4f68ea1ee13321, 7),

@@ -2,9 +2,10 @@
 
 use slh_params::ParamSet;
 
-/// The values at one place. Texts are bytes as hexadecimal digits; X1 is the bytes 80, 81, ..
+/// The values at one place under each of the sets, which have the same n. Texts are bytes as
+/// hexadecimal digits; X1 is the bytes 80, 81, ..
 pub(super) struct WotsValues {
-    pub(super) set: ParamSet,
+    pub(super) sets: &'static [ParamSet],
     pub(super) layer: u8,
     pub(super) tree: u64,
     pub(super) pair: u32,
@@ -17,9 +18,9 @@ pub(super) struct WotsValues {
     pub(super) signatures: [&'static str; 3],
 }
 
-pub(super) const WOTS: [WotsValues; 18] = [
+pub(super) const WOTS: [WotsValues; 15] = [
     WotsValues {
-        set: ParamSet::S128s,
+        sets: &[ParamSet::S128s, ParamSet::S128f],
         layer: 0,
         tree: 0x0,
         pair: 0,
@@ -36,7 +37,7 @@ pub(super) const WOTS: [WotsValues; 18] = [
         ],
     },
     WotsValues {
-        set: ParamSet::S128s,
+        sets: &[ParamSet::S128s],
         layer: 6,
         tree: 0x0,
         pair: 1,
@@ -53,7 +54,7 @@ pub(super) const WOTS: [WotsValues; 18] = [
         ],
     },
     WotsValues {
-        set: ParamSet::S128s,
+        sets: &[ParamSet::S128s],
         layer: 0,
         tree: 0x1a1b1c1d1e1f20,
         pair: 1,
@@ -70,24 +71,7 @@ pub(super) const WOTS: [WotsValues; 18] = [
         ],
     },
     WotsValues {
-        set: ParamSet::S128f,
-        layer: 0,
-        tree: 0x0,
-        pair: 0,
-        pk: "dcffc97cd3bf86007672f4c9dcc94f95",
-        secrets: [
-            "043ca38920710eee1c2a56854ecb41ff",
-            "bc6794e012116adc0dd2bba4cebd5792",
-        ],
-        chain: "73f87009c078ca1f1372d4342d6af418",
-        signatures: [
-            "95a4ab6e6137fa4def3c7e32ae5ffcabb54cbe07c9a55d6104bb700ac3a061ee",
-            "7dac9c31d70eb1064117f2033d64d2305ed0b0c5ae76c8d334c635f4a1edf187",
-            "be6ce57a631b24473092d8301eee2969ce1280e2c0e75a693d8a0ee778867baf",
-        ],
-    },
-    WotsValues {
-        set: ParamSet::S128f,
+        sets: &[ParamSet::S128f],
         layer: 21,
         tree: 0x0,
         pair: 1,
@@ -104,7 +88,7 @@ pub(super) const WOTS: [WotsValues; 18] = [
         ],
     },
     WotsValues {
-        set: ParamSet::S128f,
+        sets: &[ParamSet::S128f],
         layer: 0,
         tree: 0x191a1b1c1d1e1f20,
         pair: 1,
@@ -121,7 +105,7 @@ pub(super) const WOTS: [WotsValues; 18] = [
         ],
     },
     WotsValues {
-        set: ParamSet::S192s,
+        sets: &[ParamSet::S192s, ParamSet::S192f],
         layer: 0,
         tree: 0x0,
         pair: 0,
@@ -138,7 +122,7 @@ pub(super) const WOTS: [WotsValues; 18] = [
         ],
     },
     WotsValues {
-        set: ParamSet::S192s,
+        sets: &[ParamSet::S192s],
         layer: 6,
         tree: 0x0,
         pair: 1,
@@ -155,7 +139,7 @@ pub(super) const WOTS: [WotsValues; 18] = [
         ],
     },
     WotsValues {
-        set: ParamSet::S192s,
+        sets: &[ParamSet::S192s],
         layer: 0,
         tree: 0x1a1b1c1d1e1f20,
         pair: 1,
@@ -172,24 +156,7 @@ pub(super) const WOTS: [WotsValues; 18] = [
         ],
     },
     WotsValues {
-        set: ParamSet::S192f,
-        layer: 0,
-        tree: 0x0,
-        pair: 0,
-        pk: "ac07e93315df2011b5b76faba5630d3ae1d3f5a35a74b1c1",
-        secrets: [
-            "ffc8deab2a8abebfdf0a92868e1708522ef8de488922c819",
-            "41fd473b32ca414412c2ab16dd1a72041e7bada96993d4f2",
-        ],
-        chain: "bf8bfd2232cf75c58f3ab2cbf2f023d3d25296d6d2d3807c",
-        signatures: [
-            "17d1a28a3dd600dc8f2b617874852855c118c358315b071c32552eb88dabaff1",
-            "e609a6522aa282c4c5972bf2b3c0694bbb45174308eb4e02f90d2e043e022f0a",
-            "b78019d255f38ed839c5a27fc720724a5eab953ce319c41c70852afbcdb95bc6",
-        ],
-    },
-    WotsValues {
-        set: ParamSet::S192f,
+        sets: &[ParamSet::S192f],
         layer: 21,
         tree: 0x0,
         pair: 1,
@@ -206,7 +173,7 @@ pub(super) const WOTS: [WotsValues; 18] = [
         ],
     },
     WotsValues {
-        set: ParamSet::S192f,
+        sets: &[ParamSet::S192f],
         layer: 0,
         tree: 0x191a1b1c1d1e1f20,
         pair: 1,
@@ -223,7 +190,7 @@ pub(super) const WOTS: [WotsValues; 18] = [
         ],
     },
     WotsValues {
-        set: ParamSet::S256s,
+        sets: &[ParamSet::S256s, ParamSet::S256f],
         layer: 0,
         tree: 0x0,
         pair: 0,
@@ -240,7 +207,7 @@ pub(super) const WOTS: [WotsValues; 18] = [
         ],
     },
     WotsValues {
-        set: ParamSet::S256s,
+        sets: &[ParamSet::S256s],
         layer: 7,
         tree: 0x0,
         pair: 1,
@@ -257,7 +224,7 @@ pub(super) const WOTS: [WotsValues; 18] = [
         ],
     },
     WotsValues {
-        set: ParamSet::S256s,
+        sets: &[ParamSet::S256s],
         layer: 0,
         tree: 0x1a1b1c1d1e1f20,
         pair: 1,
@@ -274,24 +241,7 @@ pub(super) const WOTS: [WotsValues; 18] = [
         ],
     },
     WotsValues {
-        set: ParamSet::S256f,
-        layer: 0,
-        tree: 0x0,
-        pair: 0,
-        pk: "7cb3fb99ce585df231bc7735e5913881b560f9c73eeeda05ca245b0e515d5e87",
-        secrets: [
-            "22c6f06b35d5b22a1a39ffc659956cb642c1e410d83199d2d6b2f3c8de762a27",
-            "eb3db7f22b06fb996d620a01c97346e3b8809fc50ac496f1118b8ff761d3efaf",
-        ],
-        chain: "55c7b040e35f11aedb52a71f16fc41698689201021b1c8e113e1782f07d15947",
-        signatures: [
-            "7ff5c79cf8447fc25811fa78bac0fb256e60c9ab67fa451e3d37d5a76f2f3c97",
-            "ad73184c8c7ffdb10dc596be7032765d89ea53f2b646ac1802efd94d614a6a3f",
-            "f010f46f178aef5a13a834f86864e38f7a5c93bd27078d1c7b99bc24dde35b71",
-        ],
-    },
-    WotsValues {
-        set: ParamSet::S256f,
+        sets: &[ParamSet::S256f],
         layer: 16,
         tree: 0x0,
         pair: 1,
@@ -308,7 +258,7 @@ pub(super) const WOTS: [WotsValues; 18] = [
         ],
     },
     WotsValues {
-        set: ParamSet::S256f,
+        sets: &[ParamSet::S256f],
         layer: 0,
         tree: 0x191a1b1c1d1e1f20,
         pair: 1,

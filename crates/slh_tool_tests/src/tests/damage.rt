@@ -1,7 +1,7 @@
 //! Key files that are cut short, have a byte replaced, or have other lines, through the commands that read them.
 use super::messages::{PUBLIC, SIGN, VERIFY, joined, secret_key};
 use super::roots::seed_digits;
-use super::{run, run_over};
+use super::{check_refused, run, run_over};
 use crate::{Answer, Folder, check_known, verify_known};
 use slh_devices::Reader;
 use std::process::Abort;
@@ -44,20 +44,21 @@ fn verify_number<R: Abort + AllocGlobal + Threads + Sync>(rt: &R, file: &[u8]) -
     Ok(number)
 }
 
+/// The refusal of a key file cut to `len` bytes, of which the digits end before byte `end`: its number, or 0 where they are all there.
+fn cut_number(len: usize, end: usize) -> u8 {
+    match len {
+        0..=16 => 11,
+        17..=34 => 12,
+        _ if len < end => 14,
+        _ => 0,
+    }
+}
+
 #[test]
 fn refuses_a_public_key_file_cut_short(rt: HostRuntime) -> Result<(), Fail> {
     for len in 0..=100 {
-        let number = match len {
-            0..=16 => 11,
-            17..=34 => 12,
-            35..=98 => 14,
-            _ => 0,
-        };
-        assert_eq!(rt;
-            verify_number(&rt, &COUNTING[..len])?,
-            number,
-            "{len} bytes"
-        );
+        let number = verify_number(&rt, &COUNTING[..len])?;
+        assert_eq!(rt; number, cut_number(len, 99), "{len} bytes");
     }
     Ok(())
 }
@@ -82,16 +83,16 @@ fn refuses_a_secret_key_file_cut_short(rt: HostRuntime) -> Result<(), Fail> {
     let secret = secret_key(&rt)?;
     assert_eq!(rt; secret.len(), 164);
     for len in 0..=164 {
-        let (number, output) = match len {
-            0..=16 => (11, b"".as_slice()),
-            17..=34 => (12, b"".as_slice()),
-            35..=162 => (14, b"".as_slice()),
-            _ => (0, b"consistent\n".as_slice()),
+        let number = cut_number(len, 163);
+        let (status, output) = if number == 0 {
+            (0, b"consistent\n".as_slice())
+        } else {
+            (2, b"".as_slice())
         };
         let answer = check_known(&rt, &secret.as_slice()[..len.min(secret.len())])?;
         assert_eq!(rt; number_of(&answer), number, "{len} bytes");
         assert_eq!(rt; answer.output.as_slice(), output, "{len} bytes");
-        assert_eq!(rt; answer.status, if number == 0 { 0 } else { 2 });
+        assert_eq!(rt; answer.status, status);
     }
     Ok(())
 }
@@ -161,8 +162,6 @@ fn generates_no_key_of_too_few_seeds(rt: HostRuntime) -> Result<(), Fail> {
     let words = ["keygen", "--set", "SLH-DSA-SHA2-128f"];
     let mut input = Reader::new(&digits.as_slice()[..95.min(digits.len())]);
     let answer = run(&rt, &words, &mut input)?;
-    assert_eq!(rt; answer.errors.as_slice(), b"slh: 34 BadSeeds\n".as_slice());
-    assert_eq!(rt; answer.status, 2);
-    assert!(rt; answer.output.is_empty());
+    check_refused(&rt, &answer, b"slh: 34 BadSeeds\n");
     Ok(())
 }

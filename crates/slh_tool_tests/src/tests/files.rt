@@ -1,7 +1,7 @@
 //! Options, and key files of other kinds.
 use super::devices::Folder;
 use super::messages::{SIGN, VERIFY, joined, secret_key};
-use super::run_over;
+use super::{check_refused, run_over};
 use crate::Answer;
 use std::test::Fail;
 use std::thread::Threads;
@@ -32,9 +32,7 @@ fn judges_options_before_the_message(rt: HostRuntime) -> Result<(), Fail> {
     ];
     for (options, errors) in cases {
         let answer = refusal(&rt, secret.as_slice(), options)?;
-        assert_eq!(rt; answer.errors.as_slice(), errors);
-        assert_eq!(rt; answer.status, 2);
-        assert!(rt; answer.output.is_empty());
+        check_refused(&rt, &answer, errors);
     }
     Ok(())
 }

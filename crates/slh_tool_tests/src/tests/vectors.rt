@@ -1,6 +1,6 @@
 //! The command `vectors`.
 use super::devices::{Folder, Full};
-use super::{run_over, run_to};
+use super::{check_refused, run_over, run_to};
 use crate::Answer;
 use slh_devices::Reader;
 use slh_tool::Fault;
@@ -102,9 +102,7 @@ fn refuses_files_and_tells_the_member(rt: HostRuntime) -> Result<(), Fail> {
     ];
     for (file, errors) in cases {
         let answer = answer_to(&rt, &VECTORS, file)?;
-        assert_eq!(rt; answer.errors.as_slice(), errors);
-        assert_eq!(rt; answer.status, 2);
-        assert!(rt; answer.output.is_empty());
+        check_refused(&rt, &answer, errors);
     }
     Ok(())
 }
@@ -121,9 +119,7 @@ fn refuses_other_words(rt: HostRuntime) -> Result<(), Fail> {
     ];
     for words in cases {
         let answer = answer_to(&rt, words, b"[]")?;
-        assert_eq!(rt; answer.errors.as_slice(), b"slh: 31 BadWords\n".as_slice());
-        assert_eq!(rt; answer.status, 2);
-        assert!(rt; answer.output.is_empty());
+        check_refused(&rt, &answer, b"slh: 31 BadWords\n");
     }
     Ok(())
 }

@@ -1,7 +1,7 @@
 //! `keygen` and `sign` with workers and cuts.
 use super::messages::{SIGN, SIGNATURES, joined, secret_key};
 use super::roots::seed_digits;
-use super::{run, run_over};
+use super::{check_refused, run, run_over};
 use crate::{Answer, Folder};
 use sha2::{Digest, Sha256};
 use slh_devices::Reader;
@@ -112,9 +112,7 @@ fn refuses_cuttings_lists_and_numbers(rt: HostRuntime) -> Result<(), Fail> {
     ];
     for (options, errors) in cases {
         let answer = keygen_without_seeds(&rt, options)?;
-        assert_eq!(rt; answer.errors.as_slice(), errors);
-        assert!(rt; answer.output.is_empty());
-        assert_eq!(rt; answer.status, 2);
+        check_refused(&rt, &answer, errors);
     }
     Ok(())
 }
@@ -145,70 +143,26 @@ fn judges_cuts_between_the_form_and_the_message(rt: HostRuntime) -> Result<(), F
         ("secret", secret.as_slice()),
         ("other", b"no key".as_slice()),
     ];
-    let cases: [(&[&str], &[u8]); 5] = [
-        // There is no file of the message.
+    // There is no file of the message.
+    let cases: [(&str, &[&str], &[u8]); 5] = [
+        ("secret", &[], b"slh: 32 ReadFailed\n"),
+        ("secret", &["--fors-levels", "7"], b"slh: 4 BadCutting\n"),
         (
-            &["sign", "--key", "secret", "--message", "no"],
-            b"slh: 32 ReadFailed\n",
-        ),
-        (
-            &[
-                "sign",
-                "--key",
-                "secret",
-                "--message",
-                "no",
-                "--fors-levels",
-                "7",
-            ],
-            b"slh: 4 BadCutting\n",
-        ),
-        (
-            &[
-                "sign",
-                "--key",
-                "secret",
-                "--message",
-                "no",
-                "--fors-levels",
-                "7",
-                "--xmss-cuts",
-                ",",
-            ],
+            "secret",
+            &["--fors-levels", "7", "--xmss-cuts", ","],
             b"slh: 35 BadOption\n",
         ),
         (
-            &[
-                "sign",
-                "--key",
-                "secret",
-                "--message",
-                "no",
-                "--fors-levels",
-                "7",
-                "--random",
-                "0",
-            ],
+            "secret",
+            &["--fors-levels", "7", "--random", "0"],
             b"slh: 35 BadOption\n",
         ),
-        (
-            &[
-                "sign",
-                "--key",
-                "other",
-                "--message",
-                "no",
-                "--fors-levels",
-                "7",
-            ],
-            b"slh: 11 NotAKeyFile\n",
-        ),
+        ("other", &["--fors-levels", "7"], b"slh: 11 NotAKeyFile\n"),
     ];
-    for (words, errors) in cases {
-        let answer = run_over(&rt, words, &mut Folder::new(&files))?;
-        assert_eq!(rt; answer.errors.as_slice(), errors);
-        assert!(rt; answer.output.is_empty());
-        assert_eq!(rt; answer.status, 2);
+    for (key, options, errors) in cases {
+        let words = joined(&rt, &["sign", "--key", key, "--message", "no"], options)?;
+        let answer = run_over(&rt, &words, &mut Folder::new(&files))?;
+        check_refused(&rt, &answer, errors);
     }
     let unknown = ["keygen", "--set", "SLH-DSA-SHAKE-128f", "--xmss-cuts", "x"];
     let answer = run(&rt, &unknown, &mut Reader::new([].as_slice()))?;

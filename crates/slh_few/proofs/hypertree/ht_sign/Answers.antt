@@ -1,7 +1,9 @@
-use Rattle.std.proofs.Common.{◌≡◌, ◌+◌, ◌-◌, ◌*◌, ◌<◌, ◌++◌, length, take, ap, sym, ◌∙◌, arith}
+use Rattle.std.proofs.Common.{◌≡◌, ℕ, List, ◌+◌, ◌-◌, ◌*◌, ◌<◌, ◌++◌, length, take, ap, sym, ◌∙◌, arith}
 use Rattle.slh_params.specs.ParamSet.{params}
+use Rattle.slh_params.specs.declared.param_set.ParamSet.{ParamSet}
+use Rattle.slh_few.specs.declared.place.Place.{Place}
 use Rattle.slh_few.specs.Xmss.{xmss_sig_len, xmss_sig}
-use Rattle.slh_few.specs.Hypertree.{place_above, layer_sig, ht_sig, ht_key}
+use Rattle.slh_few.specs.Hypertree.{place_above, layer_place, signed_at, layer_sig, ht_sig, ht_key}
 use Rattle.slh_few.specs.Parts.{end_to_end}
 use Rattle.slh_few.proofs.Sets.{top_layer}
 use Rattle.slh_few.proofs.Ends.{end_to_end-none, writes-more, part_fits, written_all}
@@ -29,27 +31,28 @@ sign_layer-root-requires-clause-out c =
     let q : length c.loop-layer.out ≡ p.d * xmss_sig_len p = omega (arith, c.requires.out) in
     rw c.xmss_sig_len-size.ensures.value (part_fits c.loop-layer.layer p.d (xmss_sig_len p) (length c.loop-layer.out) b q)
 
+-- a layer's signature, put after those of the layers below
+layer_put : (s : ParamSet) (sk pk m : List ℕ) (t i l : ℕ) (at : Place) (x out new : List ℕ)
+    → at ≡ layer_place (params s) t i l → x ≡ signed_at (params s) sk pk m t i l
+    → take (l * xmss_sig_len (params s)) out ≡ end_to_end (layer_sig (params s) sk pk m t i) l
+    → take (l * xmss_sig_len (params s) + xmss_sig_len (params s)) new ≡ take (l * xmss_sig_len (params s)) out ++ xmss_sig (params s) sk pk at x
+    → take ((l + 1) * xmss_sig_len (params s)) new ≡ end_to_end (layer_sig (params s) sk pk m t i) (l + 1)
+layer_put s sk pk m t i l at x out new ea ex below put =
+    let p = params s in
+    let size = length-xmss_sig s sk pk at x in
+    writes-more (layer_sig p sk pk m t i) l (xmss_sig_len p) out new (xmss_sig p sk pk at x)
+    (layer_made p sk pk m t i l at x ea ex) size below (ap (λ k. take (l * xmss_sig_len p + k) new) size ∙ put)
+
 pub loop-layer-preserved : goal.loop-layer-preserved
 loop-layer-preserved c =
     let s = c.args.seeds.now.set in
-    let p = params s in
-    let sk = c.args.seeds.now.sk_seed.now in
-    let pk = c.args.seeds.now.pk_seed.now in
-    let m = c.args.msg.now.items in
-    let t = c.args.idx_tree in
-    let i = c.args.idx_leaf in
-    let l = c.loop-layer.layer in
-    let at = c.loop-layer.at in
-    let x = c.loop-layer.root.items in
+    let now = c.loop-layer.invariant in
     record {
-      place = c.place_above-at.ensures.place ∙ ap (λ a. place_above p a (l + 1)) c.loop-layer.invariant.place ∙ layer_place-more p t i l;
+      place = c.place_above-at.ensures.place ∙ ap (λ a. place_above (params s) a (c.loop-layer.layer + 1)) now.place ∙ layer_place-more _ _ _ _;
       pair = c.place_above-at.ensures.pair;
-      root = c.sign_layer-root.ensures.root ∙ layer_root p sk pk m t i l at x c.loop-layer.invariant.place c.loop-layer.invariant.root;
+      root = c.sign_layer-root.ensures.root ∙ layer_root _ _ _ _ _ _ _ _ _ now.place now.root;
       len = c.sign_layer-root.ensures.len;
-      done = writes-more (layer_sig p sk pk m t i) l (xmss_sig_len p) c.loop-layer.out c.sign_layer-root.new.out (xmss_sig p sk pk at x)
-          (layer_made p sk pk m t i l at x c.loop-layer.invariant.place c.loop-layer.invariant.root)
-          (length-xmss_sig s sk pk at x) c.loop-layer.invariant.done
-          (ap (λ k. take (l * xmss_sig_len p + k) c.sign_layer-root.new.out) (length-xmss_sig s sk pk at x) ∙ rw c.xmss_sig_len-size.ensures.value at c.sign_layer-root.ensures.written);
+      done = layer_put s _ _ _ _ _ _ _ _ _ _ now.place now.root now.done (rw c.xmss_sig_len-size.ensures.value at c.sign_layer-root.ensures.written);
     }
 
 pub put_layer-requires-clause-out : goal.put_layer-requires-clause-out
@@ -66,24 +69,12 @@ unfolding ht_sig
 returns-clause-signature c =
     let s = c.args.seeds.now.set in
     let p = params s in
-    let sk = c.args.seeds.now.sk_seed.now in
-    let pk = c.args.seeds.now.pk_seed.now in
-    let m = c.args.msg.now.items in
-    let t = c.args.idx_tree in
-    let i = c.args.idx_leaf in
     let l = c.loop-layer.layer in
-    let at = c.loop-layer.at in
-    let x = c.loop-layer.root.items in
+    let now = c.loop-layer.invariant in
     let e : c.d.result - 1 ≡ l = omega arith in
     let all : l + 1 ≡ p.d = omega (arith, c.d.ensures, top_layer s, e) in
-    let written : take (l * xmss_sig_len p + xmss_sig_len p) c.put_layer.new.out ≡ take (l * xmss_sig_len p) c.loop-layer.out ++ xmss_sig p sk pk at x =
-    rw (e, c.xmss_sig_len-size.ensures.value) at c.put_layer.ensures in
-    let done : take ((l + 1) * xmss_sig_len p) c.put_layer.new.out ≡ end_to_end (layer_sig p sk pk m t i) (l + 1) =
-    writes-more (layer_sig p sk pk m t i) l (xmss_sig_len p) c.loop-layer.out c.put_layer.new.out (xmss_sig p sk pk at x)
-    (layer_made p sk pk m t i l at x c.loop-layer.invariant.place c.loop-layer.invariant.root)
-    (length-xmss_sig s sk pk at x) c.loop-layer.invariant.done
-    (ap (λ k. take (l * xmss_sig_len p + k) c.put_layer.new.out) (length-xmss_sig s sk pk at x) ∙ written) in
-    written_all (layer_sig p sk pk m t i) p.d (xmss_sig_len p) (l + 1) c.put_layer.new.out all (omega (arith, c.requires.out)) done
+    written_all _ p.d (xmss_sig_len p) (l + 1) c.put_layer.new.out all (omega (arith, c.requires.out))
+    (layer_put s _ _ _ _ _ _ _ _ _ _ now.place now.root now.done (rw (e, c.xmss_sig_len-size.ensures.value) at c.put_layer.ensures))
 
 pub returns-clause-key : goal.returns-clause-key
 returns-clause-key c =

@@ -4,9 +4,8 @@ use Rattle.std.proofs.lemmas.Iterator.Consumers.{YieldsList-from_copied}
 use Rattle.std.proofs.lemmas.Iterator.Search.{find_from_yields_List}
 use Rattle.std.specs.Prelude.{option_map}
 use Rattle.std.specs.Str.{bytes_eq}
-use Rattle.slh_params.specs.ParamSet.{name}
+use Rattle.slh_params.specs.ParamSet.{name, set_named, sets}
 use Rattle.slh_params.specs.declared.param_set.ParamSet.{ParamSet}
-use Rattle.slh_files.specs.KeyFile.{sets}
 use Rattle.slh_files.proofs.key_file.set_named.Goals as goal
 
 option_map-id : (r : Option ParamSet) → option_map (λ set. set) r ≡ r
@@ -14,6 +13,7 @@ option_map-id (Some set) = refl
 option_map-id None = refl
 
 pub returns : goal.returns
+unfolding set_named
 returns c =
     rw (← option_map-id c.find.result)
     (find_from_yields_List (λ set. bytes_eq (name set) c.args.line.now) _ _ c.find.result c.find.ensures.ran

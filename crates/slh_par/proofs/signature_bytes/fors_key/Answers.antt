@@ -1,13 +1,12 @@
 use Rattle.std.proofs.Common.{◌≡◌, ℕ, ◌+◌, ◌<◌, ◌++◌, List, sym, subst, ap, get_or, ◌∙◌, arith}
 use Rattle.arrayvec.specs.ArrayVec.{ArrayVec}
 use Rattle.slh_params.specs.Address.{address}
-use Rattle.slh_params.specs.ParamSet.{params}
 use Rattle.slh_hash.specs.Stream.{HasAbsorbed}
 use Rattle.slh_tree.specs.Tree.{root}
 use Rattle.slh_few.specs.Parts.{end_to_end}
-use Rattle.slh_few.specs.Fors.{fors_tree}
 use Rattle.slh_few.proofs.Ends.{end_to_end-none, end_to_end-more}
 use Rattle.slh_subtrees.specs.declared.joined_tree.JoinedTree.{JoinedTree}
+use Rattle.slh_par.specs.Parts.{params_of, fors_tree_in}
 use Rattle.slh_par.proofs.Joined.{fors-joined}
 use Rattle.slh_par.proofs.signature_bytes.fors_key.Goals as goal
 
@@ -16,18 +15,16 @@ loop-j-init c = rw (end_to_end-none _) c.fors_roots-roots.ensures
 
 pub loop-j-preserved : goal.loop-j-preserved
 loop-j-preserved c =
-    let s = c.args.trees.now.seeds in
-    let p = params s.set in
-    let t = c.args.trees.now.idx_tree in
-    let i = c.args.trees.now.idx_leaf in
+    let trees = c.args.trees.now in
+    let p = params_of trees in
+    let pk = trees.seeds.pk_seed.now in
+    let adrs = address 0 trees.idx_tree 4 trees.idx_leaf 0 0 in
+    let roots : ℕ → List ℕ = λ j. root (fors_tree_in trees j) in
     let j = c.loop-j.j in
     let b : c.loop-j.j < p.k = omega (arith, c.k-j-end.ensures) in
     let x : JoinedTree = c.index-joined-first.result in
     let node : ArrayVec ℕ = (get_or c.args.joined.now (c.d-first.result + j) x).root in
-    let own : node.items ≡ root (fors_tree p s.sk_seed.now s.pk_seed.now t i j) =
-    ap (λ k. (get_or c.args.joined.now (k + j) x).root.items) c.d-first.ensures
-    ∙ (fors-joined p s.sk_seed.now s.pk_seed.now t i c.args.trees.now.md.now c.args.joined.now c.requires.joined j x b).root in
-    let roots : ℕ → List ℕ = λ j. root (fors_tree p s.sk_seed.now s.pk_seed.now t i j) in
+    let own : node.items ≡ roots j =
+    ap (λ k. (get_or c.args.joined.now (k + j) x).root.items) c.d-first.ensures ∙ (fors-joined trees c.args.joined.now c.requires.joined j x b).root in
     let more : end_to_end roots (j + 1) ≡ end_to_end roots j ++ node.items = end_to_end-more roots j ∙ ap (λ y. end_to_end roots j ++ y) (sym own) in
-    subst (λ (bytes : List ℕ). HasAbsorbed c.absorb.new.self p s.pk_seed.now (address 0 t 4 i 0 0) bytes) (sym more)
-    (c.absorb.ensures p s.pk_seed.now (address 0 t 4 i 0 0) (end_to_end roots j) c.loop-j.invariant)
+    subst (λ (bytes : List ℕ). HasAbsorbed c.absorb.new.self p pk adrs bytes) (sym more) (c.absorb.ensures p pk adrs (end_to_end roots j) c.loop-j.invariant)

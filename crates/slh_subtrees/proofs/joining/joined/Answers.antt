@@ -1,38 +1,29 @@
-use Rattle.std.proofs.Common.{◌<◌, length, get_or, arith, sym, subst, ◌∙◌}
+use Rattle.std.proofs.Common.{◌≡◌, ℕ, ◌<◌, List, length, get_or, arith, sym, subst, ◌∙◌}
+use Rattle.slh_tree.specs.Tree.{MerkleTree}
 use Rattle.slh_tree.specs.Record.{KnownPath}
-use Rattle.slh_subtrees.specs.Joined.{IsHashed}
+use Rattle.slh_tree.specs.declared.cover.Cover.{Cover}
+use Rattle.slh_subtrees.specs.Joined.{IsHashed, AreHashed}
 use Rattle.slh_subtrees.proofs.Merging.{merged_more, path_of, no_leaves}
 use Rattle.slh_subtrees.proofs.joining.joined.Goals as goal
 
+-- the record in a place is that of the cover in the same place
+hashed_there : (t : MerkleTree) (leaf : ℕ) (cs : List Cover) (rs : List KnownPath) (k : ℕ) (d : Cover) (r : KnownPath)
+    → AreHashed t leaf cs rs → k < length rs → r ≡ get_or rs k r → IsHashed t leaf (get_or cs k d) r
+hashed_there t leaf cs rs k d r all below is =
+    subst (λ (y : KnownPath). IsHashed t leaf (get_or cs k d) y) (sym is) (all.each k d r (omega (arith, all.count)))
+
 pub merge-requires-clause-height : goal.merge-requires-clause-height
 merge-requires-clause-height g c =
-    let t = g.T.Tree.tree c.args.tree.now in
-    let k = c.loop-record.record-index in
-    let other = c.record-item.result in
-    let At : KnownPath → Type 0 = λ r. IsHashed t c.args.leaf (get_or c.args.covers.now k no_leaves) r in
-    let within : k < length c.args.covers.now = omega (arith, c.loop-record-test.true, c.requires.hashed.count) in
-    let own = subst At (sym c.record-item.is) (c.requires.hashed.each k no_leaves other within) in
-    own.height ∙ sym c.loop-record.invariant.height
+    (hashed_there _ _ _ _ _ no_leaves _ c.requires.hashed c.loop-record-test.true c.record-item.is).height ∙ sym c.loop-record.invariant.height
 
 pub merge-requires-clause-leaf : goal.merge-requires-clause-leaf
 merge-requires-clause-leaf g c =
-    let t = g.T.Tree.tree c.args.tree.now in
-    let k = c.loop-record.record-index in
-    let other = c.record-item.result in
-    let At : KnownPath → Type 0 = λ r. IsHashed t c.args.leaf (get_or c.args.covers.now k no_leaves) r in
-    let within : k < length c.args.covers.now = omega (arith, c.loop-record-test.true, c.requires.hashed.count) in
-    let own = subst At (sym c.record-item.is) (c.requires.hashed.each k no_leaves other within) in
-    own.leaf ∙ sym c.loop-record.invariant.leaf
+    (hashed_there _ _ _ _ _ no_leaves _ c.requires.hashed c.loop-record-test.true c.record-item.is).leaf ∙ sym c.loop-record.invariant.leaf
 
 pub loop-record-preserved : goal.loop-record-preserved
 loop-record-preserved g c =
-    let t = g.T.Tree.tree c.args.tree.now in
-    let k = c.loop-record.record-index in
-    let other = c.record-item.result in
-    let within : k < length c.args.covers.now = omega (arith, c.loop-record-test.true, c.requires.hashed.count) in
-    merged_more t c.args.leaf c.args.covers.now k c.loop-record.path other c.merge.new.self c.loop-record.invariant
-    (λ d. let At : KnownPath → Type 0 = λ r. IsHashed t c.args.leaf (get_or c.args.covers.now k d) r in
-    subst At (sym c.record-item.is) (c.requires.hashed.each k d other within))
+    merged_more _ _ _ _ _ c.record-item.result _ c.loop-record.invariant
+    (λ d. hashed_there _ _ _ _ _ d _ c.requires.hashed c.loop-record-test.true c.record-item.is)
     c.merge.ensures.height c.merge.ensures.leaf c.merge.ensures.taken
 
 pub returns : goal.returns

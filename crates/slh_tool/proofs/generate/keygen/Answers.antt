@@ -1,7 +1,7 @@
 use Rattle.std.proofs.Common.{◌≡◌, Some, rules, string_bytes}
+use Rattle.slh_params.specs.ParamSet.{set_named}
 use Rattle.slh_tool.specs.Keys.{key_of_seeds}
 use Rattle.slh_tool.specs.Requests.{keygen_asked}
-use Rattle.slh_tool.specs.Sets.{set_named}
 use Rattle.slh_tool.proofs.Generation.{key_written}
 use Rattle.slh_tool.proofs.generate.keygen.Goals as goal
 

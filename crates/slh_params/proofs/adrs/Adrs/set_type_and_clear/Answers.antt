@@ -1,4 +1,4 @@
-use Rattle.std.proofs.Common.{ℕ, ◌<◌, lit<, rules, replicate}
+use Rattle.std.proofs.Common.{ℕ, ◌<◌, lit<, rules}
 use Rattle.std.proofs.lemmas.List.Elements.{All-set, All-replicate, All-same}
 use Rattle.slh_params.specs.AdrsBytes.{AllBytes}
 use Rattle.slh_params.proofs.Bytes.{AllBytes-put_mid}

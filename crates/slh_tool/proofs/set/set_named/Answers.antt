@@ -1,5 +1,0 @@
-use Rattle.slh_tool.proofs.Sets.{is_set_named}
-use Rattle.slh_tool.proofs.set.set_named.Goals as goal
-
-pub returns : goal.returns
-returns c = is_set_named _ _ c.from_name.ensures.none c.from_name.ensures.some
