@@ -27,7 +27,7 @@ PROGRAM = os.path.join(ROOT, "crates", "slh_bench", "out", "slh_bench")
 OPENSSL = os.environ.get("OPENSSL")
 TURNS = 3
 WORKERS = (1, 2, 4)
-WORKERS_TURNS = 4
+WORKERS_TURNS = 10
 
 # Bytes that one run of the tasks sha256 and sha512 hashes, and the blocks that they and their padding fill.
 BLOCKS = {"sha256": 65536 // 64 + 1, "sha512": 65536 // 128 + 1}
@@ -85,9 +85,9 @@ def line(parameter_set, task, least, other):
 
 
 def by_workers(parameter_set):
-    """The least times of the tasks of several workers, by turns. Few runs a turn, so that each task meets each state of the machine."""
+    """The least times of the tasks of several workers, by turns, so that each task meets each state of the machine."""
     small = parameter_set.endswith("s")
-    runs = {"sign_par": 1 if small else 10, "keygen_par": 5, "verify_all": 5, "independent": 1 if small else 10}
+    runs = {"sign_par": 2 if small else 20, "keygen_par": 10, "verify_all": 10, "independent": 2 if small else 10}
     least = {task: {} for task in runs}
     for task, workers in [pair for _ in range(WORKERS_TURNS) for pair in itertools.product(runs, WORKERS)]:
         time = ours(task, runs[task], parameter_set, workers)
