@@ -1,5 +1,6 @@
 //! What the tests share.
-ghost use Rattle.std.specs.Prelude.{◌≡◌, IfOk, length};
+ghost use Rattle.std.specs.Prelude.{◌≡◌, ◌==◌, IfOk, replicate};
+ghost use Rattle.std.specs.List.{list_all};
 ghost use Rattle.slh_params.specs.Params.{sig_len};
 ghost use Rattle.slh_params.specs.ParamSet.{params};
 
@@ -64,7 +65,9 @@ pub fn key_par<R: Threads + Sync, A: Allocator + Clone + Send + Sync, G: Gate>(
 }
 
 /// That many workers.
-pub fn workers(number: u8) -> Result<Workers, Fail> {
+pub fn workers(number: u8) -> Result<Workers, Fail>
+    ensures { IfOk result (λ workers. workers ≡ number) }
+{
     Ok(Workers::new(number).ok_or("no such number of workers")?)
 }
 
@@ -77,13 +80,15 @@ pub fn whole_trees() -> Result<Cutting, Fail>
 
 /// Room for a signature.
 pub fn unwritten(alloc: Global, set: ParamSet) -> Result<Vec<u8>, Fail>
-    ensures { IfOk result (λ out. length out.items ≡ sig_len (params set)) }
+    ensures { IfOk result (λ out. out.items ≡ replicate (sig_len (params set)) UNWRITTEN) }
 {
     Ok(vec![in alloc; UNWRITTEN; set.sig_len()]?)
 }
 
 /// Whether nothing was written.
-pub fn is_unwritten(out: &[u8]) -> bool {
+pub fn is_unwritten(out: &[u8]) -> bool
+    ensures { result ≡ list_all (λ byte. byte == UNWRITTEN) out.now }
+{
     out.iter().all(|&byte| byte == UNWRITTEN)
 }
 
