@@ -1,9 +1,10 @@
 #!/usr/bin/env python3
 """Writes the tables of docs/PROVED.md from the sources: for each crate the calls that other crates have, the clauses of
-their contracts, and the must-fail edits of their bodies. A private function is listed where an edit turns it.
+their contracts, and the must-fail edits of their bodies. A private function is listed where an edit turns it. It also looks
+whether the code on docs/CALLING.md is that of crates/slh_examples.
 
 Usage: tools/contracts.py           writes the tables
-       tools/contracts.py --check   fails where a table is not what the sources say
+       tools/contracts.py --check   fails where a table or the code is not what the sources say
 """
 import os
 import re
@@ -11,6 +12,7 @@ import sys
 
 ROOT = os.path.dirname(os.path.dirname(os.path.abspath(__file__)))
 PAGE = os.path.join(ROOT, "docs", "PROVED.md")
+CALLING = os.path.join(ROOT, "docs", "CALLING.md")
 BEGIN, END = "<!-- {}: written by tools/contracts.py -->", "<!-- end -->"
 UNNAMED = "its one clause"
 
@@ -57,11 +59,11 @@ def functions(crate, path):
     names, owner, found = exported(crate), "", []
     for number, line in enumerate(text.split("\n")):
         owner = owner if owner_of(line) is None else owner_of(line)
-        function = re.match(r"\s*(pub )?(?:pub\(\w+\) )?(?:final )?(?:const )?fn (\w+)", line)
+        function = re.match(r'\s*(pub )?(?:pub\(\w+\) )?(?:final )?(?:const )?(extern "C" )?fn (\w+)', line)
         if function:
             in_trait = owner and re.search(rf"^pub trait {owner}\b", text, re.M)
-            is_public = (owner or function[2]) in names and bool(function[1] or in_trait)
-            found.append((number, f"{owner}::{function[2]}" if owner else function[2], is_public, []))
+            is_public = bool(function[2]) or (owner or function[3]) in names and bool(function[1] or in_trait)
+            found.append((number, f"{owner}::{function[3]}" if owner else function[3], is_public, []))
         clause = re.match(r"\s*ensures(?: (\w+))? \{ ?(.*?)( \}[;,]?)?$", line)
         if clause and found:
             short = clause[2] if clause[3] and len(clause[2]) <= 100 else UNNAMED
@@ -96,6 +98,18 @@ def table(crate):
     return "\n".join(["| function | clauses | must-fail edits |", "|---|---|---|", *rows]) + "\n"
 
 
+def strange_code():
+    """Of docs/CALLING.md the first lines of code that stands in no file of slh_examples, and the lines of crates.txt that
+    are not there."""
+    files = [read("slh_examples", path) for path in sources("slh_examples")]
+    with open(os.path.join(ROOT, "crates.txt")) as crates, open(CALLING) as page:
+        known, text = crates.read().split("\n"), page.read()
+    pieces = re.findall(r"^```rust\n(.*?)^```$", text, re.M | re.S)
+    lines = "".join(re.findall(r"^```text\n(.*?)^```$", text, re.M | re.S)).splitlines()
+    strange = [piece.partition("\n")[0] for piece in pieces if not any(piece in file for file in files)]
+    return strange + [line for line in lines if line not in known]
+
+
 def main():
     with open(PAGE) as file:
         page = file.read()
@@ -109,6 +123,9 @@ def main():
             file.write(written)
     elif written != page:
         sys.exit("docs/PROVED.md is not what the sources say: run tools/contracts.py")
+    strange = strange_code()
+    if strange:
+        sys.exit("docs/CALLING.md has what stands neither in slh_examples nor in crates.txt: " + "; ".join(strange))
 
 
 main()

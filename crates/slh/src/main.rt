@@ -1,28 +1,62 @@
 //! The program `slh`: keys and signatures of SLH-DSA (FIPS 205) with SHA-2.
 #![tactic(auto)]
 
+use libc::types::rlimit;
+use libc::{RLIMIT_STACK, getrlimit};
 use slh_devices::{Disk, Reader, Writer};
 use slh_tool::{Fault, command, refuse};
+use std::io::{Stderr, Stdin, Stdout};
 use std::process::ExitCode;
-use std::rt::Env;
+use std::rt::{Env, Files};
+use std::thread::Threads;
 use std::{env, io};
+
+/// The least limit of the stack, in bytes, under which each command has room on the first thread and on all others. A
+/// stack that is used up ends a program without a word, so `main` looks at the limit before anything else.
+const LEAST_STACK: u64 = 192 * 1024;
 
 fn main(rt: HostRuntime) -> ExitCode {
     let mut errors = Writer::new(rt.stderr());
-    let words = match words_of(&rt) {
-        Ok(words) => words,
-        Err(fault) => return ExitCode::from(refuse(&mut errors, fault)),
+    if stack_limit().is_some_and(|limit| limit < LEAST_STACK) {
+        return ExitCode::from(refuse(&mut errors, Fault::NoMemory));
+    }
+    ExitCode::from(run(&rt, rt.stdin(), rt.stdout(), &mut errors))
+}
+
+/// The limit of the stack in bytes, where the system tells it.
+fn stack_limit() -> Option<u64> {
+    let mut limit = rlimit {
+        rlim_cur: 0,
+        rlim_max: 0,
     };
-    let status = command(
-        &rt,
+    if getrlimit(RLIMIT_STACK, &mut limit) < 0 {
+        return None;
+    }
+    Some(limit.rlim_cur)
+}
+
+/// The command that the words of the program ask for, over the files of the system. It is kept out of `main`, which has
+/// to have room on a stack that is too small for any command.
+#[inline(never)]
+fn run<R: AllocGlobal + Env + Files + Threads + Sync>(
+    rt: &R,
+    input: Stdin,
+    output: Stdout,
+    errors: &mut Writer<Stderr>,
+) -> u8 {
+    let words = match words_of(rt) {
+        Ok(words) => words,
+        Err(fault) => return refuse(errors, fault),
+    };
+    command(
+        rt,
         rt.alloc(),
         words.as_slice(),
-        &mut Disk::new(&rt),
-        &mut Reader::new(rt.stdin()),
-        &mut Writer::new(rt.stdout()),
-        &mut errors,
-    );
-    ExitCode::from(status)
+        &mut Disk::new(rt),
+        &mut Reader::new(input),
+        &mut Writer::new(output),
+        errors,
+    )
 }
 
 /// The words after the program's name. A word that is no UTF-8 is no word of a command.

@@ -33,6 +33,10 @@ fn params_command<'a>(alloc: Global) -> Result<Command<'a>, AllocError>
     .arg(optional(alloc, "set", "NAME", SET_HELP))
 }
 
+const ROOT_HELP: &str =
+    "The seeds SK.seed, SK.prf and PK.seed are one line of hexadecimal digits: 96 for a 128 set, 144 for a 192, 192 for a 256.
+Example: slh root --set SLH-DSA-SHA2-128f < seeds.txt";
+
 fn root_command<'a>(alloc: Global) -> Result<Command<'a>, AllocError>
     ensures { IfOk result (CommandIs root_shape) }
 {
@@ -40,10 +44,14 @@ fn root_command<'a>(alloc: Global) -> Result<Command<'a>, AllocError>
         alloc,
         "root",
         "Prints the public key of the seeds on standard input",
-        "Example: slh root --set SLH-DSA-SHA2-128f < seeds.txt",
+        ROOT_HELP,
     )
     .arg(required(alloc, "set", "NAME", SET_HELP))
 }
+
+const KEYGEN_HELP: &str =
+    "The seeds SK.seed, SK.prf and PK.seed are one line of hexadecimal digits: 96 for a 128 set, 144 for a 192, 192 for a 256.
+Example: slh keygen --set SLH-DSA-SHA2-128f < seeds.txt > secret.key";
 
 fn keygen_command<'a>(alloc: Global) -> Result<Command<'a>, AllocError>
     ensures { IfOk result (CommandIs keygen_shape) }
@@ -52,7 +60,7 @@ fn keygen_command<'a>(alloc: Global) -> Result<Command<'a>, AllocError>
         alloc,
         "keygen",
         "Writes the secret key file of the seeds on standard input",
-        "Example: slh keygen --set SLH-DSA-SHA2-128f < seeds.txt > secret.key",
+        KEYGEN_HELP,
     );
     let command = command.arg(required(alloc, "set", "NAME", SET_HELP))?;
     with_work(alloc, command)
@@ -124,20 +132,26 @@ fn vectors_command<'a>(alloc: Global) -> Result<Command<'a>, AllocError>
     .arg(workers(alloc))
 }
 
+const STATUS_HELP: &str =
+    "Exit status: 0 for done, valid, consistent or all tests passed; 1 for invalid, inconsistent or a failed test; 2 for refused.
+A refusal writes `slh: NUMBER NAME` to standard error; docs/FORMATS.md explains the numbers.";
+
 /// The program with no subcommand so far.
-fn no_command<'a>(alloc: Global) -> Command<'a>
-    ensures { app_of result ≡ no_command }
+fn no_command<'a>(alloc: Global) -> Result<Command<'a>, AllocError>
+    ensures { IfOk result (λ c. app_of c ≡ no_command) }
 {
     Command::new(alloc, "slh")
         .no_binary_name(true)
         .about("Keys and signatures of SLH-DSA (FIPS 205) with SHA-2")
+        .after_help(STATUS_HELP)
+        .bin_name("slh")
 }
 
 /// The program with the commands that take no key file.
 fn seed_commands<'a>(alloc: Global) -> Result<Command<'a>, AllocError>
     ensures { IfOk result (λ c. app_of c ≡ seed_app) }
 {
-    no_command(alloc)
+    no_command(alloc)?
         .subcommand(params_command(alloc)?)?
         .subcommand(root_command(alloc)?)?
         .subcommand(keygen_command(alloc)?)

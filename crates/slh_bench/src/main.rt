@@ -1,16 +1,16 @@
-//! Times key generation, signing or verifying of a parameter set, in one thread or by several workers, or the hash functions
-//! below them. `tools/benchmark.py` runs it, and `tools/count_calls.py` does so under a profiler.
+//! Times key generation, signing or verifying of a parameter set, in one thread or by several workers, or the hash
+//! functions below them. `tools/benchmark.py` runs it, and `tools/count_calls.py` does so under a profiler.
 //!
-//! Its words are a task, a number of runs and a set's name. It prints the nanoseconds of the shortest run; one of `sha256` or
-//! `sha512` hashes 65536 bytes. Without these three words it prints nothing. The tasks are
+//! Its words are a task, a number of runs and a set's name. It prints the nanoseconds of the shortest run; one of
+//! `sha256` or `sha512` hashes 65536 bytes. Without these three words it prints nothing. The tasks are
 //!
 //! - in one thread `keygen`, `sign`, `verify`, `sha256` and `sha512`;
-//! - by several workers `keygen_par`, `sign_par`, `verify_all` (of 64 signatures) and `independent` (so many threads of which
-//!   each signs the message alone, as long as all of them take).
+//! - by several workers `keygen_par`, `sign_par`, `verify_all` (of 64 signatures) and `independent` (so many threads of
+//!   which each signs the message alone, as long as all of them take).
 //!
-//! A fourth word is the number of workers, 1 where there is none, and a fifth the levels by which the XMSS trees and the FORS
-//! trees are cut. Where there is no fifth word, they are cut so that each worker gets many jobs. Where no run ends as it should,
-//! as with more levels than the trees have, it prints over 2^63 seconds.
+//! A fourth word is the number of workers, 1 where there is none, and a fifth the levels by which the XMSS trees and
+//! the FORS trees are cut. Where there is no fifth word, they are cut so that each worker gets many jobs. Where no run
+//! ends as it should, as with more levels than the trees have, it prints over 2^63 seconds.
 #![tactic(auto)]
 
 mod by_workers;

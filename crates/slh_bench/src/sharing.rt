@@ -29,7 +29,8 @@ fn levels_for(jobs: u32, trees: u32, height: u32) -> u32 {
 }
 
 impl Sharing {
-    /// By so many workers, with trees cut by these levels or else by suitable ones. None where there are not 1 to 64 workers.
+    /// By so many workers, with trees cut by these levels or else by suitable ones. None where there are not 1 to 64
+    /// workers.
     pub fn new(set: ParamSet, workers: u8, levels: Option<u32>) -> Option<Sharing> {
         let workers = Workers::new(workers)?;
         let jobs = match workers.number() {

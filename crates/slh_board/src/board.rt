@@ -24,8 +24,8 @@ pub struct Tally {
     pub stopped: bool,
 }
 
-/// Job numbers that the holders of its seats draw, each once, from their own threads over one shared board. Contracts see which
-/// board it is, its number of jobs and its number of seats.
+/// Job numbers that the holders of its seats draw, each once, from their own threads over one shared board. Contracts
+/// see which board it is, its number of jobs and its number of seats.
 #[derive(Drop)]
 pub struct Board<A: Allocator = Global> {
     table: Table<u8, View, Plan, DrawnOnce, A>,
@@ -45,8 +45,8 @@ impl<A: Allocator> Model for Board<A> {
 }
 
 impl<A: Allocator> Board<A> {
-    /// A board whose jobs are the numbers below `jobs`, and its 1 to 64 seats, each with no numbers, fresh and not raised.
-    /// Refuses `NoMemory` where the memory for the seats or for the board was refused, and nothing else.
+    /// A board whose jobs are the numbers below `jobs`, and its 1 to 64 seats, each with no numbers, fresh and not
+    /// raised. Refuses `NoMemory` where the memory for the seats or for the board was refused, and nothing else.
     pub fn start(alloc: A, jobs: u32, seats: u8) -> Result<(Board<A>, Vec<Seat, A>), BoardFault>
     where
         A: Clone,
@@ -81,8 +81,9 @@ impl<A: Allocator> Board<A> {
         self.jobs
     }
 
-    /// Draws the next job. A seat that was told `Done` or `Stopped` once is told so again, with no further step. Any other
-    /// seat first looks whether the board is stopped, and draws only where it is not. Takes no memory and waits for nobody.
+    /// Draws the next job. A seat that was told `Done` or `Stopped` once is told so again, with no further step. Any
+    /// other seat first looks whether the board is stopped, and draws only where it is not. Takes no memory and waits
+    /// for nobody.
     #[tactic(auto, using(crate::proofs::Rising::rising_push))]
     pub fn claim(&self, seat: &mut Seat) -> Claim
         requires { seat.old.board ≡ self.now }
@@ -117,7 +118,8 @@ impl<A: Allocator> Board<A> {
         }
     }
 
-    /// Stops the board: a fresh seat that looks from now on is answered `Stopped`. Takes no memory and waits for nobody.
+    /// Stops the board: a fresh seat that looks from now on is answered `Stopped`. Takes no memory and waits for
+    /// nobody.
     pub fn stop(&self, seat: &mut Seat)
         requires { seat.old.board ≡ self.now }
         ensures kept { (seat.new.board ≡ seat.old.board) × (seat.new.drawn ≡ seat.old.drawn) × (seat.new.mark ≡ seat.old.mark) }
@@ -126,8 +128,8 @@ impl<A: Allocator> Board<A> {
         raise(&self.table.shared, &mut seat.seat);
     }
 
-    /// Ends the board, once all its seats have come back: how many jobs were drawn, and whether a seat stopped the board.
-    /// Takes no memory and waits for nobody.
+    /// Ends the board, once all its seats have come back: how many jobs were drawn, and whether a seat stopped the
+    /// board. Takes no memory and waits for nobody.
     pub fn finish(self, mut seats: Vec<Seat, A>) -> Tally
         requires mine { All (λ s. s.board ≡ self) seats.items }
         requires all { vec_len seats ≡ self.seats }

@@ -24,8 +24,8 @@ pub enum Claim {
     Stopped,
 }
 
-/// One caller's place at a board. It cannot be copied, and may move to another thread. Contracts see its board, the list of
-/// the numbers that it drew, its mark, and as `raised` whether it stopped the board.
+/// One caller's place at a board. It cannot be copied, and may move to another thread. Contracts see its board, the
+/// list of the numbers that it drew, its mark, and as `raised` whether it stopped the board.
 #[derive(Drop)]
 pub struct Seat {
     pub(crate) mark: Mark,

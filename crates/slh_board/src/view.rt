@@ -1,5 +1,5 @@
-// What a seat knows, the rule of the board's table, and what each step tells. None of it has bytes or code: it is what the proofs
-// of the steps speak of.
+// What a seat knows, the rule of the board's table, and what each step tells. None of it has bytes or code: it is what
+// the proofs of the steps speak of.
 use atomic_table::{Join, Play, Split, TableRule};
 use std::collections::LinkedList;
 

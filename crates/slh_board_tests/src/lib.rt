@@ -1,4 +1,5 @@
-//! Tests of the board, with the pool of threads that they run: as many threads as seats, each claiming until it is told to end.
+//! Tests of the board, with the pool of threads that they run: as many threads as seats, each claiming until it is told
+//! to end.
 #![tactic(auto)]
 
 ghost use Rattle.std.specs.Prelude.{◌≡◌, ◌+◌, ◌≤◌, IfSome, vec_len};
@@ -13,8 +14,8 @@ use std::thread::{Threads, join};
 #[cfg(test)]
 mod tests;
 
-/// Claims until the seat is done or stopped, and stops the board at the job `last`. The jobs drawn, in their order, or `None`
-/// where memory ran out.
+/// Claims until the seat is done or stopped, and stops the board at the job `last`. The jobs drawn, in their order, or
+/// `None` where memory ran out.
 pub fn claim_all(
     alloc: Global,
     board: &Board,

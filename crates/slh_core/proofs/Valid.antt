@@ -15,10 +15,10 @@ use Rattle.slh_few.specs.Hypertree.{layer_sig, ht_sig}
 use Rattle.slh_few.proofs.Ends.{length-end_to_end}
 use Rattle.slh_few.proofs.ForsLaw.{length-fors_part}
 use Rattle.slh_few.proofs.XmssLaw.{length-xmss_sig}
-use Rattle.slh_few.proofs.HtLaw.{ht_key-ht_sig}
+use Rattle.slh_few.proofs.HtLaw.{ht_root_from_sig-ht_sig}
 use Rattle.slh_core.specs.Cut.{md, idx_tree, idx_leaf}
 use Rattle.slh_core.specs.Keys.{Key, sk_seed, sk_prf, public_of, pk_seed, pk_root, IsGeneratedKey, top_root}
-use Rattle.slh_core.specs.Signatures.{digest_of, fors_sig_of, fors_key_of, ht_sig_of, fors_sig_len, root_of_parts, signature_of_digest, signature, IsValid}
+use Rattle.slh_core.specs.Signatures.{digest_of, fors_sig_of, pk_fors_of, ht_sig_of, fors_sig_len, root_of_parts, signature_of_digest, signature, IsValid}
 use Rattle.slh_core.proofs.Lengths.{parts_of_sig}
 use Rattle.slh_core.proofs.Parts.{valid}
 
@@ -58,18 +58,18 @@ parts_root sk digest gen =
     let p = params sk.set in
     let pk = public_of sk in
     let fors = fors_sig_of sk digest in
-    let tree = ht_sig_of sk digest (fors_key_of pk digest fors) in
+    let tree = ht_sig_of sk digest (pk_fors_of pk digest fors) in
     let front : take (fors_sig_len p) (fors ++ tree) ≡ fors = take_at fors tree (fors_sig_len p) (length-fors_sig_of sk digest) in
     let back : drop (fors_sig_len p) (fors ++ tree) ≡ tree = drop_at fors tree (fors_sig_len p) (length-fors_sig_of sk digest) in
     rw (front, back, gen)
-    (ht_key-ht_sig sk.set (sk_seed sk) (pk_seed pk) (fors_key_of pk digest fors) (idx_tree p digest) (idx_leaf p digest) (idx_leaf_lt p digest) (idx_tree_lt p digest))
+    (ht_root_from_sig-ht_sig sk.set (sk_seed sk) (pk_seed pk) (pk_fors_of pk digest fors) (idx_tree p digest) (idx_leaf p digest) (idx_leaf_lt p digest) (idx_tree_lt p digest))
 
 -- the length of what follows R
 length-rest : (sk : Key) (digest : List ℕ) → length (signature_of_digest sk digest) ≡ fors_sig_len (params sk.set) + (params sk.set).d * xmss_sig_len (params sk.set)
 unfolding signature_of_digest
 length-rest sk digest =
     let fors = fors_sig_of sk digest in
-    let key = fors_key_of (public_of sk) digest fors in
+    let key = pk_fors_of (public_of sk) digest fors in
     length-append fors (ht_sig_of sk digest key) ∙ omega (arith, length-fors_sig_of sk digest, length-ht_sig_of sk digest key)
 
 -- the signature of a message under a generated key is valid

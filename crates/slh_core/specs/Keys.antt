@@ -1,4 +1,4 @@
--- Keys as byte strings (FIPS 205, section 9.1) and their generation (Algorithm 18).
+-- Keys as byte strings, and their generation (FIPS 205, section 9.1, Algorithm 18).
 use Rattle.std.specs.Prelude.{◌≡◌, ℕ, ◌-◌, ◌*◌, List, ◌++◌, take, drop}
 use Rattle.slh_params.specs.Params.{Params}
 use Rattle.slh_params.specs.ParamSet.{params}

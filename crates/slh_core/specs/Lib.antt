@@ -1,11 +1,11 @@
 pub mod Keys
 pub mod Cut
+pub mod Randomizers
+pub mod Signatures
+pub mod Random
 pub mod PreHash
 pub mod PreHashing
 pub mod Messages
-pub mod Signatures
-pub mod Randomizers
-pub mod Random
 -- cited by public clauses
 pub use Rattle.slh_params.specs.Params
 pub use Rattle.slh_params.specs.ParamSet

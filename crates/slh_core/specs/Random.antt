@@ -1,4 +1,4 @@
--- Sources of random bytes, and the keys drawn from them.
+-- Sources of random bytes: ours; and the keys drawn from them (FIPS 205, section 10.1, Algorithm 21).
 use Rattle.std.specs.Prelude.{◌≡◌, ℕ, ◌+◌, ◌-◌, ◌^◌, List, length, min}
 use Rattle.slh_params.specs.ParamSet.{params}
 use Rattle.slh_params.specs.declared.param_set.ParamSet.{ParamSet}

@@ -1,4 +1,4 @@
--- The randomizer of a signature (FIPS 205, Algorithm 19, line 2).
+-- The randomizer of a signature (FIPS 205, section 9.2, Algorithm 19, line 2).
 use Rattle.std.specs.Prelude.{◌≡◌, ℕ, List, length}
 use Rattle.slh_core.specs.declared.randomizer.Randomizer.{Randomizer}
 use Rattle.slh_core.specs.declared.randomizer.Randomizer.TheVariants.{Deterministic, Given}

@@ -1,3 +1,4 @@
+//! The first bytes of M', which stand before the context (FIPS 205, section 10.2).
 ghost use Rattle.std.specs.Prelude.{◌≡◌, ◌↔◌, ◌≤◌, [], ◌∷◌, IsSome, IfSome, length};
 
 /// The first two bytes of M': its form, and the length of the context. `None` for a context of over 255

@@ -1,3 +1,4 @@
+//! The cut of a message digest (FIPS 205, section 9.2).
 ghost use Rattle.std.specs.Prelude.{◌≡◌, ◌-◌, ◌%◌, ◌^◌, ◌<◌, ◌≤◌, length};
 ghost use Rattle.slh_params.specs.Params.{h, m};
 ghost use Rattle.slh_params.specs.ParamSet.{params};
@@ -6,7 +7,7 @@ ghost use Rattle.slh_core.specs.Cut.{idx_tree, idx_leaf};
 use slh_params::{ParamSet, to_int};
 
 /// The most bytes that a message digest has in any set.
-pub const MAX_DIGEST_LEN: usize = 49;
+pub const MOST_DIGEST_LEN: usize = 49;
 
 /// The key pair that signs a message digest: a tree of layer 0 and a leaf of it.
 #[derive(Clone, Copy)]
@@ -31,6 +32,7 @@ fn low_bits(x: u64, count: u32) -> u64
 #[tactic(auto, unfolding(crate::specs::Cut::idx_tree, crate::specs::Cut::idx_leaf))]
 pub fn cut_digest(set: ParamSet, digest: &[u8]) -> Cut
     requires { length digest.now ≡ m (params set) }
+    ensures few { length digest.now ≤ MOST_DIGEST_LEN }
     ensures tree { result.idx_tree ≡ idx_tree (params set) digest.now }
     ensures leaf { result.idx_leaf ≡ idx_leaf (params set) digest.now }
     ensures tree_range { result.idx_tree < 2 ^ (h (params set) - (params set).hp) }

@@ -1,3 +1,4 @@
+//! The refusals of this crate.
 ghost use Rattle.std.specs.Prelude.{◌≡◌, codes};
 
 use thiserror::Error;

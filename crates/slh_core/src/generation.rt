@@ -1,8 +1,9 @@
+//! Key generation from seeds (FIPS 205, section 9.1).
 ghost use Rattle.std.specs.Prelude.{◌≡◌, ◌↔◌, IsTrue, length};
 ghost use Rattle.slh_params.specs.ParamSet.{params};
 ghost use Rattle.slh_core.specs.Keys.{top_root, generated_key, IsGeneratedKey};
 
-use super::secret_key::SecretKey;
+use crate::secret_key::SecretKey;
 use slh_few::{Seeds, XmssTree};
 use slh_params::{Node, ParamSet};
 use slh_tree::root;

@@ -1,3 +1,4 @@
+//! The lengths of the parts of a signature (FIPS 205, section 9.2).
 ghost use Rattle.std.specs.Prelude.{◌≡◌};
 ghost use Rattle.slh_params.specs.ParamSet.{params};
 ghost use Rattle.slh_core.specs.Signatures.{fors_sig_len};

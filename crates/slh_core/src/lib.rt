@@ -2,28 +2,37 @@
 //! signing and verifying.
 #![tactic(auto)]
 
-pub use context::{pre_hash_head, pure_head};
-pub use cut::{Cut, MAX_DIGEST_LEN, cut_digest};
+pub use cut::{Cut, cut_digest};
 pub use fault::{KeyFault, KeygenFault, SignFault};
+pub use form::Form;
 pub use generation::{check_pair, keygen_internal};
-pub use layout::fors_sig_len;
 pub use message_digest::MessageDigest;
 pub use pre_hash::PreHash;
-pub use pre_hash_form::{
-    hash_sign, hash_sign_digest, hash_verify, hash_verify_digest, pre_hash_digest,
-};
+pub use pre_hash_form::{hash_sign, hash_sign_digest, hash_verify, hash_verify_digest};
 pub use pre_hasher::PreHasher;
 pub use public_key::PublicKey;
 pub use pure_form::{sign, verify};
 pub use random::{FromRng, RandomBytes, SourceFault, keygen};
 pub use randomizer::Randomizer;
 pub use secret_key::SecretKey;
-pub use signing::{randomized_digest, sign_internal};
+pub use signing::sign_internal;
+pub use slh_params::ParamSet;
 pub use verifying::verify_internal;
+
+/// The steps of signing one by one (FIPS 205, Algorithms 19, 22 and 23), for a signer that makes the trees elsewhere,
+/// as `slh_par` does. A user of one thread needs none of them.
+pub mod signing_steps {
+    pub use crate::context::{pre_hash_head, pure_head};
+    pub use crate::cut::MOST_DIGEST_LEN;
+    pub use crate::layout::fors_sig_len;
+    pub use crate::pre_hash_form::pre_hash_digest;
+    pub use crate::signing::randomized_digest;
+}
 
 mod context;
 mod cut;
 mod fault;
+mod form;
 mod generation;
 mod layout;
 mod message_digest;

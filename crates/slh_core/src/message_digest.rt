@@ -1,7 +1,8 @@
+//! The digest of a message, made before it is signed (FIPS 205, section 10.2.2).
 ghost use Rattle.std.specs.Prelude.{◌≡◌, ◌↔◌, IsSome, IfSome, length};
 ghost use Rattle.slh_core.specs.PreHash.{Digest, digest_len};
 
-use super::pre_hash::PreHash;
+use crate::pre_hash::PreHash;
 use arrayvec::ArrayVec;
 use std::marker::Model;
 
@@ -32,11 +33,12 @@ impl MessageDigest {
         Some(MessageDigest::of(function, bytes))
     }
 
-    /// The same, for as many bytes as the function gives.
+    /// The digest that has these bytes, as many as the function gives.
     pub(crate) fn of(function: PreHash, bytes: &[u8]) -> MessageDigest
         requires { length bytes.now ≡ digest_len function }
         ensures { result ≡ record { function = function; bytes = bytes.now } }
     {
+        // For the prover: a digest has at most 64 bytes.
         let _len = function.digest_len();
         let mut copy = ArrayVec::new();
         let _ = copy.try_extend_from_slice(bytes);

@@ -1,3 +1,4 @@
+//! The pre-hash functions (FIPS 205, section 10.2.2).
 ghost use Rattle.std.specs.Prelude.{◌≡◌, IsNone, IfSome};
 ghost use Rattle.slh_core.specs.PreHash.{name, oid, digest_len, function_named};
 

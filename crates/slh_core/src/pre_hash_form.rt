@@ -1,3 +1,4 @@
+//! Signing and verifying a message by its digest (FIPS 205, sections 10.2.2 and 10.3).
 ghost use Rattle.std.specs.Prelude.{◌≡◌, ◌↔◌, ◌≤◌, IsOk, IsTrue, OnOk, OnErr, length};
 ghost use Rattle.slh_params.specs.Params.{sig_len};
 ghost use Rattle.slh_params.specs.ParamSet.{params};
@@ -7,16 +8,17 @@ ghost use Rattle.slh_core.specs.PreHash.{PH};
 ghost use Rattle.slh_core.specs.Randomizers.{HasLength};
 ghost use Rattle.slh_core.specs.Signatures.{signature_by, IsValid};
 
-use super::context::pre_hash_head;
-use super::fault::SignFault;
-use super::message_digest::MessageDigest;
-use super::pre_hash::PreHash;
-use super::pre_hasher::PreHasher;
-use super::public_key::PublicKey;
-use super::randomizer::Randomizer;
-use super::secret_key::SecretKey;
-use super::signing::sign_internal;
-use super::verifying::verify_internal;
+use crate::context::pre_hash_head;
+use crate::fault::SignFault;
+use crate::form::Form;
+use crate::message_digest::MessageDigest;
+use crate::pre_hash::PreHash;
+use crate::pre_hasher::PreHasher;
+use crate::public_key::PublicKey;
+use crate::randomizer::Randomizer;
+use crate::secret_key::SecretKey;
+use crate::signing::sign_internal;
+use crate::verifying::verify_internal;
 
 /// Signs a message by its digest, under a context (FIPS 205, Algorithm 23 after its pre-hash), writing
 /// `sig_len` bytes. Refused, with nothing written, where the context has over 255 bytes.
@@ -74,7 +76,7 @@ pub fn hash_sign(
     ensures authentic { OnOk result (IsGeneratedKey sk.now
         → IsValid (public_of sk.now) (pre_hash_message ctx.now function (PH function msg.now)) out.new) }
 {
-    hash_sign_digest(&pre_hash_digest(msg, function), ctx, sk, randomizer, out)
+    Form::PreHash(function).sign(msg, ctx, sk, randomizer, out)
 }
 
 /// Whether the bytes are a valid signature of a message that has this digest, under a context (FIPS 205,
@@ -98,5 +100,5 @@ pub fn hash_verify(msg: &[u8], ctx: &[u8], function: PreHash, sig: &[u8], pk: &P
     ensures { IsTrue result ↔ ((length ctx.now ≤ 255)
         × IsValid pk.now (pre_hash_message ctx.now function (PH function msg.now)) sig.now) }
 {
-    hash_verify_digest(&pre_hash_digest(msg, function), ctx, sig, pk)
+    Form::PreHash(function).verify(msg, ctx, sig, pk)
 }

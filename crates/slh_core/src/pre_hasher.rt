@@ -1,10 +1,11 @@
+//! The running hash of a message that comes in pieces.
 ghost use Rattle.std.specs.Prelude.{◌≡◌, ◌++◌, ℕ, List, []};
 ghost use Rattle.slh_core.specs.PreHash.{PH};
 ghost use Rattle.slh_core.specs.PreHashing.{HasFed};
 ghost use Rattle.slh_core.specs.declared.pre_hash.PreHash.{PreHash};
 
-use super::message_digest::MessageDigest;
-use super::pre_hash::PreHash;
+use crate::message_digest::MessageDigest;
+use crate::pre_hash::PreHash;
 use sha2::{Digest, Sha224, Sha256, Sha384, Sha512, Sha512_224, Sha512_256};
 
 /// The running hash of each function.

@@ -1,9 +1,10 @@
+//! Public keys (FIPS 205, section 9.1).
 ghost use Rattle.std.specs.Prelude.{◌≡◌, ◌↔◌, IsOk, IfOk, length};
 ghost use Rattle.slh_params.specs.Params.{pk_len};
 ghost use Rattle.slh_params.specs.ParamSet.{params};
 ghost use Rattle.slh_core.specs.Keys.{Key, pk_seed, pk_root};
 
-use super::fault::KeyFault;
+use crate::fault::KeyFault;
 use arrayvec::ArrayVec;
 use slh_params::ParamSet;
 use std::marker::Model;
@@ -35,7 +36,7 @@ impl PublicKey {
         Ok(PublicKey::of(set, bytes))
     }
 
-    /// The same, for as many bytes as the set asks for.
+    /// The key of these bytes, as many as the set asks for.
     pub(crate) fn of(set: ParamSet, bytes: &[u8]) -> PublicKey
         requires { length bytes.now ≡ pk_len (params set) }
         ensures { result ≡ record { set = set; bytes = bytes.now } }

@@ -1,3 +1,4 @@
+//! Signing and verifying a message itself (FIPS 205, sections 10.2.1 and 10.3).
 ghost use Rattle.std.specs.Prelude.{◌≡◌, ◌↔◌, ◌≤◌, IsOk, IsTrue, OnOk, OnErr, length};
 ghost use Rattle.slh_params.specs.Params.{sig_len};
 ghost use Rattle.slh_params.specs.ParamSet.{params};
@@ -6,13 +7,11 @@ ghost use Rattle.slh_core.specs.Messages.{pure_message};
 ghost use Rattle.slh_core.specs.Randomizers.{HasLength};
 ghost use Rattle.slh_core.specs.Signatures.{signature_by, IsValid};
 
-use super::context::pure_head;
-use super::fault::SignFault;
-use super::public_key::PublicKey;
-use super::randomizer::Randomizer;
-use super::secret_key::SecretKey;
-use super::signing::sign_internal;
-use super::verifying::verify_internal;
+use crate::fault::SignFault;
+use crate::form::Form;
+use crate::public_key::PublicKey;
+use crate::randomizer::Randomizer;
+use crate::secret_key::SecretKey;
 
 /// Signs a message under a context (FIPS 205, Algorithm 22), writing `sig_len` bytes. Refused, with nothing
 /// written, where the context has over 255 bytes.
@@ -33,11 +32,7 @@ pub fn sign(
     ensures authentic { OnOk result (IsGeneratedKey sk.now
         → IsValid (public_of sk.now) (pure_message ctx.now msg.now) out.new) }
 {
-    let Some(head) = pure_head(ctx) else {
-        return Err(SignFault::ContextTooLong);
-    };
-    sign_internal(&[&head, ctx, msg], sk, randomizer, out);
-    Ok(())
+    Form::Pure.sign(msg, ctx, sk, randomizer, out)
 }
 
 /// Whether the bytes are a valid signature of a message under a context (FIPS 205, Algorithm 24). False for
@@ -46,8 +41,5 @@ pub fn verify(msg: &[u8], ctx: &[u8], sig: &[u8], pk: &PublicKey) -> bool
     ensures { IsTrue result ↔ ((length ctx.now ≤ 255)
         × IsValid pk.now (pure_message ctx.now msg.now) sig.now) }
 {
-    match pure_head(ctx) {
-        Some(head) => verify_internal(&[&head, ctx, msg], sig, pk),
-        None => false,
-    }
+    Form::Pure.verify(msg, ctx, sig, pk)
 }

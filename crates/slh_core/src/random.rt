@@ -1,11 +1,13 @@
+//! Key generation from a source of random bytes (FIPS 205, section 10.1).
 ghost use Rattle.std.specs.Prelude.{◌≡◌, ℕ, List, OnOk, OnErr, IfOk, length};
 ghost use Rattle.slh_params.specs.ParamSet.{params};
 ghost use Rattle.rand_core.specs.Stream.{fill_bytes};
+ghost use Rattle.slh_core.specs.Keys.{IsGeneratedKey};
 ghost use Rattle.slh_core.specs.Random.{one_more, IsKeyOfDraws};
 
-use super::fault::KeygenFault;
-use super::generation::keygen_internal;
-use super::secret_key::SecretKey;
+use crate::fault::KeygenFault;
+use crate::generation::keygen_internal;
+use crate::secret_key::SecretKey;
 use rand_core::Rng;
 use slh_params::{Node, ParamSet, node_of};
 use thiserror::Error;
@@ -51,6 +53,8 @@ impl<R: Rng> RandomBytes for FromRng<R> {
 /// Refused at the first draw that fails, which is then the last one made.
 pub fn keygen<S: RandomBytes>(set: ParamSet, source: &mut S) -> Result<SecretKey, KeygenFault>
     ensures key { IfOk result (λ sk. IsKeyOfDraws S.draws set source.old sk source.new) }
+    ensures set { IfOk result (λ sk. sk.set ≡ set) }
+    ensures generated { IfOk result IsGeneratedKey }
 
     // The count of failures tells the outcomes apart. It grows by one alone, so that no draw follows one that
     // failed.

@@ -1,3 +1,4 @@
+//! The choice between deterministic and randomized signatures (FIPS 205, section 9.2).
 ghost use Rattle.std.specs.Prelude.{◌≡◌};
 ghost use Rattle.slh_core.specs.Randomizers.{opt_rand};
 

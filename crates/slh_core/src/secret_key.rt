@@ -1,10 +1,11 @@
+//! Secret keys (FIPS 205, section 9.1).
 ghost use Rattle.std.specs.Prelude.{◌≡◌, ◌++◌, ◌↔◌, IsOk, IfOk, length};
 ghost use Rattle.slh_params.specs.Params.{pk_len, sk_len};
 ghost use Rattle.slh_params.specs.ParamSet.{params};
 ghost use Rattle.slh_core.specs.Keys.{Key, sk_seed, sk_prf, public_of, pk_seed, pk_root};
 
-use super::fault::KeyFault;
-use super::public_key::PublicKey;
+use crate::fault::KeyFault;
+use crate::public_key::PublicKey;
 use arrayvec::ArrayVec;
 use slh_params::ParamSet;
 use std::marker::Model;

@@ -1,3 +1,4 @@
+//! Signing a message that is given in parts (FIPS 205, section 9.2).
 ghost use Rattle.std.specs.Prelude.{◌≡◌, ◌+◌, length};
 ghost use Rattle.slh_params.specs.Params.{m, sig_len};
 ghost use Rattle.slh_params.specs.ParamSet.{params};
@@ -6,10 +7,10 @@ ghost use Rattle.slh_core.specs.Keys.{public_of, IsGeneratedKey};
 ghost use Rattle.slh_core.specs.Randomizers.{HasLength};
 ghost use Rattle.slh_core.specs.Signatures.{r_by, digest_of, signature_of_digest, signature_by, IsValid};
 
-use super::cut::{MAX_DIGEST_LEN, cut_digest};
-use super::layout::fors_sig_len;
-use super::randomizer::Randomizer;
-use super::secret_key::SecretKey;
+use crate::cut::{MOST_DIGEST_LEN, cut_digest};
+use crate::layout::fors_sig_len;
+use crate::randomizer::Randomizer;
+use crate::secret_key::SecretKey;
 use slh_few::{Public, Seeds, fors_pk_from_sig, fors_sign, ht_sign};
 use slh_hash::{h_msg, prf_msg};
 use slh_params::Node;
@@ -30,16 +31,16 @@ fn sign_digest(sk: &SecretKey, digest: &[u8], out: &mut [u8])
     };
     let md = &digest[..set.md_len()];
     let cut = cut_digest(set, digest);
-    let (fors, tree) = out.split_at_mut(fors_sig_len(set));
-    fors_sign(&seeds, cut.idx_tree, cut.idx_leaf, md, fors);
-    let key = fors_pk_from_sig(
+    let (sig_fors, sig_ht) = out.split_at_mut(fors_sig_len(set));
+    fors_sign(&seeds, cut.idx_tree, cut.idx_leaf, md, sig_fors);
+    let pk_fors = fors_pk_from_sig(
         &Public { set, pk_seed },
         cut.idx_tree,
         cut.idx_leaf,
         md,
-        fors,
+        sig_fors,
     );
-    ht_sign(&seeds, cut.idx_tree, cut.idx_leaf, &key, tree);
+    ht_sign(&seeds, cut.idx_tree, cut.idx_leaf, &pk_fors, sig_ht);
 }
 
 /// R for the message of the parts put end to end, n bytes; its digest of m bytes under R is written into
@@ -72,7 +73,7 @@ pub fn sign_internal(parts: &[&[u8]], sk: &SecretKey, randomizer: Randomizer, ou
     ensures authentic { IsGeneratedKey sk.now → IsValid (public_of sk.now) (joined parts.now) out.new }
 {
     let set = sk.set();
-    let mut buffer = [0; MAX_DIGEST_LEN];
+    let mut buffer = [0; MOST_DIGEST_LEN];
     let digest = &mut buffer[..set.m()];
     let r = randomized_digest(parts, sk, randomizer, digest);
     let (front, rest) = out.split_at_mut(set.n());

@@ -1,3 +1,4 @@
+//! Verifying a signature of a message that is given in parts (FIPS 205, section 9.3).
 ghost use Rattle.std.specs.Prelude.{◌≡◌, ◌*◌, ◌↔◌, IsTrue, length};
 ghost use Rattle.slh_params.specs.Params.{m};
 ghost use Rattle.slh_params.specs.ParamSet.{params};
@@ -6,19 +7,19 @@ ghost use Rattle.slh_few.specs.Xmss.{xmss_sig_len};
 ghost use Rattle.slh_core.specs.Keys.{pk_root};
 ghost use Rattle.slh_core.specs.Signatures.{fors_sig_len, root_of_parts, IsValid};
 
-use super::cut::{MAX_DIGEST_LEN, cut_digest};
-use super::layout::fors_sig_len;
-use super::public_key::PublicKey;
+use crate::cut::{MOST_DIGEST_LEN, cut_digest};
+use crate::layout::fors_sig_len;
+use crate::public_key::PublicKey;
 use slh_few::{Public, fors_pk_from_sig, ht_verify};
 use slh_hash::h_msg;
 
 /// Whether the FORS and hypertree signatures of a digest give PK.root (FIPS 205, Algorithm 20, lines 9 to 18).
 #[tactic(auto, unfolding(crate::specs::Signatures::root_of_parts))]
-fn verify_digest(pk: &PublicKey, digest: &[u8], fors: &[u8], tree: &[u8]) -> bool
+fn verify_digest(pk: &PublicKey, digest: &[u8], sig_fors: &[u8], sig_ht: &[u8]) -> bool
     requires digest { length digest.now ≡ m (params pk.now.set) }
-    requires fors { length fors.now ≡ fors_sig_len (params pk.now.set) }
-    requires tree { length tree.now ≡ (params pk.now.set).d * xmss_sig_len (params pk.now.set) }
-    ensures { IsTrue result ↔ (root_of_parts pk.now digest.now fors.now tree.now ≡ pk_root pk.now) }
+    requires sig_fors { length sig_fors.now ≡ fors_sig_len (params pk.now.set) }
+    requires sig_ht { length sig_ht.now ≡ (params pk.now.set).d * xmss_sig_len (params pk.now.set) }
+    ensures { IsTrue result ↔ (root_of_parts pk.now digest.now sig_fors.now sig_ht.now ≡ pk_root pk.now) }
 {
     let set = pk.set();
     let public = Public {
@@ -27,14 +28,14 @@ fn verify_digest(pk: &PublicKey, digest: &[u8], fors: &[u8], tree: &[u8]) -> boo
     };
     let md = &digest[..set.md_len()];
     let cut = cut_digest(set, digest);
-    let key = fors_pk_from_sig(&public, cut.idx_tree, cut.idx_leaf, md, fors);
+    let pk_fors = fors_pk_from_sig(&public, cut.idx_tree, cut.idx_leaf, md, sig_fors);
     ht_verify(
         &public,
         pk.pk_root(),
         cut.idx_tree,
         cut.idx_leaf,
-        &key,
-        tree,
+        &pk_fors,
+        sig_ht,
     )
 }
 
@@ -48,9 +49,9 @@ pub fn verify_internal(parts: &[&[u8]], sig: &[u8], pk: &PublicKey) -> bool
         return false;
     }
     let (r, rest) = sig.split_at(set.n());
-    let (fors, tree) = rest.split_at(fors_sig_len(set));
-    let mut buffer = [0; MAX_DIGEST_LEN];
+    let (sig_fors, sig_ht) = rest.split_at(fors_sig_len(set));
+    let mut buffer = [0; MOST_DIGEST_LEN];
     let digest = &mut buffer[..set.m()];
     h_msg(set, r, pk.pk_seed(), pk.pk_root(), parts, digest);
-    verify_digest(pk, digest, fors, tree)
+    verify_digest(pk, digest, sig_fors, sig_ht)
 }

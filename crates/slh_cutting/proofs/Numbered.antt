@@ -26,22 +26,22 @@ length-tree_jobs c tree =
 pub length-key_generation_jobs : (c : CutTrees) → length (key_generation_jobs c) ≡ length c.xmss + 1
 length-key_generation_jobs c = length-tree_jobs c (Xmss ((params c.set).d - 1))
 
-abbrev xmss_part : CutTrees → List JobRange
-xmss_part c = flat_map (λ layer. tree_jobs c (Xmss layer)) (range_with_len 0 (params c.set).d)
+abbrev xmss_jobs : CutTrees → List JobRange
+xmss_jobs c = flat_map (λ layer. tree_jobs c (Xmss layer)) (range_with_len 0 (params c.set).d)
 
-abbrev fors_part : CutTrees → List JobRange
-fors_part c = flat_map (λ number. tree_jobs c (Fors number)) (range_with_len 0 (params c.set).k)
+abbrev fors_jobs : CutTrees → List JobRange
+fors_jobs c = flat_map (λ number. tree_jobs c (Fors number)) (range_with_len 0 (params c.set).k)
 
-length-xmss_part : (c : CutTrees) → length (xmss_part c) ≡ (params c.set).d * (length c.xmss + 1)
-length-xmss_part c = length-pieces (λ layer. tree_jobs c (Xmss layer)) (length c.xmss + 1) 0 (params c.set).d (λ t. length-tree_jobs c (Xmss t))
+length-xmss_jobs : (c : CutTrees) → length (xmss_jobs c) ≡ (params c.set).d * (length c.xmss + 1)
+length-xmss_jobs c = length-pieces (λ layer. tree_jobs c (Xmss layer)) (length c.xmss + 1) 0 (params c.set).d (λ t. length-tree_jobs c (Xmss t))
 
-length-fors_part : (c : CutTrees) → length (fors_part c) ≡ (params c.set).k * (length c.fors + 1)
-length-fors_part c = length-pieces (λ number. tree_jobs c (Fors number)) (length c.fors + 1) 0 (params c.set).k (λ t. length-tree_jobs c (Fors t))
+length-fors_jobs : (c : CutTrees) → length (fors_jobs c) ≡ (params c.set).k * (length c.fors + 1)
+length-fors_jobs c = length-pieces (λ number. tree_jobs c (Fors number)) (length c.fors + 1) 0 (params c.set).k (λ t. length-tree_jobs c (Fors t))
 
 pub length-signing_jobs : (c : CutTrees) → length (signing_jobs c) ≡ (params c.set).d * (length c.xmss + 1) + (params c.set).k * (length c.fors + 1)
 length-signing_jobs c =
-    length-append (xmss_part c) (fors_part c) ∙ ap (λ v. v + length (fors_part c)) (length-xmss_part c)
-    ∙ ap (λ v. (params c.set).d * (length c.xmss + 1) + v) (length-fors_part c)
+    length-append (xmss_jobs c) (fors_jobs c) ∙ ap (λ v. v + length (fors_jobs c)) (length-xmss_jobs c)
+    ∙ ap (λ v. (params c.set).d * (length c.xmss + 1) + v) (length-fors_jobs c)
 
 -- range r of a tree, as a job
 pub record IsRange (c : CutTrees) (tree : JobTree) (r lo hi : ℕ) : Type 0 where
@@ -77,9 +77,9 @@ range-between c tree points r lo hi same ends here e f =
 signing_jobs-xmss : (c : CutTrees) (layer r : ℕ) (d : JobRange) → layer < (params c.set).d → r < length c.xmss + 1
     → get_or (signing_jobs c) (layer * (length c.xmss + 1) + r) d ≡ get_or (tree_jobs c (Xmss layer)) r d
 signing_jobs-xmss c layer r d there here =
-    let few : layer * (length c.xmss + 1) + r < length (xmss_part c) =
-    omega (arith, length-xmss_part c, below_pieces (length c.xmss + 1) (params c.set).d layer r there here) in
-    get_or_append_left (xmss_part c) (fors_part c) d (layer * (length c.xmss + 1) + r) few
+    let few : layer * (length c.xmss + 1) + r < length (xmss_jobs c) =
+    omega (arith, length-xmss_jobs c, below_pieces (length c.xmss + 1) (params c.set).d layer r there here) in
+    get_or_append_left (xmss_jobs c) (fors_jobs c) d (layer * (length c.xmss + 1) + r) few
     ∙ at-pieces (λ v. tree_jobs c (Xmss v)) (length c.xmss + 1) 0 (params c.set).d layer r d (λ t. length-tree_jobs c (Xmss t)) there here
     ∙ ap (λ v. get_or (tree_jobs c (Xmss v)) r d) (let q : 0 + layer ≡ layer = omega arith in q)
 
@@ -87,8 +87,8 @@ signing_jobs-fors : (c : CutTrees) (number r : ℕ) (d : JobRange) → number < 
     → get_or (signing_jobs c) ((params c.set).d * (length c.xmss + 1) + number * (length c.fors + 1) + r) d ≡ get_or (tree_jobs c (Fors number)) r d
 signing_jobs-fors c number r d there here =
     ap (λ v. get_or (signing_jobs c) v d)
-    (let q : (params c.set).d * (length c.xmss + 1) + number * (length c.fors + 1) + r ≡ length (xmss_part c) + (number * (length c.fors + 1) + r) = omega (arith, length-xmss_part c) in q)
-    ∙ get_or-append-add (xmss_part c) (fors_part c) (number * (length c.fors + 1) + r) d
+    (let q : (params c.set).d * (length c.xmss + 1) + number * (length c.fors + 1) + r ≡ length (xmss_jobs c) + (number * (length c.fors + 1) + r) = omega (arith, length-xmss_jobs c) in q)
+    ∙ get_or-append-add (xmss_jobs c) (fors_jobs c) (number * (length c.fors + 1) + r) d
     ∙ at-pieces (λ v. tree_jobs c (Fors v)) (length c.fors + 1) 0 (params c.set).k number r d (λ t. length-tree_jobs c (Fors t)) there here
     ∙ ap (λ v. get_or (tree_jobs c (Fors v)) r d) (let q : 0 + number ≡ number = omega arith in q)
 

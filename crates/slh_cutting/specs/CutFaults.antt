@@ -1,4 +1,4 @@
--- Where trees are cut, and when they are not.
+-- Where trees are cut, and when they are not: ours.
 use Rattle.std.specs.Prelude.{ℕ, ◌≤◌, ◌^◌, ◌&&◌, if◌then◌else◌, nat_le, List, [], ◌∷◌, ◌++◌, length, Option, Some, None}
 use Rattle.std.specs.List.Sorted.{IsStrictlyIncreasing}
 use Rattle.std.specs.Option.{option_map, option_or}
@@ -16,7 +16,8 @@ abbrev pub cut_points : ℕ → Cuts → List ℕ
 cut_points height (Levels level) = level_points height level
 cut_points height (Points points) = points.now
 
--- trees of this height may be cut so: at most 8 levels, or at most 255 points, all of them rising between 0 and the number of leaves
+-- trees of this height may be cut so: at most 8 levels, or at most 255 points, all of them rising between 0 and the
+-- number of leaves
 abbrev pub IsInRule : ℕ → Cuts → Type 0
 IsInRule height (Levels level) = (level ≤ height) × (level ≤ 8)
 IsInRule height (Points points) = IsStrictlyIncreasing (0 ∷ points.now ++ 2 ^ height ∷ []) × (length points.now ≤ 255)

@@ -1,4 +1,4 @@
--- The jobs of a signature and of key generation: the leaf ranges of their trees.
+-- The jobs of a signature and of key generation, the leaf ranges of their trees: ours.
 use Rattle.std.specs.Prelude.{ℕ, ◌+◌, ◌-◌, ◌*◌, ◌<◌, ◌^◌, List, ◌++◌, length, map}
 use Rattle.std.specs.List.{flat_map, range_with_len}
 use Rattle.slh_params.specs.Params.{Params}

@@ -1,4 +1,4 @@
-// The cut points of one kind of tree.
+//! The cut points of one kind of tree.
 ghost use Rattle.std.specs.Prelude.{◌≡◌, ℕ, ◌+◌, ◌-◌, ◌*◌, ◌<◌, ◌≤◌, ◌^◌, ◌↔◌, map, Some, None, MatchResult, IsOk, IfOk, OnOk, IfErr};
 ghost use Rattle.std.specs.List.{range_with_len};
 ghost use Rattle.slh_cutting.specs.Points.{first_bad, level_points, ranges};
@@ -17,13 +17,13 @@ pub enum Cuts<'a> {
 }
 
 /// The most cut points that a tree has.
-const MAX_POINTS: usize = 255;
+const MOST_POINTS: usize = 255;
 
 /// The most levels that a tree is cut by.
-const MAX_LEVEL: u32 = 8;
+const MOST_LEVELS: u32 = 8;
 
 /// The points at which trees are cut: the first leaf of each range but the first.
-pub(crate) type CutPoints = ArrayVec<u32, MAX_POINTS>;
+pub(crate) type CutPoints = ArrayVec<u32, MOST_POINTS>;
 
 /// The law that levels cut a tree into 2^level ranges of one size. It does nothing: the law is its contract.
 pub fn levels_cut_evenly()
@@ -38,7 +38,8 @@ pub(crate) fn leaf_count(height: u32) -> u32
     1 << height
 }
 
-/// The cut points of the trees of one kind, which have this height. Refused where the levels or the points are out of rule.
+/// The cut points of the trees of one kind, which have this height. Refused where the levels or the points are out of
+/// rule.
 pub(crate) fn points_of(tree: CutTree, height: u32, cuts: Cuts<'_>) -> Result<CutPoints, CutFault>
     requires { height ≤ 14 }
     ensures points { IfOk result (λ v. v.items ≡ cut_points height cuts.entry) }
@@ -49,7 +50,7 @@ pub(crate) fn points_of(tree: CutTree, height: u32, cuts: Cuts<'_>) -> Result<Cu
 {
     match cuts {
         Cuts::Levels(level) => {
-            if level <= height && level <= MAX_LEVEL {
+            if level <= height && level <= MOST_LEVELS {
                 Ok(level_cuts(height, level))
             } else {
                 Err(CutFault::BadCutting { tree, place: level })
@@ -62,10 +63,10 @@ pub(crate) fn points_of(tree: CutTree, height: u32, cuts: Cuts<'_>) -> Result<Cu
     }
 }
 
-// The points that cut a tree of this height into 2^level ranges of one size.
+/// The points that cut a tree of this height into 2^level ranges of one size.
 fn level_cuts(height: u32, level: u32) -> CutPoints
     requires height { height ≤ 14 }
-    requires level { (level ≤ height) × (level ≤ 8) }
+    requires level { (level ≤ height) × (level ≤ MOST_LEVELS) }
     ensures { result.items ≡ level_points height level }
 {
     let mut kept = ArrayVec::new();
@@ -77,7 +78,7 @@ fn level_cuts(height: u32, level: u32) -> CutPoints
     kept
 }
 
-// A copy of the points, or the index of the first that is out of rule.
+/// A copy of the points, or the index of the first that is out of rule.
 fn kept_points(height: u32, points: &[u32]) -> Result<CutPoints, u32>
     requires { height ≤ 14 }
     ensures { MatchResult result (λ v. (v.items ≡ points.now) × (first_bad (2 ^ height) 0 0 points.now ≡ None)) (λ place. first_bad (2 ^ height) 0 0 points.now ≡ Some place) }
@@ -87,7 +88,7 @@ fn kept_points(height: u32, points: &[u32]) -> Result<CutPoints, u32>
     let mut before = 0;
     for point in points {
         let at = kept.len();
-        if at >= MAX_POINTS || *point <= before || *point >= leaves {
+        if at >= MOST_POINTS || *point <= before || *point >= leaves {
             return Err(at as u32);
         }
         kept.push(*point);

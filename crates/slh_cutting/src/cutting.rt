@@ -1,4 +1,4 @@
-// The cutting of all trees of a parameter set.
+//! The cutting of all trees of a parameter set.
 ghost use Rattle.std.specs.Prelude.{◌≡◌, ℕ, ◌+◌, ◌<◌, ◌≤◌, ◌^◌, ◌↔◌, ◌∷◌, ◌++◌, [], length, Some, None, IsOk, IfOk, OnOk, IfErr, slice_get, slice_index_or};
 ghost use Rattle.slh_params.specs.ParamSet.{params};
 ghost use Rattle.slh_cutting.specs.Points.{EndToEnd, ranges};
@@ -11,8 +11,8 @@ use crate::range::{JobRange, JobTree};
 use slh_params::ParamSet;
 use std::marker::Model;
 
-/// How the trees of a parameter set are cut into ranges of leaves: all XMSS trees in one way, and all FORS trees in one way.
-/// Contracts see the set and, for either kind, the cut points: the first leaves of all ranges but the first.
+/// How the trees of a parameter set are cut into ranges of leaves: all XMSS trees in one way, and all FORS trees in one
+/// way. Contracts see the set and, for either kind, the cut points: the first leaves of all ranges but the first.
 #[derive(Drop)]
 pub struct Cutting {
     set: ParamSet,
@@ -33,8 +33,8 @@ impl Model for Cutting {
 }
 
 impl Cutting {
-    /// The trees of the set, cut as asked for. Refused where the levels or the points of the XMSS trees, or else of the FORS
-    /// trees, are out of rule.
+    /// The trees of the set, cut as asked for. Refused where the levels or the points of the XMSS trees, or else of the
+    /// FORS trees, are out of rule.
     pub fn new(set: ParamSet, xmss: Cuts<'_>, fors: Cuts<'_>) -> Result<Cutting, CutFault>
         ensures points { IfOk result (λ c. c ≡ record { set = set; xmss = cut_points (params set).hp xmss.entry; fors = cut_points (params set).a fors.entry }) }
         ensures in_rule { IsOk result ↔ IsInRule (params set).hp xmss.entry × IsInRule (params set).a fors.entry }
@@ -53,8 +53,8 @@ impl Cutting {
         self.set
     }
 
-    /// The number of ranges of each XMSS tree, at most 256. They have some leaves each and lie end to end, from leaf 0 to the
-    /// last one.
+    /// The number of ranges of each XMSS tree, at most 256. They have some leaves each and lie end to end, from leaf 0
+    /// to the last one.
     pub fn xmss_ranges(&self) -> u32
         ensures count { result ≡ length self.now.xmss + 1 }
         ensures few { result ≤ 256 }
@@ -63,8 +63,8 @@ impl Cutting {
         self.xmss.len() as u32 + 1
     }
 
-    /// The number of ranges of each FORS tree, at most 256. They have some leaves each and lie end to end, from leaf 0 to the
-    /// last one.
+    /// The number of ranges of each FORS tree, at most 256. They have some leaves each and lie end to end, from leaf 0
+    /// to the last one.
     pub fn fors_ranges(&self) -> u32
         ensures count { result ≡ length self.now.fors + 1 }
         ensures few { result ≤ 256 }
@@ -104,7 +104,7 @@ impl Cutting {
         }
     }
 
-    // The points at which the tree is cut.
+    /// The points at which the tree is cut.
     fn points(&self, tree: JobTree) -> &[u32]
         ensures points { result.now ≡ cut_points_of self.now tree }
         ensures end_to_end { EndToEnd 0 (2 ^ height_of (params self.now.set) tree) (tree_ranges self.now tree) }
@@ -115,7 +115,7 @@ impl Cutting {
         }
     }
 
-    // The height of the tree.
+    /// The height of the tree.
     fn height(&self, tree: JobTree) -> u32
         ensures value { result ≡ height_of (params self.now.set) tree }
         ensures low { result ≤ 14 }
@@ -127,7 +127,7 @@ impl Cutting {
     }
 }
 
-// The first leaf of the range `r` of a tree that is cut at these points.
+/// The first leaf of the range `r` of a tree that is cut at these points.
 fn range_start(points: &[u32], r: usize) -> u32
     requires { r ≤ length points.now }
     ensures { result ≡ slice_index_or (0 ∷ points.now) r 0 }
@@ -135,7 +135,7 @@ fn range_start(points: &[u32], r: usize) -> u32
     if r == 0 { 0 } else { points[r - 1] }
 }
 
-// The leaf after the last one of that range.
+/// The leaf after the last one of that range.
 fn range_end(points: &[u32], height: u32, r: usize) -> u32
     requires height { height ≤ 14 }
     requires there { r ≤ length points.now }

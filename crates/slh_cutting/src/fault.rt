@@ -1,4 +1,4 @@
-// Why trees are not cut as asked for.
+//! Why trees are not cut as asked for.
 ghost use Rattle.std.specs.Prelude.{◌≡◌, codes};
 
 use thiserror::Error;

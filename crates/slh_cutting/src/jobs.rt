@@ -1,4 +1,4 @@
-// The numbers of the ranges as jobs.
+//! The numbers of the ranges as jobs.
 ghost use Rattle.std.specs.Prelude.{◌≡◌, ℕ, ◌+◌, ◌-◌, ◌*◌, ◌<◌, ◌≤◌, ◌^◌, length, Some, slice_get};
 ghost use Rattle.slh_params.specs.ParamSet.{params};
 ghost use Rattle.slh_cutting.specs.Jobs.{IsTreeOf, height_of, signing_jobs, key_generation_jobs};
@@ -23,7 +23,8 @@ pub fn keygen_jobs(cutting: &Cutting) -> u32
     times(1, cutting.xmss_ranges())
 }
 
-/// The signing job of this number: first come the ranges of the XMSS trees, from layer 0 on, and then those of the FORS trees.
+/// The signing job of this number: first come the ranges of the XMSS trees, from layer 0 on, and then those of the FORS
+/// trees.
 pub fn job(cutting: &Cutting, number: u32) -> JobRange
     requires { number < length (signing_jobs cutting.now) }
     ensures job { slice_get (signing_jobs cutting.now) number ≡ Some result }
@@ -43,8 +44,8 @@ pub fn job(cutting: &Cutting, number: u32) -> JobRange
     }
 }
 
-/// The key generation job of this number: that range of the XMSS tree of the top layer. The signing job of the same number has
-/// the same leaves of the tree of layer 0.
+/// The key generation job of this number: that range of the XMSS tree of the top layer. The signing job of the same
+/// number has the same leaves of the tree of layer 0.
 pub fn keygen_job(cutting: &Cutting, number: u32) -> JobRange
     requires { number < length (key_generation_jobs cutting.now) }
     ensures job { slice_get (key_generation_jobs cutting.now) number ≡ Some result }
@@ -57,7 +58,7 @@ pub fn keygen_job(cutting: &Cutting, number: u32) -> JobRange
     cutting.job_in(JobTree::Xmss(top as u8), number)
 }
 
-// The ranges of so many trees, each cut into as many.
+/// The ranges of so many trees, each cut into as many.
 fn times(trees: u32, ranges: u32) -> u32
     requires trees { trees ≤ 35 }
     requires ranges { ranges ≤ 256 }

@@ -1,4 +1,4 @@
-// A job: a range of leaves of one tree.
+//! A job: a range of leaves of one tree.
 
 /// One of the trees of a signature.
 #[derive(Clone, Copy, PartialEq, Eq, Debug)]

@@ -4,12 +4,14 @@
 
 pub use disk::Disk;
 pub use files::Files;
+pub use opener::Opener;
 pub use sink::{Sink, WriteFault, Writer, put_all};
 pub use source::{FetchFault, Reader, Source, take_up_to};
 pub use text::{put_number, put_text, put_two};
 
 mod disk;
 mod files;
+mod opener;
 mod retry;
 mod sink;
 mod source;

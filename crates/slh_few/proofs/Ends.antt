@@ -1,7 +1,7 @@
 -- Parts put end to end.
-use Rattle.std.proofs.Common.{◌≡◌, ℕ, zero, suc, ◌+◌, ◌*◌, ◌<◌, ◌≤◌, List, [], ◌++◌, length, take, drop, refl, ap, sym, subst, ◌∙◌, arith, add-one, inl, inr}
+use Rattle.std.proofs.Common.{◌≡◌, ℕ, zero, suc, ◌+◌, ◌-◌, ◌*◌, ◌<◌, ◌≤◌, List, [], ◌++◌, length, take, drop, replicate, get_or, refl, ap, sym, subst, ◌∙◌, arith, add-one, inl, inr}
 use Rattle.std.proofs.lemmas.Bool.{cases_lt}
-use Rattle.std.proofs.lemmas.List.{take-append-le, drop-append-le, length-append, length-drop, drop_at, take_all}
+use Rattle.std.proofs.lemmas.List.{take-append-le, drop-append-le, length-append, length-drop, drop_at, take_all, get_or-append-add, get_or-replicate, get_or_past, length-replicate, drop-replicate}
 use Rattle.std.proofs.Math.Nat.{mul-le-mul_right}
 use Rattle.slh_few.specs.Parts.{end_to_end, part}
 
@@ -71,3 +71,16 @@ pub written_all : (f : ℕ → List ℕ) (k n c : ℕ) (out : List ℕ) → c �
 written_all f k n c out e l h =
     let s : take (k * n) out ≡ end_to_end f k = rw (sym e) h in
     sym (take_all (k * n) out (omega (arith, l))) ∙ s
+
+-- a list of numbers that was written over the front of zeros: zeros follow it
+pub zeros_after : (xs : List ℕ) (k n j : ℕ) → length xs ≡ k → k ≤ j → get_or (xs ++ drop k (replicate n 0)) j 0 ≡ 0
+zeros_after xs k n j e h =
+    let i : ℕ = j - k in
+    let at : j ≡ length xs + i = omega arith in
+    let zeros : get_or (replicate (n - k) 0) i 0 ≡ 0 =
+    elim (cases_lt i (n - k)) [
+      | inl lt ↦ get_or-replicate (n - k) i 0 0 lt
+      | inr ge ↦ get_or_past (replicate (n - k) 0) i 0 (omega (arith, length-replicate {A = ℕ} (n - k) 0))
+    ] in
+    ap (λ c. get_or (xs ++ drop k (replicate n 0)) c 0) at ∙ get_or-append-add xs (drop k (replicate n 0)) i 0
+    ∙ ap (λ ys. get_or ys i 0) (drop-replicate k n 0) ∙ zeros

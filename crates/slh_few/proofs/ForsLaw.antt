@@ -13,7 +13,7 @@ use Rattle.slh_tree.specs.Tree.{root}
 use Rattle.slh_tree.specs.Climb.{path, climb, path_node}
 use Rattle.slh_tree.proofs.Authentic.{climb-path, length-path_below}
 use Rattle.slh_few.specs.Parts.{end_to_end, part}
-use Rattle.slh_few.specs.Fors.{fors_secret, fors_leaf, fors_tree, fors_index, fors_part_len, fors_part, fors_sig, fors_root, fors_key, compressed_roots}
+use Rattle.slh_few.specs.Fors.{fors_secret, fors_leaf, fors_tree, fors_index, fors_part_len, fors_part, fors_sig, fors_root, fors_pk_from_sig, compressed_roots}
 use Rattle.slh_few.specs.Trees.{fors_tree-lawful}
 use Rattle.slh_few.proofs.Climbing.{climb_to-join}
 use Rattle.slh_few.proofs.Ends.{part-end_to_end, end_to_end-same}
@@ -58,11 +58,11 @@ root-part s sk pk t i md j l =
     ∙ climb-path tree (fors_tree-lawful s sk pk t i j) x (index_lt p md j)
 
 -- the signature's key is T over the roots
-pub fors_key-fors_sig : (s : ParamSet) (sk pk : List ℕ) (t i : ℕ) (md : List ℕ)
-    → fors_key (params s) pk t i md (fors_sig (params s) sk pk t i md)
+pub fors_pk_from_sig-fors_sig : (s : ParamSet) (sk pk : List ℕ) (t i : ℕ) (md : List ℕ)
+    → fors_pk_from_sig (params s) pk t i md (fors_sig (params s) sk pk t i md)
     ≡ compressed_roots (params s) pk t i (λ j. root (fors_tree (params s) sk pk t i j))
-unfolding fors_key
-fors_key-fors_sig s sk pk t i md =
+unfolding fors_pk_from_sig
+fors_pk_from_sig-fors_sig s sk pk t i md =
     let p = params s in
     let sig = fors_sig p sk pk t i md in
     ap (λ x. T p pk (address 0 t 4 i 0 0) x)

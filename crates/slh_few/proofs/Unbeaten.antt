@@ -9,7 +9,7 @@ use Rattle.std.proofs.lemmas.List.Sums.{sum_by-cons}
 use Rattle.std.proofs.lemmas.Int.Digits.{number_lt, number_push, number_more}
 use Rattle.std.proofs.lemmas.Nat.{pow_pos, pow-add}
 use Rattle.std.proofs.Math.Nat.{pow-zero}
-use Rattle.slh_params.specs.AdrsBytes.{AllBytes}
+use Rattle.slh_params.specs.Bits.{AllBytes}
 use Rattle.slh_params.specs.Bits.{base_2b, bit_group, to_byte, to_int}
 use Rattle.slh_params.proofs.Bytes.{below, AllBytes-to_byte, to_int-to_byte}
 use Rattle.slh_params.proofs.Windows.{window, window-split, window-byte, window-lt}

@@ -6,7 +6,7 @@ use Rattle.std.proofs.lemmas.Bool.{cases_lt}
 use Rattle.std.proofs.lemmas.List.{take_all, get_or_past, get_or_append_left, get_or-append-add}
 use Rattle.std.proofs.lemmas.List.Sums.{sum-map, sum_by-cons}
 use Rattle.std.proofs.lemmas.Nat.{pow_pos}
-use Rattle.slh_params.specs.AdrsBytes.{AllBytes}
+use Rattle.slh_params.specs.Bits.{AllBytes}
 use Rattle.slh_params.specs.ParamSet.{params}
 use Rattle.slh_params.specs.Params.{w, len1, len2, ceil_div}
 use Rattle.slh_params.specs.declared.param_set.ParamSet.{ParamSet}

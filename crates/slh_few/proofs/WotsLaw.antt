@@ -3,7 +3,7 @@ use Rattle.std.proofs.Common.{◌≡◌, ℕ, ◌+◌, ◌-◌, ◌*◌, ◌<◌
 use Rattle.slh_params.specs.Params.{Params, w, len}
 use Rattle.slh_hash.specs.Hash.{T}
 use Rattle.slh_few.specs.Parts.{end_to_end, part}
-use Rattle.slh_few.specs.Wots.{chain, digit, secret, wots_address, whole_chain, signed_chain, finished_chain, wots_pk, wots_sig, wots_key}
+use Rattle.slh_few.specs.Wots.{chain, digit, secret, wots_address, whole_chain, signed_chain, finished_chain, wots_pk, wots_sig, wots_pk_from_sig}
 use Rattle.slh_few.specs.declared.place.Place.{Place}
 use Rattle.slh_hash.proofs.Lengths.{length-PRF}
 use Rattle.slh_few.proofs.Chains.{length-chain, chain-split}
@@ -41,9 +41,9 @@ finished p sk pk at m h c l =
     ∙ ap (λ s. chain p pk at c x 0 s) total
 
 -- the signature's key is the public key
-pub wots_key-wots_sig : (p : Params) (sk pk : List ℕ) (at : Place) (m : List ℕ) → p.n ≤ 32
-    → wots_key p pk at m (wots_sig p sk pk at m) ≡ wots_pk p sk pk at
-unfolding wots_key wots_pk
-wots_key-wots_sig p sk pk at m h =
+pub wots_pk_from_sig-wots_sig : (p : Params) (sk pk : List ℕ) (at : Place) (m : List ℕ) → p.n ≤ 32
+    → wots_pk_from_sig p pk at m (wots_sig p sk pk at m) ≡ wots_pk p sk pk at
+unfolding wots_pk_from_sig wots_pk
+wots_pk_from_sig-wots_sig p sk pk at m h =
     ap (λ x. T p pk (wots_address at 1 0 0) x)
     (end_to_end-same (finished_chain p pk at m (wots_sig p sk pk at m)) (whole_chain p sk pk at) (len p) (finished p sk pk at m h))

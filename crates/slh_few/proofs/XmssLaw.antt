@@ -7,11 +7,11 @@ use Rattle.slh_params.proofs.Table.{n_small}
 use Rattle.slh_tree.specs.Tree.{root}
 use Rattle.slh_tree.specs.Climb.{path, climb, path_node}
 use Rattle.slh_tree.proofs.Authentic.{climb-path, length-path_below}
-use Rattle.slh_few.specs.Wots.{wots_sig, wots_key, wots_pk}
-use Rattle.slh_few.specs.Xmss.{xmss_tree, xmss_sig, xmss_key, xmss_sig_len, wots_sig_len}
+use Rattle.slh_few.specs.Wots.{wots_sig, wots_pk_from_sig, wots_pk}
+use Rattle.slh_few.specs.Xmss.{xmss_tree, xmss_sig, xmss_pk_from_sig, xmss_sig_len, wots_sig_len}
 use Rattle.slh_few.specs.Trees.{xmss_tree-lawful}
 use Rattle.slh_few.specs.declared.place.Place.{Place}
-use Rattle.slh_few.proofs.WotsLaw.{length-wots_sig, wots_key-wots_sig}
+use Rattle.slh_few.proofs.WotsLaw.{length-wots_sig, wots_pk_from_sig-wots_sig}
 use Rattle.slh_few.proofs.Climbing.{climb_to-join}
 
 -- the front of two strings put end to end
@@ -31,10 +31,10 @@ length-xmss_sig s sk pk at m =
     )
 
 -- the signature's root is the tree's
-pub xmss_key-xmss_sig : (s : ParamSet) (sk pk : List ℕ) (at : Place) (m : List ℕ) → at.pair < 2 ^ (params s).hp
-    → xmss_key (params s) pk at m (xmss_sig (params s) sk pk at m) ≡ root (xmss_tree (params s) sk pk at.layer at.tree)
-unfolding xmss_key xmss_sig
-xmss_key-xmss_sig s sk pk at m h =
+pub xmss_pk_from_sig-xmss_sig : (s : ParamSet) (sk pk : List ℕ) (at : Place) (m : List ℕ) → at.pair < 2 ^ (params s).hp
+    → xmss_pk_from_sig (params s) pk at m (xmss_sig (params s) sk pk at m) ≡ root (xmss_tree (params s) sk pk at.layer at.tree)
+unfolding xmss_pk_from_sig xmss_sig
+xmss_pk_from_sig-xmss_sig s sk pk at m h =
     let p = params s in
     let W = wots_sig p sk pk at m in
     let t = xmss_tree p sk pk at.layer at.tree in
@@ -42,8 +42,8 @@ xmss_key-xmss_sig s sk pk at m h =
     let l = length-wots_sig p sk pk at m (n_small s) in
     let front : take (wots_sig_len p) (W ++ path t at.pair) ≡ W = take_front W (path t at.pair) (wots_sig_len p) l in
     let back : drop (wots_sig_len p) (W ++ path t at.pair) ≡ path t at.pair = drop_at W (path t at.pair) (wots_sig_len p) l in
-    ap (λ xs. climb u at.pair (wots_key p pk at m xs) (drop (wots_sig_len p) (W ++ path t at.pair))) front
-    ∙ ap (λ ys. climb u at.pair (wots_key p pk at m W) ys) back
-    ∙ ap (λ x. climb u at.pair x (path t at.pair)) (wots_key-wots_sig p sk pk at m (n_small s))
+    ap (λ xs. climb u at.pair (wots_pk_from_sig p pk at m xs) (drop (wots_sig_len p) (W ++ path t at.pair))) front
+    ∙ ap (λ ys. climb u at.pair (wots_pk_from_sig p pk at m W) ys) back
+    ∙ ap (λ x. climb u at.pair x (path t at.pair)) (wots_pk_from_sig-wots_sig p sk pk at m (n_small s))
     ∙ climb_to-join u t at.pair (wots_pk p sk pk at) (path_node p.n (path t at.pair)) p.hp refl
     ∙ climb-path t (xmss_tree-lawful s sk pk at.layer at.tree) at.pair h

@@ -54,5 +54,5 @@ abbrev pub compressed_roots : Params → List ℕ → ℕ → ℕ → (ℕ → L
 compressed_roots p pk t i roots = T p pk (address 0 t FORS_ROOTS i 0 0) (end_to_end roots p.k)
 
 -- the public key that a signature gives (Algorithm 17)
-unfoldable pub fors_key : Params → List ℕ → ℕ → ℕ → List ℕ → List ℕ → List ℕ
-fors_key p pk t i md sig = compressed_roots p pk t i (λ j. fors_root p pk t i md j (part (fors_part_len p) sig j))
+unfoldable pub fors_pk_from_sig : Params → List ℕ → ℕ → ℕ → List ℕ → List ℕ → List ℕ
+fors_pk_from_sig p pk t i md sig = compressed_roots p pk t i (λ j. fors_root p pk t i md j (part (fors_part_len p) sig j))

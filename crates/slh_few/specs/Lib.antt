@@ -4,6 +4,8 @@ pub mod Xmss
 pub mod Hypertree
 pub mod Fors
 pub mod Trees
+-- cited by public clauses
+pub use Rattle.slh_params.specs.Bits
 pub use Rattle.slh_params.specs.Params
 pub use Rattle.slh_params.specs.ParamSet
 pub use Rattle.slh_tree.specs.Tree

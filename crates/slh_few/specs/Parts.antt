@@ -1,6 +1,5 @@
--- Byte strings made of parts.
-use Rattle.std.specs.Prelude.{ℕ, zero, suc, ◌*◌, ◌<◌, List, [], ◌++◌, take, drop}
-use Rattle.std.specs.List.{All}
+-- Byte strings made of parts: ours.
+use Rattle.std.specs.Prelude.{ℕ, zero, suc, ◌*◌, List, [], ◌++◌, take, drop}
 
 -- part 0 ‖ part 1 ‖ .. ‖ part (count - 1)
 unfoldable pub end_to_end : (ℕ → List ℕ) → ℕ → List ℕ
@@ -10,7 +9,3 @@ end_to_end part (suc count) = end_to_end part count ++ part count
 -- part c of the bytes, which are parts of one size
 abbrev pub part : ℕ → List ℕ → ℕ → List ℕ
 part size bytes c = take size (drop (c * size) bytes)
-
--- numbers that are bytes
-abbrev pub AllBytes : List ℕ → Type 0
-AllBytes xs = All (λ x. x < 256) xs

@@ -1,4 +1,4 @@
--- `XmssTree` and `ForsTree` as trees, whose nodes have n bytes.
+-- `XmssTree` and `ForsTree` as trees, whose nodes have n bytes: ours.
 use Rattle.std.proofs.Common.{◌≡◌, ℕ, ◌≤◌, List, length}
 use Rattle.slh_params.specs.Params.{Params}
 use Rattle.slh_params.specs.ParamSet.{params}
@@ -40,7 +40,7 @@ fors_tree-lawful s sk pk t i j = record {
   join_width = λ z v x y. length-T (params s) pk _ _ (n_small s);
 }
 
--- the same, of what `XmssTree` and `ForsTree` are
+-- so have those that `XmssTree` and `ForsTree` are
 pub xmss-lawful : (t : XmssTree) → Lawful (xmss_tree_of t)
 unfolding xmss_tree_of
 xmss-lawful t = xmss_tree-lawful t.seeds.set t.seeds.sk_seed.now t.seeds.pk_seed.now t.layer t.tree

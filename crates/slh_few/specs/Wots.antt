@@ -73,8 +73,8 @@ abbrev pub finished_chain : Params → List ℕ → Place → List ℕ → List 
 finished_chain p pk at m sig c = chain p pk at c (part p.n sig c) (digit p m c) (w p - 1 - digit p m c)
 
 -- the public key that a signature gives (Algorithm 8)
-unfoldable pub wots_key : Params → List ℕ → Place → List ℕ → List ℕ → List ℕ
-wots_key p pk at m sig = compressed_ends p pk at (finished_chain p pk at m sig)
+unfoldable pub wots_pk_from_sig : Params → List ℕ → Place → List ℕ → List ℕ → List ℕ
+wots_pk_from_sig p pk at m sig = compressed_ends p pk at (finished_chain p pk at m sig)
 
 -- the first digits are nowhere below the second
 abbrev pub NowhereBelow : List ℕ → List ℕ → Type 0

@@ -5,7 +5,7 @@ use Rattle.slh_params.specs.Params.{Params, len}
 use Rattle.slh_hash.specs.Hash.{H}
 use Rattle.slh_tree.specs.Tree.{MerkleTree}
 use Rattle.slh_tree.specs.Climb.{path, climb}
-use Rattle.slh_few.specs.Wots.{wots_pk, wots_sig, wots_key}
+use Rattle.slh_few.specs.Wots.{wots_pk, wots_sig, wots_pk_from_sig}
 use Rattle.slh_few.specs.declared.place.Place.{Place}
 
 -- the place with these numbers
@@ -33,7 +33,7 @@ unfoldable pub xmss_sig : Params → List ℕ → List ℕ → Place → List �
 xmss_sig p sk pk at m = wots_sig p sk pk at m ++ path (xmss_tree p sk pk at.layer at.tree) at.pair
 
 -- the root that a signature gives (Algorithm 11); climbing makes no leaf, so that no SK.seed is needed
-unfoldable pub xmss_key : Params → List ℕ → Place → List ℕ → List ℕ → List ℕ
-xmss_key p pk at m sig =
+unfoldable pub xmss_pk_from_sig : Params → List ℕ → Place → List ℕ → List ℕ → List ℕ
+xmss_pk_from_sig p pk at m sig =
     climb (xmss_tree p [] pk at.layer at.tree) at.pair
-    (wots_key p pk at m (take (wots_sig_len p) sig)) (drop (wots_sig_len p) sig)
+    (wots_pk_from_sig p pk at m (take (wots_sig_len p) sig)) (drop (wots_sig_len p) sig)

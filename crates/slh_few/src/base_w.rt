@@ -4,7 +4,7 @@
 ghost use Rattle.std.specs.Prelude.{◌≡◌, ℕ, List, ◌-◌, ◌*◌, ◌≤◌, ◌<◌, length, take, slice_index};
 ghost use Rattle.slh_params.specs.Params.{len, w};
 ghost use Rattle.slh_params.specs.ParamSet.{params};
-ghost use Rattle.slh_few.specs.Parts.{AllBytes};
+ghost use Rattle.slh_params.specs.Bits.{AllBytes};
 ghost use Rattle.slh_few.specs.Wots.{digits as digits_of, digit, checksum, checksum_bytes, NowhereBelow};
 
 use crate::nodes::bytes_of;
@@ -67,6 +67,7 @@ pub(crate) fn digits_of(set: ParamSet, msg: &Node) -> [u32; MOST_DIGITS]
     ensures digits { (c : ℕ) → c < len (params set) → slice_index result c
         ≡ digit (params set) msg.now.items c }
     ensures small { (c : ℕ) → c < len (params set) → slice_index result c ≤ LAST_STEP }
+    ensures rest { (c : ℕ) → len (params set) ≤ c → slice_index result c ≡ 0 }
 {
     let mut out = [0; MOST_DIGITS];
     let count = set.len();

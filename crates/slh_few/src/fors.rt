@@ -5,7 +5,7 @@ ghost use Rattle.slh_params.specs.ParamSet.{params};
 ghost use Rattle.slh_hash.specs.Seeded.{IsSeeded};
 ghost use Rattle.slh_tree.specs.Tree.{root as root_of};
 ghost use Rattle.slh_tree.specs.Climb.{path as path_of, climb as climb_of};
-ghost use Rattle.slh_few.specs.Fors.{fors_tree, fors_leaf, fors_secret, fors_part_len, fors_sig, fors_key, compressed_roots};
+ghost use Rattle.slh_few.specs.Fors.{fors_tree, fors_leaf, fors_secret, fors_part_len, fors_sig, fors_pk_from_sig, compressed_roots};
 ghost use Rattle.slh_few.specs.Parts.{part};
 
 use crate::fors_parts::{fors_indices, fors_roots};
@@ -40,7 +40,7 @@ fn sign_tree(seeded_tree: &SeededForsTree, i: u32, out: &mut [u8])
     path(seeded_tree, i, auth);
 }
 
-/// The same from `start` on.
+/// Writes the secret of leaf `i`, then the leaf's path, from `start` on.
 fn put_tree(seeded_tree: &SeededForsTree, i: u32, out: &mut [u8], start: usize)
     requires leaf { i < 2 ^ (params seeded_tree.now.tree.seeds.set).a }
     requires out { start + fors_part_len (params seeded_tree.now.tree.seeds.set) ≤ length out.old }
@@ -67,7 +67,7 @@ pub fn fors_sign(seeds: &Seeds, idx_tree: u64, idx_leaf: u32, md: &[u8], out: &m
         out.new ≡ fors_sig p sk pk idx_tree idx_leaf md.now }
     ensures key { let p = params seeds.now.set in let sk = seeds.now.sk_seed.now in
         let pk = seeds.now.pk_seed.now in
-        fors_key p pk idx_tree idx_leaf md.now out.new
+        fors_pk_from_sig p pk idx_tree idx_leaf md.now out.new
         ≡ compressed_roots p pk idx_tree idx_leaf
         (λ j. root_of (fors_tree p sk pk idx_tree idx_leaf j)) }
 {
@@ -102,7 +102,7 @@ fn root_from(seeded_tree: &SeededForsTree, i: u32, sig: &[u8]) -> Node
     climb(seeded_tree, i, &leaf, auth)
 }
 
-/// The same, from the signatures of all trees.
+/// The root of the tree that its part of a whole signature gives for leaf `i`.
 fn root_at(seeded_tree: &SeededForsTree, i: u32, sig: &[u8]) -> Node
     requires leaf { i < 2 ^ (params seeded_tree.now.tree.seeds.set).a }
     requires sig { let t = seeded_tree.now.tree in let p = params t.seeds.set in
@@ -132,7 +132,7 @@ pub fn fors_pk_from_sig(
     requires sig { let p = params public.now.set in
         length sig.now ≡ p.k * fors_part_len p }
     ensures value { let p = params public.now.set in let pk = public.now.pk_seed.now in
-        result.items ≡ fors_key p pk idx_tree idx_leaf md.now sig.now }
+        result.items ≡ fors_pk_from_sig p pk idx_tree idx_leaf md.now sig.now }
     ensures len { length result.items ≡ (params public.now.set).n }
 {
     let indices = fors_indices(public.set, md);

@@ -1,6 +1,6 @@
 //! The parts of a FORS signature one at a time, for signers that make its trees in an order of their own
 //! (FIPS 205, section 8).
-ghost use Rattle.std.specs.Prelude.{[], ◌≡◌, ℕ, ◌+◌, ◌*◌, ◌^◌, ◌<◌, length, slice_index};
+ghost use Rattle.std.specs.Prelude.{[], ◌≡◌, ℕ, ◌+◌, ◌*◌, ◌^◌, ◌≤◌, ◌<◌, length, slice_index};
 ghost use Rattle.slh_params.specs.Address.{address, FORS_ROOTS};
 ghost use Rattle.slh_params.specs.Params.{md_len};
 ghost use Rattle.slh_params.specs.ParamSet.{params};
@@ -12,15 +12,17 @@ use crate::place::{Public, Seeds};
 use slh_hash::{SeededHash, TStream};
 use slh_params::{AdrsType, Node, ParamSet, base_2b};
 
-/// The most FORS trees of any set.
+/// At least the FORS trees of any set.
 pub const MOST_TREES: usize = 64;
 
 /// The leaf of each tree that a digest of md_len bytes asks for, with zeros after them (Algorithm 16,
 /// line 2).
 pub fn fors_indices(set: ParamSet, md: &[u8]) -> [u32; MOST_TREES]
     requires { length md.now ≡ md_len (params set) }
-    ensures { (j : ℕ) → j < (params set).k → slice_index result j
+    ensures few { (params set).k ≤ MOST_TREES }
+    ensures indices { (j : ℕ) → j < (params set).k → slice_index result j
         ≡ fors_index (params set) md.now j }
+    ensures rest { (j : ℕ) → (params set).k ≤ j → slice_index result j ≡ 0 }
 {
     let mut indices = [0; MOST_TREES];
     let count = set.k() as usize;

@@ -6,7 +6,9 @@ ghost use Rattle.slh_params.specs.ParamSet.{params};
 ghost use Rattle.slh_hash.specs.Seeded.{IsSeeded};
 ghost use Rattle.slh_hash.specs.Stream.{IsSeededTree};
 ghost use Rattle.slh_few.specs.Fors.{fors_tree, fors_leaf, fors_secret};
+ghost use Rattle.slh_few.specs.declared.fors_parts.TheConstants.{MOST_TREES};
 
+use crate::fors_parts::MOST_TREES;
 use crate::place::Seeds;
 use slh_hash::{SeededHash, SeededTreeHash};
 use slh_params::{Adrs, AdrsType, Node};
@@ -19,7 +21,7 @@ pub struct ForsTree<'a> {
     pub(crate) idx_tree: u64,
     pub(crate) idx_leaf: u32,
     pub(crate) tree_no: u32,
-    ghost small: { tree_no < 64 },
+    ghost small: { tree_no < MOST_TREES },
 }
 
 /// The FORS address of a type, a height and an index.
@@ -36,15 +38,15 @@ pub(crate) fn fors_adrs(
     adrs.set_tree(idx_tree);
     adrs.set_type_and_clear(kind);
     adrs.set_key_pair(idx_leaf);
-    adrs.set_chain(height);
-    adrs.set_hash(index);
+    adrs.set_tree_height(height);
+    adrs.set_tree_index(index);
     adrs
 }
 
 /// The index that node `index` of tree `tree_no` has among the nodes of its height of all trees.
 /// A tree has 2 ^ `levels` nodes of that height.
 pub(crate) fn index_in_forest(tree_no: u32, levels: u32, index: u32) -> u32
-    requires tree { tree_no < 64 }
+    requires tree { tree_no < MOST_TREES }
     requires levels { levels ≤ 14 }
     requires index { index < 2 ^ levels }
     ensures { result ≡ tree_no * 2 ^ levels + index }
@@ -67,7 +69,7 @@ impl<'a> ForsTree<'a> {
         Self::at(seeds, idx_tree, idx_leaf, tree_no)
     }
 
-    /// The same, by its fields.
+    /// Tree `tree_no` of the FORS key at leaf `idx_leaf` of tree `idx_tree`, by its fields.
     pub(crate) fn at(seeds: &Seeds<'a>, idx_tree: u64, idx_leaf: u32, tree_no: u32) -> Self
         requires { tree_no < (params seeds.now.set).k }
         ensures seeds { result.seeds ≡ seeds.now }
@@ -151,7 +153,7 @@ impl<'a> Tree for ForsTree<'a> {
     }
 }
 
-/// A FORS tree with the hash states that one call of `fors_sign` makes for the leaves and the nodes of all its trees.
+/// A FORS tree with the hash states that one call makes for the leaves and the nodes of all its trees.
 #[derive(Drop)]
 pub(crate) struct SeededForsTree<'s, 'h> {
     pub(crate) tree: ForsTree<'s>,

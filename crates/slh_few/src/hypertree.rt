@@ -1,11 +1,11 @@
 //! The hypertree: layers of XMSS trees, each key of which signs the root of a tree below
 //! (FIPS 205, section 7).
-ghost use Rattle.std.specs.Prelude.{◌≡◌, ◌+◌, ◌-◌, ◌*◌, ◌^◌, ◌≤◌, ◌<◌, ◌↔◌, ◌++◌, IsTrue, length, take};
+ghost use Rattle.std.specs.Prelude.{◌≡◌, ℕ, ◌+◌, ◌-◌, ◌*◌, ◌^◌, ◌≤◌, ◌<◌, ◌↔◌, ◌++◌, IsTrue, length, slice_index_or, take};
 ghost use Rattle.slh_params.specs.Params.{h, len};
 ghost use Rattle.slh_params.specs.ParamSet.{params};
 ghost use Rattle.slh_tree.specs.Tree.{root as root_of};
-ghost use Rattle.slh_few.specs.Xmss.{xmss_tree, xmss_sig, xmss_key, xmss_sig_len};
-ghost use Rattle.slh_few.specs.Hypertree.{place_above, layer_place, ht_sig, ht_key};
+ghost use Rattle.slh_few.specs.Xmss.{xmss_tree, xmss_sig, xmss_pk_from_sig, xmss_sig_len};
+ghost use Rattle.slh_few.specs.Hypertree.{place_above, layer_place, ht_sig, ht_root_from_sig};
 ghost use Rattle.slh_few.specs.Parts.{part};
 
 use crate::place::{Place, Public, Seeds};
@@ -43,6 +43,30 @@ pub fn layer_place(set: ParamSet, idx_tree: u64, idx_leaf: u32, layer: u8) -> Pl
     at
 }
 
+/// At least the layers of any set.
+pub const MOST_LAYERS: usize = 22;
+
+/// The places of all d layers, from layer 0 on: the trees that stand above leaf `idx_leaf` of tree `idx_tree` of layer
+/// 0, and the leaf of each (Algorithm 12, lines 7 and 8). In places after the d-th stands that of layer 0.
+pub fn layer_places(set: ParamSet, idx_tree: u64, idx_leaf: u32) -> [Place; MOST_LAYERS]
+    requires { idx_leaf < 2 ^ (params set).hp }
+    ensures few { (params set).d ≤ MOST_LAYERS }
+    ensures places { (l : ℕ) (place : Place) → l < (params set).d
+        → slice_index_or result l place ≡ layer_place (params set) idx_tree idx_leaf l }
+{
+    let mut at = Place {
+        layer: 0,
+        tree: idx_tree,
+        pair: idx_leaf,
+    };
+    let mut places = [at; MOST_LAYERS];
+    for layer in 0..set.d() as u8 {
+        places[layer as usize] = at;
+        at = place_above(set, at, layer + 1);
+    }
+    places
+}
+
 /// The length of the signature of one layer: (len + h') * n bytes.
 pub fn xmss_sig_len(set: ParamSet) -> usize
     ensures value { result ≡ xmss_sig_len (params set) }
@@ -65,7 +89,8 @@ fn put_layer(seeds: &Seeds, at: Place, msg: &Node, out: &mut [u8], start: usize)
     xmss_sign(seeds, at, msg, &mut out[start..end]);
 }
 
-/// The same, and the root of the layer's tree, which the next layer signs.
+/// Writes the signature of one layer from `start` on, and gives the root of the layer's tree, which the next layer
+/// signs.
 fn sign_layer(seeds: &Seeds, at: Place, msg: &Node, out: &mut [u8], start: usize) -> Node
     requires pair { at.pair < 2 ^ (params seeds.now.set).hp }
     requires msg { length msg.now.items ≡ (params seeds.now.set).n }
@@ -76,7 +101,7 @@ fn sign_layer(seeds: &Seeds, at: Place, msg: &Node, out: &mut [u8], start: usize
         ++ xmss_sig p sk pk at msg.now.items }
     ensures root { let p = params seeds.now.set in let sk = seeds.now.sk_seed.now in
         let pk = seeds.now.pk_seed.now in
-        result.items ≡ xmss_key p pk at msg.now.items (xmss_sig p sk pk at msg.now.items) }
+        result.items ≡ xmss_pk_from_sig p pk at msg.now.items (xmss_sig p sk pk at msg.now.items) }
     ensures len { length result.items ≡ (params seeds.now.set).n }
 {
     let end = start + xmss_sig_len(seeds.set);
@@ -102,7 +127,7 @@ pub fn ht_sign(seeds: &Seeds, idx_tree: u64, idx_leaf: u32, msg: &Node, out: &mu
         out.new ≡ ht_sig p sk pk msg.now.items idx_tree idx_leaf }
     ensures key { let p = params seeds.now.set in let sk = seeds.now.sk_seed.now in
         let pk = seeds.now.pk_seed.now in
-        ht_key p pk msg.now.items idx_tree idx_leaf out.new
+        ht_root_from_sig p pk msg.now.items idx_tree idx_leaf out.new
         ≡ root_of (xmss_tree p sk pk (p.d - 1) 0) }
 {
     let size = xmss_sig_len(seeds.set);
@@ -129,7 +154,7 @@ fn root_from(public: &Public, at: Place, msg: &Node, sig: &[u8], layer: usize) -
     requires sig { let p = params public.now.set in
         layer * xmss_sig_len p + xmss_sig_len p ≤ length sig.now }
     ensures value { let p = params public.now.set in let pk = public.now.pk_seed.now in
-        result.items ≡ xmss_key p pk at msg.now.items (part (xmss_sig_len p) sig.now layer) }
+        result.items ≡ xmss_pk_from_sig p pk at msg.now.items (part (xmss_sig_len p) sig.now layer) }
     ensures len { length result.items ≡ (params public.now.set).n }
 {
     let size = xmss_sig_len(public.set);
@@ -138,13 +163,13 @@ fn root_from(public: &Public, at: Place, msg: &Node, sig: &[u8], layer: usize) -
 }
 
 /// The root of the top tree that a signature gives (Algorithm 13, lines 1 to 12).
-fn ht_key(public: &Public, idx_tree: u64, idx_leaf: u32, msg: &Node, sig: &[u8]) -> Node
+fn ht_root_from_sig(public: &Public, idx_tree: u64, idx_leaf: u32, msg: &Node, sig: &[u8]) -> Node
     requires leaf { idx_leaf < 2 ^ (params public.now.set).hp }
     requires msg { length msg.now.items ≡ (params public.now.set).n }
     requires sig { let p = params public.now.set in
         length sig.now ≡ p.d * xmss_sig_len p }
     ensures { let p = params public.now.set in let pk = public.now.pk_seed.now in
-        result.items ≡ ht_key p pk msg.now.items idx_tree idx_leaf sig.now }
+        result.items ≡ ht_root_from_sig p pk msg.now.items idx_tree idx_leaf sig.now }
 {
     let mut at = Place {
         layer: 0,
@@ -174,8 +199,8 @@ pub fn ht_verify(
     requires sig { let p = params public.now.set in
         length sig.now ≡ p.d * xmss_sig_len p }
     ensures { let p = params public.now.set in let pk = public.now.pk_seed.now in
-        IsTrue result ↔ ht_key p pk msg.now.items idx_tree idx_leaf sig.now ≡ root.now }
+        IsTrue result ↔ ht_root_from_sig p pk msg.now.items idx_tree idx_leaf sig.now ≡ root.now }
 {
-    let key = ht_key(public, idx_tree, idx_leaf, msg, sig);
-    key.as_slice() == root
+    let node = ht_root_from_sig(public, idx_tree, idx_leaf, msg, sig);
+    node.as_slice() == root
 }

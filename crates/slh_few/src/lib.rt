@@ -19,7 +19,7 @@ pub use base_w::digits;
 pub use fors::{fors_part_len, fors_pk_from_sig, fors_sign};
 pub use fors_parts::{MOST_TREES, fors_indices, fors_roots, fors_secret};
 pub use fors_tree::ForsTree;
-pub use hypertree::{ht_sign, ht_verify, layer_place, xmss_sig_len};
+pub use hypertree::{MOST_LAYERS, ht_sign, ht_verify, layer_place, layer_places, xmss_sig_len};
 pub use place::{Place, Public, Seeds};
 pub use ranges::{fors_range, xmss_range};
 pub use wots::{MOST_WOTS_SIG_LEN, chain, wots_pk, wots_pk_from_sig, wots_sig_len, wots_sign};

@@ -1,17 +1,9 @@
-//! Nodes as parts of byte strings.
-ghost use Rattle.std.specs.Prelude.{◌≡◌, ◌+◌, ◌*◌, ◌≤◌, ◌++◌, length, take};
-ghost use Rattle.slh_few.specs.Parts.{AllBytes, part};
+//! Nodes as byte strings, and as parts of them.
+ghost use Rattle.std.specs.Prelude.{◌≡◌, ◌+◌, ◌*◌, ◌≤◌, length};
+ghost use Rattle.slh_params.specs.Bits.{AllBytes};
+ghost use Rattle.slh_few.specs.Parts.{part};
 
 use slh_params::{Node, node_of};
-
-/// Writes a node's bytes from `start` on.
-pub(crate) fn put_node(out: &mut [u8], start: usize, node: &Node)
-    requires { start + length node.now.items ≤ length out.old }
-    ensures { take (start + length node.now.items) out.new ≡ take start out.old ++ node.now.items }
-{
-    let end = start + node.len();
-    out[start..end].copy_from_slice(node);
-}
 
 /// Node number `index` of the bytes, which are nodes of one size.
 pub(crate) fn node_at(bytes: &[u8], size: usize, index: usize) -> Node
@@ -30,6 +22,7 @@ pub(crate) fn bytes_of(node: &Node) -> &[u8]
     ensures bytes { AllBytes node.now.items }
 {
     let bytes = node.as_slice();
+    // For the prover: what a node holds are bytes.
     let _count = bytes.len();
     bytes
 }

@@ -1,9 +1,8 @@
 //! The covers of ranges of leaves of the two kinds of trees, for a tree that several calls share.
-ghost use Rattle.std.specs.Prelude.{◌≡◌, ℕ, ◌^◌, ◌≤◌, ◌<◌, Some};
+ghost use Rattle.std.specs.Prelude.{◌≡◌, ◌^◌, ◌≤◌, ◌<◌};
 ghost use Rattle.slh_params.specs.ParamSet.{params};
 ghost use Rattle.slh_tree.specs.Cover.{IsCover};
-ghost use Rattle.slh_tree.specs.Record.{known, LiesInRange};
-ghost use Rattle.slh_tree.specs.Tree.{sibling};
+ghost use Rattle.slh_tree.specs.Record.{Gains, LiesInRange};
 ghost use Rattle.slh_few.specs.Xmss.{xmss_tree};
 ghost use Rattle.slh_few.specs.Fors.{fors_tree};
 
@@ -25,19 +24,16 @@ pub fn xmss_range(seeds: &Seeds, layer: u8, tree: u64, lo: u32, hi: u32, rec: &m
         IsCover (xmss_tree p sk pk layer tree) lo hi result.nodes.items }
     ensures lo { result.lo ≡ lo }
     ensures hi { result.hi ≡ hi }
-    ensures height { rec.new.height ≡ rec.old.height }
-    ensures leaf { rec.new.leaf ≡ rec.old.leaf }
-    ensures noted { let p = params seeds.now.set in let sk = seeds.now.sk_seed.now in
+    ensures gained { let p = params seeds.now.set in let sk = seeds.now.sk_seed.now in
         let pk = seeds.now.pk_seed.now in
-        (j : ℕ) → j < p.hp → LiesInRange lo hi rec.old.leaf j
-        → known rec.new j ≡ Some (sibling (xmss_tree p sk pk layer tree) rec.old.leaf j) }
-    ensures kept { (j : ℕ) → (LiesInRange lo hi rec.old.leaf j → ⊥)
-        → known rec.new j ≡ known rec.old j }
+        Gains (xmss_tree p sk pk layer tree) (LiesInRange lo hi rec.old.leaf) rec.old rec.new }
 {
     hash_range(&SeededXmssTree::new(seeds, layer, tree), lo, hi, rec)
 }
 
-/// The same of FORS tree `tree_no` of the key at leaf `idx_leaf` of tree `idx_tree`. The hash states are made once.
+/// The cover of the leaves from `lo` to `hi`, `hi` left out, of FORS tree `tree_no` of the key at leaf `idx_leaf` of
+/// tree `idx_tree`. The record, of a leaf of that FORS tree, gains exactly those nodes of its path whose leaves all lie
+/// in the range. The hash states are made once.
 #[tactic(auto, unfolding(crate::specs::Trees::fors_tree_of))]
 pub fn fors_range(
     seeds: &Seeds,
@@ -57,15 +53,9 @@ pub fn fors_range(
         IsCover (fors_tree p sk pk idx_tree idx_leaf tree_no) lo hi result.nodes.items }
     ensures lo { result.lo ≡ lo }
     ensures hi { result.hi ≡ hi }
-    ensures height { rec.new.height ≡ rec.old.height }
-    ensures leaf { rec.new.leaf ≡ rec.old.leaf }
-    ensures noted { let p = params seeds.now.set in let sk = seeds.now.sk_seed.now in
+    ensures gained { let p = params seeds.now.set in let sk = seeds.now.sk_seed.now in
         let pk = seeds.now.pk_seed.now in
-        (j : ℕ) → j < p.a → LiesInRange lo hi rec.old.leaf j
-        → known rec.new j
-        ≡ Some (sibling (fors_tree p sk pk idx_tree idx_leaf tree_no) rec.old.leaf j) }
-    ensures kept { (j : ℕ) → (LiesInRange lo hi rec.old.leaf j → ⊥)
-        → known rec.new j ≡ known rec.old j }
+        Gains (fors_tree p sk pk idx_tree idx_leaf tree_no) (LiesInRange lo hi rec.old.leaf) rec.old rec.new }
 {
     let seeded = SeededHash::new(seeds.set, seeds.pk_seed);
     let joins = SeededTreeHash::new(seeds.set, seeds.pk_seed);

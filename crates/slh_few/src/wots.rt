@@ -4,14 +4,14 @@ ghost use Rattle.slh_params.specs.AdrsType.{type_number};
 ghost use Rattle.slh_params.specs.Params.{Params, len, w};
 ghost use Rattle.slh_params.specs.ParamSet.{params};
 ghost use Rattle.slh_hash.specs.Seeded.{IsSeeded};
-ghost use Rattle.slh_few.specs.Wots.{wots_address, chain as chain_of, secret, whole_chain, wots_pk, wots_sig, wots_key};
+ghost use Rattle.slh_few.specs.Wots.{wots_address, chain as chain_of, secret, whole_chain, wots_pk, wots_sig, wots_pk_from_sig};
 ghost use Rattle.slh_few.specs.Xmss.{wots_sig_len};
 
 use crate::base_w::{LAST_STEP, digits_of};
-use crate::nodes::{node_at, put_node};
+use crate::nodes::node_at;
 use crate::place::{Place, Public, Seeds};
 use slh_hash::{SeededHash, TStream};
-use slh_params::{Adrs, AdrsType, Node, ParamSet, copy_of};
+use slh_params::{Adrs, AdrsType, Node, ParamSet, copy_of, put_node};
 
 /// The WOTS+ address of a type at a place: a chain, and a step of it.
 fn wots_adrs(at: Place, kind: AdrsType, chain: u32, hash: u32) -> Adrs
@@ -90,13 +90,13 @@ pub fn wots_pk(seeds: &Seeds, at: Place) -> Node
     ends.finish()
 }
 
-/// The most bytes of a signature, in any set.
+/// The most bytes of a WOTS+ signature in any set.
 pub const MOST_WOTS_SIG_LEN: usize = 2144;
 
 /// The length of a signature: len * n bytes.
 pub fn wots_sig_len(set: ParamSet) -> usize
     ensures value { result ≡ wots_sig_len (params set) }
-    ensures small { result ≤ 2144 }
+    ensures small { result ≤ MOST_WOTS_SIG_LEN }
 {
     set.len() * set.n()
 }
@@ -109,7 +109,7 @@ pub fn wots_sign(seeds: &Seeds, at: Place, msg: &Node, out: &mut [u8])
     ensures signature { let p = params seeds.now.set in let sk = seeds.now.sk_seed.now in
         let pk = seeds.now.pk_seed.now in
         out.new ≡ wots_sig p sk pk at msg.now.items }
-    ensures key { wots_key (params seeds.now.set) seeds.now.pk_seed.now at msg.now.items out.new
+    ensures key { wots_pk_from_sig (params seeds.now.set) seeds.now.pk_seed.now at msg.now.items out.new
         ≡ wots_pk (params seeds.now.set) seeds.now.sk_seed.now seeds.now.pk_seed.now at }
 {
     let seeded = SeededHash::new(seeds.set, seeds.pk_seed);
@@ -126,7 +126,7 @@ pub fn wots_pk_from_sig(public: &Public, at: Place, msg: &Node, sig: &[u8]) -> N
     requires msg { length msg.now.items ≡ (params public.now.set).n }
     requires sig { length sig.now ≡ len (params public.now.set) * (params public.now.set).n }
     ensures value { let p = params public.now.set in let pk = public.now.pk_seed.now in
-        result.items ≡ wots_key p pk at msg.now.items sig.now }
+        result.items ≡ wots_pk_from_sig p pk at msg.now.items sig.now }
     ensures len { length result.items ≡ (params public.now.set).n }
 {
     let seeded = SeededHash::new(public.set, public.pk_seed);

@@ -6,7 +6,7 @@ ghost use Rattle.slh_params.specs.Params.{len};
 ghost use Rattle.slh_params.specs.ParamSet.{params};
 ghost use Rattle.slh_hash.specs.Stream.{IsSeededTree};
 ghost use Rattle.slh_tree.specs.Tree.{root as root_of};
-ghost use Rattle.slh_few.specs.Xmss.{xmss_tree, xmss_sig, xmss_key, xmss_sig_len};
+ghost use Rattle.slh_few.specs.Xmss.{xmss_tree, xmss_sig, xmss_pk_from_sig, xmss_sig_len};
 
 use crate::place::{Place, Public, Seeds};
 use crate::wots::{wots_pk, wots_pk_from_sig, wots_sign};
@@ -55,8 +55,8 @@ impl<'a> XmssTree<'a> {
         adrs.set_layer(self.layer);
         adrs.set_tree(self.tree);
         adrs.set_type_and_clear(AdrsType::Tree);
-        adrs.set_chain(z);
-        adrs.set_hash(i);
+        adrs.set_tree_height(z);
+        adrs.set_tree_index(i);
         seeded.h(&adrs, l, r)
     }
 }
@@ -151,7 +151,7 @@ pub fn xmss_sign(seeds: &Seeds, at: Place, msg: &Node, out: &mut [u8])
         out.new ≡ xmss_sig p sk pk at msg.now.items }
     ensures key { let p = params seeds.now.set in let sk = seeds.now.sk_seed.now in
         let pk = seeds.now.pk_seed.now in
-        xmss_key p pk at msg.now.items out.new ≡ root_of (xmss_tree p sk pk at.layer at.tree) }
+        xmss_pk_from_sig p pk at msg.now.items out.new ≡ root_of (xmss_tree p sk pk at.layer at.tree) }
 {
     let (wots, auth) = out.split_at_mut(seeds.set.len() * seeds.set.n());
     wots_sign(seeds, at, msg, wots);
@@ -168,7 +168,7 @@ pub fn xmss_pk_from_sig(public: &Public, at: Place, msg: &Node, sig: &[u8]) -> N
     requires msg { length msg.now.items ≡ (params public.now.set).n }
     requires sig { length sig.now ≡ xmss_sig_len (params public.now.set) }
     ensures value { let p = params public.now.set in let pk = public.now.pk_seed.now in
-        result.items ≡ xmss_key p pk at msg.now.items sig.now }
+        result.items ≡ xmss_pk_from_sig p pk at msg.now.items sig.now }
     ensures len { length result.items ≡ (params public.now.set).n }
 {
     let (wots, auth) = sig.split_at(public.set.len() * public.set.n());

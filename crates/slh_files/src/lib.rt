@@ -1,4 +1,4 @@
-//! Key files of SLH-DSA.
+//! Key files of SLH-DSA, and the calls of vector files from where they stand.
 //!
 //! A key file has three lines: `slh-dsa-public 1` or `slh-dsa-secret 1`, the name of a parameter
 //! set, and the bytes of the key as hexadecimal digits.
@@ -8,6 +8,8 @@ pub use fault::FileFault;
 pub use key_file::{read_public, read_secret};
 pub use key_kind::KeyKind;
 pub use key_text::{write_public, write_secret, written_is_read};
+pub use slh_devices::{Sink, WriteFault};
+pub use slh_vectors::{Outcome, Test, VectorFault, read_vectors, report, run_test, run_vectors};
 
 mod digits;
 mod fault;

@@ -118,7 +118,8 @@ fn refuses_other_files(rt: HostRuntime) -> Result<(), Fail> {
     Ok(())
 }
 
-/// The refusal of a file cut to `len` bytes, of which the digits end before byte `end`: its number, or 0 where they are all there.
+/// The refusal of a file cut to `len` bytes, of which the digits end before byte `end`: its number, or 0 where they are
+/// all there.
 fn cut_status(len: usize, end: usize) -> u8 {
     match len {
         0..=16 => 11,

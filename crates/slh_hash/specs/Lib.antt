@@ -1,5 +1,5 @@
 pub mod HashFunctions
 pub mod Hash
 pub mod Keyed
-pub mod Stream
 pub mod Seeded
+pub mod Stream

@@ -1,4 +1,4 @@
--- What the hashers of H and T_l hold.
+-- What the hashers of H and T_l hold. Ours, over FIPS 205, section 11.2.
 use Rattle.std.specs.Prelude.{◌≡◌, ℕ, ◌-◌, List, ◌++◌, true, false, ◌==◌}
 use Rattle.sha2.specs.Hashers.{Holds256, Holds512}
 use Rattle.slh_params.specs.Address.{Address}

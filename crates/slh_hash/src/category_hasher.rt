@@ -1,9 +1,10 @@
+//! The running hash of a security category: SHA-256 or SHA-512 (FIPS 205, section 11.2).
 ghost use Rattle.std.specs.Prelude.{◌≡◌, ◌≤◌, ◌++◌, ℕ, List, [], take};
 ghost use Rattle.slh_params.specs.Params.{Params};
 ghost use Rattle.slh_params.specs.ParamSet.{params};
 ghost use Rattle.slh_hash.specs.HashFunctions.{category_function};
 
-use super::tweakable::truncated;
+use crate::tweakable::truncated;
 use sha2::{Digest, Sha256, Sha512};
 use slh_params::{Node, ParamSet};
 

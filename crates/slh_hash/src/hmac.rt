@@ -1,9 +1,10 @@
+//! HMAC (FIPS 198-1) over SHA-256 and SHA-512.
 ghost use Rattle.std.specs.Prelude.{◌≡◌, ◌+◌, ◌≤◌, ◌++◌, length};
 ghost use Rattle.slh_hash.specs.HashFunctions.{SHA_256, SHA_512};
 ghost use Rattle.slh_hash.specs.Keyed.{joined, filled, key_block, xor_each, hmac};
 
-use super::hash_function::{DigestBytes, HashFunctionOf, absorb};
-use super::tweakable::zeros;
+use crate::hash_function::{DigestBytes, HashFunctionOf, absorb};
+use crate::tweakable::zeros;
 use arrayvec::ArrayVec;
 use sha2::{Digest, Sha256, Sha512};
 
@@ -87,6 +88,7 @@ fn append(block: &mut Block, bytes: &[u8])
 fn xor_each(block: &Block, pad: u8) -> Block
     ensures { result.items ≡ xor_each pad block.now.items }
 {
+    // For the prover: a block has at most 128 bytes.
     let _fits = block.len();
     let mut padded = Block::new();
     for byte in block.as_slice() {

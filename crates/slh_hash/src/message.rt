@@ -1,12 +1,13 @@
+//! The message hashes PRF_msg and H_msg (FIPS 205, section 11.2).
 ghost use Rattle.std.specs.Prelude.{◌≡◌, ◌≤◌, ◌^◌, length};
 ghost use Rattle.slh_hash.specs.Keyed.{joined, mgf1, PRF_msg, H_msg, h_msg_seed};
 ghost use Rattle.slh_params.specs.Params.{m};
 ghost use Rattle.slh_params.specs.ParamSet.{params};
 
-use super::hash_function::{HashFunctionOf, absorb};
-use super::hmac::hmac_of;
-use super::mgf1::mgf1_of;
-use super::tweakable::truncated;
+use crate::hash_function::{HashFunctionOf, absorb};
+use crate::hmac::hmac_of;
+use crate::mgf1::mgf1_of;
+use crate::tweakable::truncated;
 use sha2::{Sha256, Sha512};
 use slh_params::{Node, ParamSet};
 

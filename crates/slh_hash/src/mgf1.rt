@@ -1,9 +1,10 @@
+//! MGF1 (RFC 8017, section B.2.1) over SHA-256 and SHA-512.
 ghost use Rattle.std.specs.Prelude.{◌≡◌, ◌≤◌, ◌^◌, ◌++◌, length};
 ghost use Rattle.slh_hash.specs.HashFunctions.{SHA_256, SHA_512};
 ghost use Rattle.slh_hash.specs.Keyed.{joined, mgf1};
 ghost use Rattle.slh_params.specs.Bits.{to_byte};
 
-use super::hash_function::{DigestBytes, HashFunctionOf, absorb};
+use crate::hash_function::{DigestBytes, HashFunctionOf, absorb};
 use sha2::{Sha256, Sha512};
 
 /// MGF1-SHA-256 (RFC 8017, B.2.1) of the parts put end to end, as many bytes as `out` has, at most 2^32.

@@ -1,3 +1,4 @@
+//! F and PRF under one PK.seed (FIPS 205, section 11.2).
 ghost use Rattle.std.specs.Prelude.{◌≡◌, ℕ, List, [], length};
 ghost use Rattle.sha2.specs.Hashers.{Holds256};
 ghost use Rattle.slh_params.specs.Params.{Params};
@@ -6,7 +7,7 @@ ghost use Rattle.slh_hash.specs.Hash.{F, PRF, tweaked_hash};
 ghost use Rattle.slh_hash.specs.HashFunctions.{SHA_256};
 ghost use Rattle.slh_hash.specs.Seeded.{IsSeeded};
 
-use super::tweakable::{truncated, zeros};
+use crate::tweakable::{truncated, zeros};
 use sha2::{Digest, Sha256};
 use slh_params::{Adrs, Node, ParamSet};
 

@@ -1,3 +1,4 @@
+//! T and H under one PK.seed (FIPS 205, section 11.2).
 ghost use Rattle.std.specs.Prelude.{◌≡◌, ◌++◌, ℕ, List, [], length};
 ghost use Rattle.slh_params.specs.Params.{Params};
 ghost use Rattle.slh_params.specs.ParamSet.{params};
@@ -6,8 +7,8 @@ ghost use Rattle.slh_hash.specs.Hash.{T, H};
 ghost use Rattle.slh_hash.specs.HashFunctions.{category_function};
 ghost use Rattle.slh_hash.specs.Stream.{HasAbsorbed, IsSeededTree};
 
-use super::category_hasher::CategoryHasher;
-use super::tweakable::zeros;
+use crate::category_hasher::CategoryHasher;
+use crate::tweakable::zeros;
 use slh_params::{Adrs, Node, ParamSet};
 
 /// H and T_l under one PK.seed: the hash function of the category after its first block, which PK.seed and

@@ -1,3 +1,4 @@
+//! F, H and PRF of one input each (FIPS 205, section 11.2).
 ghost use Rattle.std.specs.Prelude.{◌≡◌, ◌-◌, ◌≤◌, ◌++◌, [], length, take};
 ghost use Rattle.sha2.specs.Hashers.{Holds256, Holds512};
 ghost use Rattle.slh_params.specs.Params.{Params};
@@ -6,8 +7,8 @@ ghost use Rattle.slh_params.specs.Bits.{to_byte};
 ghost use Rattle.slh_params.specs.Address.{compressed};
 ghost use Rattle.slh_hash.specs.Hash.{F, PRF, T, H, tweaked};
 
-use super::seeded_hash::SeededHash;
-use super::t_stream::SeededTreeHash;
+use crate::seeded_hash::SeededHash;
+use crate::t_stream::SeededTreeHash;
 use slh_params::{Adrs, Node, ParamSet};
 
 const ZEROS: [u8; 128] = [0; 128];

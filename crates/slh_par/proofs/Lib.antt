@@ -1,4 +1,3 @@
 pub mod PathLaw
 pub mod Joined
 pub mod Assembled
-pub mod AnswerLists

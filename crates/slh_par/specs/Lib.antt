@@ -1,7 +1,6 @@
 pub mod Paths
 pub mod Parts
 pub mod ParFault
-pub mod Answers
 pub mod Verdicts
 -- cited by public clauses
 pub use Rattle.slh_params.specs.Params

@@ -1,4 +1,4 @@
--- The refusals of parallel calls, by number and name.
+-- The refusals of parallel calls, by number and name: ours.
 use Rattle.std.specs.Prelude.{ℕ, List, codes}
 use Rattle.slh_workers.specs.declared.fault.RunFault.{RunFault}
 use Rattle.slh_workers.specs.declared.fault.RunFault.TheVariants.{NoMemory as RunNoMemory, Stopped as RunStopped}

@@ -1,4 +1,5 @@
--- The parts of one signature, which `SigningTrees` names: its FORS trees and the XMSS tree of each layer, and what each adds.
+-- The parts of one signature, which `SigningTrees` names: its FORS trees and the XMSS tree of each layer, and what each
+-- adds (FIPS 205, sections 7 and 8).
 use Rattle.std.specs.Prelude.{◌≡◌, ℕ, ◌+◌, ◌*◌, ◌^◌, ◌<◌, List, ◌++◌, length, slice_index_or}
 use Rattle.arrayvec.specs.ArrayVec.{ArrayVec}
 use Rattle.slh_params.specs.Params.{Params}
@@ -33,8 +34,8 @@ abbrev pub AreTreesOf : SigningTrees → List JoinedTree → Type 0
 AreTreesOf s xs = AreJoined (params_of s) s.seeds.sk_seed.now s.seeds.pk_seed.now s.idx_tree s.idx_leaf s.md.now xs
 
 -- the FORS public key: T over the roots of the FORS trees
-abbrev pub fors_key_in : SigningTrees → List ℕ
-fors_key_in s = compressed_roots (params_of s) s.seeds.pk_seed.now s.idx_tree s.idx_leaf (λ j. root (fors_tree_in s j))
+abbrev pub pk_fors_in : SigningTrees → List ℕ
+pk_fors_in s = compressed_roots (params_of s) s.seeds.pk_seed.now s.idx_tree s.idx_leaf (λ j. root (fors_tree_in s j))
 
 -- the secret of leaf v of FORS tree j, then that leaf's path
 abbrev pub fors_part_in : SigningTrees → ℕ → ℕ → List ℕ

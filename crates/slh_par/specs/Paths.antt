@@ -1,4 +1,4 @@
--- The nodes of a path record as bytes.
+-- The nodes of a path record as bytes: ours.
 use Rattle.std.specs.Prelude.{ℕ, List, [], Option, None, Some}
 use Rattle.slh_tree.specs.Record.{KnownPath, known}
 

@@ -1,4 +1,4 @@
-// Key generation by several threads.
+//! Key generation by several threads.
 ghost use Rattle.std.specs.Prelude.{◌≡◌, length, IfOk, IfErr};
 ghost use Rattle.slh_params.specs.ParamSet.{params};
 ghost use Rattle.slh_core.specs.Keys.{generated_key, IsGeneratedKey};
@@ -15,8 +15,8 @@ use std::alloc::Allocator;
 use std::thread::Threads;
 
 /// The secret key of three seeds of n bytes each (FIPS 205, Algorithm 18), by several workers: that of
-/// `slh_core::keygen_internal`. Refused: `NoMemory` where a growth was refused, then `Stopped` where the gate stopped the run. It
-/// waits only for the threads that it started.
+/// `slh_core::keygen_internal`. Refused: `NoMemory` where a growth was refused, then `Stopped` where the gate stopped
+/// the run. It waits only for the threads that it started.
 pub fn keygen_par<R: Threads + Sync, A: Allocator + Clone + Send + Sync, G: Gate>(
     rt: &R,
     alloc: A,

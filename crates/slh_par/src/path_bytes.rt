@@ -1,18 +1,10 @@
-// Paths as bytes of a signature.
+//! Paths as bytes of a signature.
 ghost use Rattle.std.specs.Prelude.{◌≡◌, ℕ, ◌+◌, ◌*◌, ◌<◌, ◌≤◌, ◌++◌, length, take};
 ghost use Rattle.slh_few.specs.Parts.{end_to_end};
 ghost use Rattle.slh_par.specs.Paths.{node_bytes};
 
+use slh_params::put_node;
 use slh_tree::PathRec;
-
-/// Writes bytes from `start` on.
-pub(crate) fn put(out: &mut [u8], start: usize, bytes: &[u8])
-    requires { start + length bytes.now ≤ length out.old }
-    ensures { take (start + length bytes.now) out.new ≡ take start out.old ++ bytes.now }
-{
-    let end = start + bytes.len();
-    out[start..end].copy_from_slice(bytes);
-}
 
 /// Writes the path's node of height `level` from `start` on, where it is known.
 fn put_known(path: &PathRec, level: u32, out: &mut [u8], start: usize)
@@ -20,7 +12,7 @@ fn put_known(path: &PathRec, level: u32, out: &mut [u8], start: usize)
     ensures { take (start + length (node_bytes path.now level)) out.new ≡ take start out.old ++ node_bytes path.now level }
 {
     if let Some(node) = path.at(level) {
-        put(out, start, node.as_slice());
+        put_node(out, start, node);
     }
 }
 

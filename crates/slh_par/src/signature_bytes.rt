@@ -1,21 +1,21 @@
-// The bytes of a signature, from its trees and its WOTS+ signatures.
+//! The bytes of a signature, from its trees and its WOTS+ signatures.
 ghost use Rattle.std.specs.Prelude.{◌≡◌, ◌*◌, ◌++◌, length};
-ghost use Rattle.slh_params.specs.Params.{md_len, sig_len};
+ghost use Rattle.slh_params.specs.Params.{sig_len};
 ghost use Rattle.slh_few.specs.Fors.{fors_part_len};
 ghost use Rattle.slh_few.specs.Xmss.{xmss_sig_len};
-ghost use Rattle.slh_par.specs.Parts.{params_of, AreTreesOf, fors_key_in, fors_sig_in, ht_sig_in, AreLayerSigs};
+ghost use Rattle.slh_par.specs.Parts.{params_of, AreTreesOf, pk_fors_in, fors_sig_in, ht_sig_in, AreLayerSigs};
 
 use crate::tree_parts::{put_fors_part, put_layer_part};
 use crate::wots_signing::WotsSig;
-use slh_core::fors_sig_len;
-use slh_few::{Public, fors_indices, fors_part_len, fors_roots, xmss_sig_len};
+use slh_core::signing_steps::fors_sig_len;
+use slh_few::{Public, fors_part_len, fors_roots, xmss_sig_len};
 use slh_params::Node;
 use slh_subtrees::{JoinedTree, SigningTrees};
 
 /// The FORS public key: T over the roots of the k FORS trees (FIPS 205, Algorithm 17, lines 21 to 24).
-pub(crate) fn fors_key(trees: &SigningTrees, joined: &[JoinedTree]) -> Node
+pub(crate) fn pk_fors_of(trees: &SigningTrees, joined: &[JoinedTree]) -> Node
     requires joined { AreTreesOf trees.now joined.now }
-    ensures value { result.items ≡ fors_key_in trees.now }
+    ensures value { result.items ≡ pk_fors_in trees.now }
     ensures len { length result.items ≡ (params_of trees.now).n }
 {
     let set = trees.seeds.set;
@@ -34,33 +34,32 @@ pub(crate) fn fors_key(trees: &SigningTrees, joined: &[JoinedTree]) -> Node
 /// Writes the FORS signature: of each FORS tree the secret that the digest asks for and its path (Algorithm 16).
 fn put_fors(trees: &SigningTrees, joined: &[JoinedTree], out: &mut [u8])
     requires joined { AreTreesOf trees.now joined.now }
-    requires md { length trees.now.md.now ≡ md_len (params_of trees.now) }
     requires out { length out.old ≡ (params_of trees.now).k * fors_part_len (params_of trees.now) }
     ensures { out.new ≡ fors_sig_in trees.now }
 {
     let set = trees.seeds.set;
-    let indices = fors_indices(set, trees.md);
     let first = set.d() as usize;
     let size = fors_part_len(set);
     for j in 0..set.k() {
         let tree = &joined[first + j as usize];
-        put_fors_part(trees, j, indices[j as usize], tree, out, j as usize * size);
+        let index = trees.fors_index(j);
+        put_fors_part(trees, j, index, tree, out, j as usize * size);
     }
 }
 
-/// Writes the hypertree signature: of each layer the WOTS+ signature of the root below it, at layer 0 of `key`, and the path of
-/// the leaf that signs (Algorithm 12).
+/// Writes the hypertree signature: of each layer the WOTS+ signature of the root below it, at layer 0 of `pk_fors`, and
+/// the path of the leaf that signs (Algorithm 12).
 fn put_layers(
     trees: &SigningTrees,
-    key: &Node,
+    pk_fors: &Node,
     joined: &[JoinedTree],
     sigs: &[WotsSig],
     out: &mut [u8],
 )
     requires joined { AreTreesOf trees.now joined.now }
-    requires sigs { AreLayerSigs trees.now key.now.items sigs.now }
+    requires sigs { AreLayerSigs trees.now pk_fors.now.items sigs.now }
     requires out { length out.old ≡ (params_of trees.now).d * xmss_sig_len (params_of trees.now) }
-    ensures { out.new ≡ ht_sig_in trees.now key.now.items }
+    ensures { out.new ≡ ht_sig_in trees.now pk_fors.now.items }
 {
     let set = trees.seeds.set;
     let size = xmss_sig_len(set);
@@ -71,26 +70,25 @@ fn put_layers(
     }
 }
 
-/// Writes a signature: R, the FORS signature, the hypertree signature of the FORS public key `key` (Algorithm 19).
+/// Writes a signature: R, the FORS signature, the hypertree signature of the FORS public key `pk_fors` (Algorithm 19).
 pub(crate) fn put_signature(
     r: &Node,
     trees: &SigningTrees,
-    key: &Node,
+    pk_fors: &Node,
     joined: &[JoinedTree],
     sigs: &[WotsSig],
     out: &mut [u8],
 )
     requires r { length r.now.items ≡ (params_of trees.now).n }
     requires joined { AreTreesOf trees.now joined.now }
-    requires md { length trees.now.md.now ≡ md_len (params_of trees.now) }
-    requires sigs { AreLayerSigs trees.now key.now.items sigs.now }
+    requires sigs { AreLayerSigs trees.now pk_fors.now.items sigs.now }
     requires out { length out.old ≡ sig_len (params_of trees.now) }
-    ensures { out.new ≡ r.now.items ++ (fors_sig_in trees.now ++ ht_sig_in trees.now key.now.items) }
+    ensures { out.new ≡ r.now.items ++ (fors_sig_in trees.now ++ ht_sig_in trees.now pk_fors.now.items) }
 {
     let set = trees.seeds.set;
     let (front, rest) = out.split_at_mut(set.n());
     front.copy_from_slice(r.as_slice());
-    let (fors, tree) = rest.split_at_mut(fors_sig_len(set));
-    put_fors(trees, joined, fors);
-    put_layers(trees, key, joined, sigs, tree);
+    let (sig_fors, sig_ht) = rest.split_at_mut(fors_sig_len(set));
+    put_fors(trees, joined, sig_fors);
+    put_layers(trees, pk_fors, joined, sigs, sig_ht);
 }

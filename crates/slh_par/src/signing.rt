@@ -1,4 +1,4 @@
-// Signing by several threads.
+//! Signing by several threads.
 ghost use Rattle.std.specs.Prelude.{◌≡◌, ◌≤◌, ◌++◌, length, OnOk, OnErr, IfErr};
 ghost use Rattle.slh_params.specs.Params.{m, sig_len};
 ghost use Rattle.slh_params.specs.ParamSet.{params};
@@ -8,39 +8,43 @@ ghost use Rattle.slh_core.specs.Randomizers.{HasLength};
 ghost use Rattle.slh_core.specs.Signatures.{signature_of_digest, signature_by, IsValid};
 ghost use Rattle.slh_workers.specs.declared.fault.RunFault.TheVariants.{Stopped};
 
-use crate::signature_bytes::{fors_key, put_signature};
+use crate::parallel::Parallel;
+use crate::signature_bytes::{pk_fors_of, put_signature};
 use crate::wots_signing::layer_sigs;
-use slh_core::{MAX_DIGEST_LEN, Randomizer, SecretKey, cut_digest, randomized_digest};
-use slh_cutting::Cutting;
+use slh_core::signing_steps::{MOST_DIGEST_LEN, randomized_digest};
+use slh_core::{Randomizer, SecretKey, cut_digest};
 use slh_few::Seeds;
 use slh_params::Node;
 use slh_subtrees::{SigningTrees, join_trees};
-use slh_workers::{Gate, NoMemory, RunFault, Workers};
+use slh_workers::{Gate, NoMemory, RunFault};
 use std::alloc::Allocator;
 use std::thread::Threads;
 
-/// Writes R and what follows it in the signature of a digest (FIPS 205, Algorithm 19, lines 5 to 18). The trees are made by
-/// workers that share the ranges of the cutting, then the WOTS+ signatures of the layers; the bytes are written last, so that a
-/// refusal writes none.
+/// Writes R and what follows it in the signature of a digest (FIPS 205, Algorithm 19, lines 5 to 18). The trees are
+/// made by workers that share the ranges of the cutting, then the WOTS+ signatures of the layers; the bytes are written
+/// last, so that a refusal writes none.
 fn sign_digest_par<R: Threads + Sync, A: Allocator + Clone + Send + Sync, G: Gate>(
-    rt: &R,
-    alloc: A,
+    parallel: Parallel<'_, R, A, G>,
     r: &Node,
     digest: &[u8],
     sk: &SecretKey,
-    workers: Workers,
-    cutting: &Cutting,
-    gate: &G,
     out: &mut [u8],
 ) -> Result<(), RunFault>
     requires r { length r.now.items ≡ (params sk.now.set).n }
     requires digest { length digest.now ≡ m (params sk.now.set) }
-    requires cutting { cutting.now.set ≡ sk.now.set }
+    requires cutting { parallel.cutting.now.set ≡ sk.now.set }
     requires out { length out.old ≡ sig_len (params sk.now.set) }
     ensures signature { OnOk result (out.new ≡ r.now.items ++ signature_of_digest sk.now digest.now) }
     ensures refused { OnErr result (out.new ≡ out.old) }
-    ensures stopped { IfErr result (λ fault. fault ≡ Stopped → G.may_stop gate.now) }
+    ensures stopped { IfErr result (λ fault. fault ≡ Stopped → G.may_stop parallel.entry.gate.now) }
 {
+    let Parallel {
+        rt,
+        alloc,
+        workers,
+        cutting,
+        gate,
+    } = parallel;
     let set = sk.set();
     let seeds = Seeds {
         set,
@@ -51,34 +55,30 @@ fn sign_digest_par<R: Threads + Sync, A: Allocator + Clone + Send + Sync, G: Gat
     let trees = SigningTrees::new(&seeds, cut.idx_tree, cut.idx_leaf, &digest[..set.md_len()]);
     let layers = alloc.clone().map_err(NoMemory::from)?;
     let joined = join_trees(rt, alloc, &trees, workers, cutting, gate)?;
-    let key = fors_key(&trees, &joined);
-    let sigs = layer_sigs(rt, layers, &trees, &key, &joined, workers)?;
-    put_signature(r, &trees, &key, &joined, &sigs, out);
+    let pk_fors = pk_fors_of(&trees, &joined);
+    let sigs = layer_sigs(rt, layers, &trees, &pk_fors, &joined, workers)?;
+    put_signature(r, &trees, &pk_fors, &joined, &sigs, out);
     Ok(())
 }
 
 /// Writes the signature of the parts put end to end, `sig_len` bytes (Algorithm 19), by several workers.
 pub(crate) fn sign_parts_par<R: Threads + Sync, A: Allocator + Clone + Send + Sync, G: Gate>(
-    rt: &R,
-    alloc: A,
+    parallel: Parallel<'_, R, A, G>,
     parts: &[&[u8]],
     sk: &SecretKey,
     randomizer: Randomizer,
-    workers: Workers,
-    cutting: &Cutting,
-    gate: &G,
     out: &mut [u8],
 ) -> Result<(), RunFault>
     requires randomizer { HasLength randomizer (params sk.now.set).n }
-    requires cutting { cutting.now.set ≡ sk.now.set }
+    requires cutting { parallel.cutting.now.set ≡ sk.now.set }
     requires out { length out.old ≡ sig_len (params sk.now.set) }
     ensures signature { OnOk result (out.new ≡ signature_by sk.now (joined parts.now) randomizer.entry) }
     ensures authentic { OnOk result (IsGeneratedKey sk.now → IsValid (public_of sk.now) (joined parts.now) out.new) }
     ensures refused { OnErr result (out.new ≡ out.old) }
-    ensures stopped { IfErr result (λ fault. fault ≡ Stopped → G.may_stop gate.now) }
+    ensures stopped { IfErr result (λ fault. fault ≡ Stopped → G.may_stop parallel.entry.gate.now) }
 {
-    let mut buffer = [0; MAX_DIGEST_LEN];
+    let mut buffer = [0; MOST_DIGEST_LEN];
     let digest = &mut buffer[..sk.set().m()];
     let r = randomized_digest(parts, sk, randomizer, digest);
-    sign_digest_par(rt, alloc, &r, digest, sk, workers, cutting, gate, out)
+    sign_digest_par(parallel, &r, digest, sk, out)
 }

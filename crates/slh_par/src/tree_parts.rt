@@ -1,4 +1,4 @@
-// What one tree adds to a signature.
+//! What one tree adds to a signature.
 ghost use Rattle.std.specs.Prelude.{◌≡◌, ◌+◌, ◌^◌, ◌<◌, ◌≤◌, ◌++◌, length, take};
 ghost use Rattle.slh_few.specs.Fors.{fors_part_len};
 ghost use Rattle.slh_few.specs.Xmss.{wots_sig_len, xmss_sig_len};
@@ -29,7 +29,7 @@ fn fors_part(trees: &SigningTrees, tree_no: u32, index: u32, joined: &JoinedTree
     put_path(&joined.path, set.a(), set.n(), auth);
 }
 
-/// The same from `start` on.
+/// Writes the secret of leaf `index` of FORS tree `tree_no`, then the leaf's path, from `start` on.
 pub(crate) fn put_fors_part(
     trees: &SigningTrees,
     tree_no: u32,
@@ -61,7 +61,7 @@ fn layer_part(trees: &SigningTrees, layer: u8, wots: &[u8], joined: &JoinedTree,
     put_path(&joined.path, set.hp(), set.n(), auth);
 }
 
-/// The same from `start` on.
+/// Writes a WOTS+ signature, then the path of the leaf of its key, from `start` on.
 pub(crate) fn put_layer_part(
     trees: &SigningTrees,
     layer: u8,

@@ -1,7 +1,7 @@
-// One signature to verify.
+//! One signature to verify.
 ghost use Rattle.std.specs.Prelude.{◌↔◌, IsTrue};
 
-use slh_core::{PreHash, PublicKey, hash_verify, verify};
+use slh_core::{Form, PreHash, PublicKey};
 
 /// A signature to verify, with all that says what it should be a signature of. Any bytes may stand in it.
 #[derive(Clone, Copy)]
@@ -21,13 +21,10 @@ pub struct VerifyItem<'a> {
 impl<'a> VerifyItem<'a> {
     ghost use Rattle.slh_par.specs.Verdicts.{IsVerified};
 
-    /// Whether the signature is valid: `verify` or `hash_verify` of `slh_core` (FIPS 205, Algorithms 24 and 25).
+    /// Whether the signature is valid: `Form::verify` of `slh_core` (FIPS 205, Algorithms 24 and 25).
     pub fn is_valid(&self) -> bool
         ensures { IsTrue result ↔ IsVerified self.now }
     {
-        match self.prehash {
-            None => verify(self.msg, self.ctx, self.sig, self.pk),
-            Some(function) => hash_verify(self.msg, self.ctx, function, self.sig, self.pk),
-        }
+        Form::with(self.prehash).verify(self.msg, self.ctx, self.sig, self.pk)
     }
 }

@@ -1,12 +1,11 @@
-// Verifying many signatures by several threads.
+//! Verifying many signatures by several threads.
 ghost use Rattle.std.specs.Prelude.{◌≡◌, ◌↔◌, IsTrue, IfOk, IfErr};
 ghost use Rattle.slh_par.specs.Verdicts.{IsVerified, AreVerdicts};
 ghost use Rattle.slh_par.specs.declared.fault.ParFault.TheVariants.{NoMemory as NoMemoryFault};
 
 use crate::fault::ParFault;
-use crate::items::{Question, answer_all};
 use crate::verify_item::VerifyItem;
-use slh_workers::{NoMemory, Workers};
+use slh_workers::{NoMemory, Question, Workers, answer_all};
 use std::alloc::Allocator;
 use std::thread::Threads;
 
@@ -24,8 +23,9 @@ impl<'a> Question<VerifyItem<'a>> for Validity {
     }
 }
 
-/// Whether each of the signatures is valid, in the order of the items, by several workers. Over 2^32 - 1 items are verified in
-/// several runs. Refused `NoMemory` alone, where a growth was refused. It waits only for the threads that it started.
+/// Whether each of the signatures is valid, in the order of the items, by several workers. Over 2^32 - 1 items are
+/// verified in several runs. Refused `NoMemory` alone, where a growth was refused. It waits only for the threads that
+/// it started.
 pub fn verify_all<R: Threads + Sync, A: Allocator + Clone + Send + Sync>(
     rt: &R,
     alloc: A,

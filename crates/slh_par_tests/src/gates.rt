@@ -42,8 +42,8 @@ pub(crate) trait Watch: Gate {
     fn gave_up(&self) -> bool;
 }
 
-/// `enter` of job 0 turns until `leave` of job 1 was called, and `enter` of job 1 until `enter` of job 0 was called: the two
-/// jobs run at the same time.
+/// `enter` of job 0 turns until `leave` of job 1 was called, and `enter` of job 1 until `enter` of job 0 was called:
+/// the two jobs run at the same time.
 #[derive(Drop)]
 pub(crate) struct FirstMeetsSecond {
     first_entered: Call,

@@ -93,6 +93,8 @@ fn verify_all_refuses_at_each_growth(rt: HostRuntime) -> Result<(), Fail> {
         sig,
     };
     let items = [item(b""), item(good.as_slice())];
+    // A worker more asks for growths of its own, so their count tells whether the number of workers is handed on.
+    let mut before = 0u64;
     for number in [1u8, 2] {
         let mut refusals = 0u64;
         for nth in 1..MANY {
@@ -106,6 +108,8 @@ fn verify_all_refuses_at_each_growth(rt: HostRuntime) -> Result<(), Fail> {
             refusals = nth;
         }
         assert!(rt; ended(refusals), "{refusals} refusals, {number} workers");
+        assert!(rt; before < refusals, "{refusals} refusals, {number} workers");
+        before = refusals;
     }
     Ok(())
 }

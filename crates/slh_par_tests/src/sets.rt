@@ -18,8 +18,8 @@ fn rows() -> [(u8, Cuts<'static>, Cuts<'static>); 3] {
     ]
 }
 
-/// Compares PK.root of the key of the seeds 00, 01, 02, .., and the SHA-256 of its deterministic signature of "abc" under the
-/// empty context, with what OpenSSL gave.
+/// Compares PK.root of the key of the seeds 00, 01, 02, .., and the SHA-256 of its deterministic signature of "abc"
+/// under the empty context, with what OpenSSL gave.
 fn compare<R: Abort + Threads + Sync>(
     rt: &R,
     alloc: Global,

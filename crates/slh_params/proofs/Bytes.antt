@@ -5,9 +5,9 @@ use Rattle.std.specs.List.{between}
 use Rattle.std.proofs.lemmas.Nat.{be_bytes_4, be_bytes_8, mod_below, mod-pow-add}
 use Rattle.std.proofs.lemmas.List.{get_or_past, length-take-le, length-drop, drop-drop, take-append-drop, take_all, drop_more, drop-set, append_assoc}
 use Rattle.std.proofs.Math.Nat.{pow-le-pow_right, div-div-eq-div-mul, pow-succ'}
-use Rattle.slh_params.specs.Bits.{to_int, to_byte}
+use Rattle.slh_params.specs.Bits.{to_int, to_byte, AllBytes}
 use Rattle.slh_params.specs.Address.{Address, compressed, full}
-use Rattle.slh_params.specs.AdrsBytes.{fields_of, AllBytes}
+use Rattle.slh_params.specs.AdrsBytes.{fields_of}
 use borrow.Rule.Slice.PartMut.{put_mid}
 use Rattle.std.proofs.lemmas.List.Elements.{All-nil, All-cons, All-append, All-take, All-drop, All-same, recursion_from_All, All-from_get_or}
 use Rattle.std.proofs.lemmas.Int.Digits.{number_lt, number_push}

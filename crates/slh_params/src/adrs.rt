@@ -1,8 +1,9 @@
+//! Addresses of hash calls (FIPS 205, sections 4.2 and 11.2).
 ghost use Rattle.std.specs.Prelude.{◌≡◌};
 ghost use Rattle.slh_params.specs.Address.{address, full, compressed};
 ghost use Rattle.slh_params.specs.AdrsType.{type_number};
 
-use super::adrs_type::AdrsType;
+use crate::adrs_type::AdrsType;
 use std::marker::Model;
 
 /// The address of a hash call (FIPS 205, section 4.2).

@@ -1,3 +1,4 @@
+//! The types of addresses (FIPS 205, section 4.2).
 ghost use Rattle.std.specs.Prelude.{◌≡◌};
 ghost use Rattle.slh_params.specs.AdrsType.{type_number};
 

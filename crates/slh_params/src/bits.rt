@@ -1,3 +1,4 @@
+//! Bits and bytes as numbers (FIPS 205, section 4.4).
 ghost use Rattle.std.specs.Prelude.{◌≡◌, ◌*◌, ◌%◌, ◌^◌, ◌≤◌, length};
 ghost use Rattle.slh_params.specs.Bits.{to_int, to_byte, base_2b};
 

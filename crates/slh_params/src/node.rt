@@ -1,4 +1,5 @@
-ghost use Rattle.std.specs.Prelude.{◌≡◌, ◌≤◌, length};
+//! Nodes: the hash values of n bytes.
+ghost use Rattle.std.specs.Prelude.{◌≡◌, ◌+◌, ◌≤◌, ◌++◌, length, take};
 
 use arrayvec::ArrayVec;
 
@@ -19,6 +20,16 @@ pub fn node_of(bytes: &[u8]) -> Node
 pub fn copy_of(node: &Node) -> Node
     ensures { result.items ≡ node.now.items }
 {
+    // For the prover: a node has at most 32 bytes.
     let _fits = node.len();
     node_of(node.as_slice())
+}
+
+/// Writes the node's bytes into `out` from `start` on.
+pub fn put_node(out: &mut [u8], start: usize, node: &Node)
+    requires { start + length node.now.items ≤ length out.old }
+    ensures { take (start + length node.now.items) out.new ≡ take start out.old ++ node.now.items }
+{
+    let end = start + node.len();
+    out[start..end].copy_from_slice(node);
 }

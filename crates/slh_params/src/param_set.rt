@@ -1,5 +1,6 @@
+//! The six parameter sets (FIPS 205, section 11).
 ghost use Rattle.std.specs.Prelude.{◌≡◌, IsNone, IfSome};
-ghost use Rattle.slh_params.specs.ParamSet.{params, name, set_named};
+ghost use Rattle.slh_params.specs.ParamSet.{params, name, sets, set_named};
 ghost use Rattle.slh_params.specs.Params.{h, m, md_len, tree_len, leaf_len, len, pk_len, sk_len, sig_len};
 
 /// A parameter set of SLH-DSA with SHA-2 (FIPS 205, section 11, Table 2).
@@ -31,6 +32,12 @@ impl ParamSet {
         ParamSet::S256s,
         ParamSet::S256f,
     ];
+
+    /// The law that `ALL` lists the six sets in the order of the standard's table. It does nothing: the law is its
+    /// contract.
+    pub fn all_are_listed_in_order()
+        ensures { ParamSet.ALL ≡ sets }
+    {}
 
     /// n: the length of a hash value in bytes.
     pub fn n(&self) -> usize

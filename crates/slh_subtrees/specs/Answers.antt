@@ -1,4 +1,4 @@
--- What the jobs of a signature give.
+-- What the jobs of a signature give: ours.
 use Rattle.std.specs.Prelude.{◌≡◌, ℕ, List, length, Some, slice_get, slice_index_or}
 use Rattle.slh_params.specs.ParamSet.{params}
 use Rattle.slh_tree.specs.Tree.{MerkleTree}

@@ -1,5 +1,5 @@
--- The trees of one signature (FIPS 205, sections 7 and 8): the XMSS tree of each layer over which its place there stands, and
--- the FORS trees of its key at layer 0.
+-- The trees of one signature (FIPS 205, sections 7 and 8): the XMSS tree of each layer over which its place there
+-- stands, and the FORS trees of its key at layer 0.
 use Rattle.std.specs.Prelude.{◌≡◌, ℕ, ◌+◌, ◌-◌, ◌<◌, List, length, nat_lt, if◌then◌else◌, slice_index_or}
 use Rattle.slh_params.specs.Params.{Params}
 use Rattle.slh_tree.specs.Tree.{MerkleTree}

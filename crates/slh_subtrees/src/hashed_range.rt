@@ -1,4 +1,4 @@
-// What is made of a range of leaves.
+//! What is made of a range of leaves.
 
 use slh_tree::{Cover, PathRec};
 

@@ -1,4 +1,4 @@
-// A tree of a signature, as far as the signature needs it.
+//! A tree of a signature, as far as the signature needs it.
 
 use slh_params::Node;
 use slh_tree::PathRec;

@@ -1,12 +1,12 @@
-// One tree from its ranges.
+//! One tree from its ranges.
 ghost use Rattle.std.specs.Prelude.{◌^◌, ◌<◌};
 ghost use Rattle.slh_subtrees.specs.Joined.{AreHashed, IsJoined};
 
 use crate::joined_tree::JoinedTree;
 use slh_tree::{Cover, PathRec, Tree, gather};
 
-/// The root of the tree and the path of `leaf`, from covers that, put end to end, span the tree, and for each cover the record
-/// of those nodes of the path whose leaves lie in its range.
+/// The root of the tree and the path of `leaf`, from covers that, put end to end, span the tree, and for each cover the
+/// record of those nodes of the path whose leaves lie in its range.
 pub(crate) fn joined<T: Tree>(
     tree: &T,
     leaf: u32,

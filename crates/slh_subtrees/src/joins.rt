@@ -1,4 +1,4 @@
-// The trees of a signature, and the tree of a key, by several threads.
+//! The trees of a signature, and the tree of a key, by several threads.
 ghost use Rattle.std.specs.Prelude.{◌≡◌, ◌-◌, IfOk, IfErr};
 ghost use Rattle.slh_params.specs.ParamSet.{params};
 ghost use Rattle.slh_tree.specs.Tree.{root};
@@ -18,9 +18,9 @@ use slh_workers::{Gate, NoMemory, RunFault, Workers, run_all};
 use std::alloc::Allocator;
 use std::thread::Threads;
 
-/// The roots and the paths of the d + k trees of a signature, the XMSS trees from layer 0 on and then the FORS trees, by workers
-/// that share the ranges of their leaves. Refuses `NoMemory` where a growth was refused, and else `Stopped` where the gate stopped
-/// the run. Waits only for the threads that it started.
+/// The roots and the paths of the d + k trees of a signature, the XMSS trees from layer 0 on and then the FORS trees,
+/// by workers that share the ranges of their leaves. Refuses `NoMemory` where a growth was refused, and else `Stopped`
+/// where the gate stopped the run. Waits only for the threads that it started.
 pub fn join_trees<R: Threads + Sync, A: Allocator + Clone + Send + Sync, G: Gate>(
     rt: &R,
     alloc: A,
@@ -43,8 +43,8 @@ pub fn join_trees<R: Threads + Sync, A: Allocator + Clone + Send + Sync, G: Gate
     Ok(trees_of_ranges(places, trees, cutting, &covers, &records)?)
 }
 
-/// The root of the XMSS tree of the top layer, n bytes, by workers that share the ranges of its leaves: the second half of the
-/// public key (FIPS 205, Algorithm 18). The refusals are those of `join_trees`.
+/// The root of the XMSS tree of the top layer, n bytes, by workers that share the ranges of its leaves: the second half
+/// of the public key (FIPS 205, Algorithm 18). The refusals are those of `join_trees`.
 pub fn join_top_tree<R: Threads + Sync, A: Allocator + Clone + Send + Sync, G: Gate>(
     rt: &R,
     alloc: A,

@@ -1,8 +1,9 @@
-//! The trees of one signature, computed by several threads: the d XMSS trees over which its places stand, and the k FORS trees.
+//! The trees of one signature, computed by several threads: the d XMSS trees over which its places stand, and the k
+//! FORS trees.
 //!
-//! The leaves of each tree are cut into ranges, and each range is a job for a worker: it gives the cover of the range, and those
-//! nodes of the signing leaf's path whose leaves lie in it. The covers of a tree are then gathered to its root, and the records
-//! of path nodes are merged, which gives the whole path. Memory is refused only by `NoMemory`.
+//! The leaves of each tree are cut into ranges, and each range is a job for a worker: it gives the cover of the range,
+//! and those nodes of the signing leaf's path whose leaves lie in it. The covers of a tree are then gathered to its
+//! root, and the records of path nodes are merged, which gives the whole path. Memory is refused only by `NoMemory`.
 #![tactic(auto)]
 
 mod hashed_range;

@@ -1,4 +1,4 @@
-// The ranges of a signature's trees, as jobs.
+//! The ranges of a signature's trees, as jobs.
 ghost use Rattle.std.specs.Prelude.{◌≡◌, Some, length, slice_get};
 ghost use Rattle.slh_cutting.specs.Jobs.{signing_jobs};
 ghost use Rattle.slh_cutting.specs.declared.range.JobRange.{JobRange};

@@ -1,20 +1,23 @@
-// What the trees of one signature are made from.
-ghost use Rattle.std.specs.Prelude.{◌≡◌, ℕ, ◌^◌, ◌<◌, ◌≤◌, length, slice_index};
+//! What the trees of one signature are made from.
+ghost use Rattle.std.specs.Prelude.{◌≡◌, ℕ, ◌^◌, ◌<◌, ◌≤◌, length, slice_index, slice_index_or};
 ghost use Rattle.slh_params.specs.Params.{md_len};
 ghost use Rattle.slh_params.specs.ParamSet.{params};
 ghost use Rattle.slh_few.specs.Fors.{fors_index};
+ghost use Rattle.slh_few.specs.Hypertree.{layer_place};
+ghost use Rattle.slh_few.specs.declared.place.Place.{Place};
 
 use crate::hashed_range::HashedRange;
 use crate::joined_tree::JoinedTree;
 use crate::joining::joined;
 use slh_cutting::JobTree;
 use slh_few::{
-    ForsTree, MOST_TREES, Seeds, XmssTree, fors_indices, fors_range, layer_place, xmss_range,
+    ForsTree, MOST_LAYERS, MOST_TREES, Place, Seeds, XmssTree, fors_indices, fors_range,
+    layer_places, xmss_range,
 };
 use slh_tree::{Cover, PathRec};
 
-/// What the trees of one signature are made from: the seeds, the place of the key at layer 0 that signs, and the part of the
-/// message digest that FORS signs.
+/// What the trees of one signature are made from: the seeds, the place of the key at layer 0 that signs, and the part
+/// of the message digest that FORS signs.
 #[derive(Drop)]
 pub struct SigningTrees<'a> {
     /// The parameter set, and SK.seed and PK.seed of n bytes each.
@@ -25,8 +28,11 @@ pub struct SigningTrees<'a> {
     pub idx_leaf: u32,
     /// The part of the message digest that FORS signs, of md_len bytes.
     pub md: &'a [u8],
+    places: [Place; MOST_LAYERS],
     indices: [u32; MOST_TREES],
     ghost leaf: { idx_leaf < 2 ^ (params seeds.set).hp },
+    ghost above: { (l : ℕ) (place : Place) → l < (params seeds.set).d
+        → slice_index_or places l place ≡ layer_place (params seeds.set) idx_tree idx_leaf l },
     ghost asked: { (j : ℕ) → j < (params seeds.set).k
         → slice_index indices j ≡ fors_index (params seeds.set) md.now j },
 }
@@ -36,8 +42,8 @@ impl<'a> SigningTrees<'a> {
     ghost use Rattle.slh_subtrees.specs.Joined.{IsHashed, AreHashed, IsJoined};
     ghost use Rattle.slh_subtrees.specs.Answers.{tree_in, leaf_in};
 
-    /// The trees of the signature by the key at leaf `idx_leaf` of tree `idx_tree`, of a digest whose first part is `md`, of
-    /// md_len bytes.
+    /// The trees of the signature by the key at leaf `idx_leaf` of tree `idx_tree`, of a digest whose first part is
+    /// `md`, of md_len bytes.
     pub fn new(seeds: &Seeds<'a>, idx_tree: u64, idx_leaf: u32, md: &'a [u8]) -> SigningTrees<'a>
         requires leaf { idx_leaf < 2 ^ (params seeds.now.set).hp }
         requires md { length md.now ≡ md_len (params seeds.now.set) }
@@ -51,6 +57,7 @@ impl<'a> SigningTrees<'a> {
             idx_tree,
             idx_leaf,
             md,
+            places: layer_places(seeds.set, idx_tree, idx_leaf),
             indices: fors_indices(seeds.set, md),
         }
     }
@@ -71,8 +78,9 @@ impl<'a> SigningTrees<'a> {
         }
     }
 
-    /// The same of the XMSS tree of a layer.
+    /// What is made of the leaves from `lo` to `hi`, `hi` left out, of the XMSS tree of a layer.
     fn hashed_xmss(&self, layer: u8, lo: u32, hi: u32) -> HashedRange
+        requires layer { layer < (params self.now.seeds.set).d }
         requires some { lo < hi }
         requires within { hi ≤ 2 ^ (params self.now.seeds.set).hp }
         ensures lo { result.cover.lo ≡ lo }
@@ -80,13 +88,13 @@ impl<'a> SigningTrees<'a> {
         ensures hashed { let tree = JobTree.Xmss layer in
             IsHashed (tree_in self.now tree) (leaf_in self.now tree) result.cover result.path }
     {
-        let at = layer_place(self.seeds.set, self.idx_tree, self.idx_leaf, layer);
+        let at = self.layer_place(layer);
         let mut path = PathRec::for_leaf(self.seeds.set.hp(), at.pair);
         let cover = xmss_range(&self.seeds, layer, at.tree, lo, hi, &mut path);
         HashedRange { cover, path }
     }
 
-    /// The same of a FORS tree.
+    /// What is made of the leaves from `lo` to `hi`, `hi` left out, of a FORS tree.
     fn hashed_fors(&self, number: u32, lo: u32, hi: u32) -> HashedRange
         requires tree { number < (params self.now.seeds.set).k }
         requires some { lo < hi }
@@ -96,7 +104,7 @@ impl<'a> SigningTrees<'a> {
         ensures hashed { let tree = JobTree.Fors number in
             IsHashed (tree_in self.now tree) (leaf_in self.now tree) result.cover result.path }
     {
-        let mut path = PathRec::for_leaf(self.seeds.set.a(), self.index(number));
+        let mut path = PathRec::for_leaf(self.seeds.set.a(), self.fors_index(number));
         let cover = fors_range(
             &self.seeds,
             self.idx_tree,
@@ -109,8 +117,18 @@ impl<'a> SigningTrees<'a> {
         HashedRange { cover, path }
     }
 
-    /// The leaf of FORS tree `number` that the digest asks for.
-    fn index(&self, number: u32) -> u32
+    /// The place at a layer: the tree there, and the leaf of it whose key signs (FIPS 205, Algorithm 12, lines 7 and
+    /// 8).
+    pub fn layer_place(&self, layer: u8) -> Place
+        requires { layer < (params self.now.seeds.set).d }
+        ensures place { result ≡ layer_place (params self.now.seeds.set) self.now.idx_tree self.now.idx_leaf layer }
+        ensures pair { result.pair < 2 ^ (params self.now.seeds.set).hp }
+    {
+        self.places[layer as usize]
+    }
+
+    /// The leaf of FORS tree `number` that the digest asks for (FIPS 205, Algorithm 16, line 2).
+    pub fn fors_index(&self, number: u32) -> u32
         requires { number < (params self.now.seeds.set).k }
         ensures value { result ≡ fors_index (params self.now.seeds.set) self.now.md.now number }
         ensures small { result < 2 ^ (params self.now.seeds.set).a }
@@ -128,13 +146,13 @@ impl<'a> SigningTrees<'a> {
         let seeds = &self.seeds;
         match tree {
             JobTree::Xmss(layer) => {
-                let at = layer_place(seeds.set, self.idx_tree, self.idx_leaf, layer);
+                let at = self.layer_place(layer);
                 let xmss = XmssTree::new(seeds, layer, at.tree);
                 joined(&xmss, at.pair, covers, records)
             }
             JobTree::Fors(number) => {
                 let fors = ForsTree::new(seeds, self.idx_tree, self.idx_leaf, number);
-                joined(&fors, self.index(number), covers, records)
+                joined(&fors, self.fors_index(number), covers, records)
             }
         }
     }

@@ -1,4 +1,4 @@
-// The XMSS tree of the top layer.
+//! The XMSS tree of the top layer.
 ghost use Rattle.std.specs.Prelude.{◌≡◌, ℕ, ◌<◌, ◌≤◌, ◌^◌, Some, length, slice_get, slice_index_or};
 ghost use Rattle.slh_params.specs.ParamSet.{params};
 ghost use Rattle.slh_tree.specs.Tree.{root};
@@ -64,7 +64,7 @@ pub(crate) fn gathered_top(seeds: &Seeds<'_>, cutting: &Cutting, covers: &[Cover
         → IsTopAnswer (top_tree seeds.now) job (slice_index_or covers.now n c) }
     ensures { result.items ≡ root (top_tree seeds.now) }
 {
-    // The ranges lie end to end, which its contract says.
+    // For the prover: the ranges lie end to end.
     let _ranges = cutting.xmss_ranges();
     let mut path = PathRec::for_leaf(seeds.set.hp(), 0);
     let top = seeds.set.d() as u8 - 1;

@@ -1,4 +1,4 @@
-// The trees of a signature from all their ranges.
+//! The trees of a signature from all their ranges.
 ghost use Rattle.std.specs.Prelude.{◌≡◌, ◌+◌, ◌<◌, ◌≤◌, ◌^◌, length, map, take, drop, IfOk};
 ghost use Rattle.slh_params.specs.ParamSet.{params};
 ghost use Rattle.slh_cutting.specs.Jobs.{IsTreeOf, height_of, tree_ranges, tree_jobs};
@@ -60,7 +60,7 @@ fn range_count(cutting: &Cutting, tree: JobTree) -> u32
     }
 }
 
-/// So many of the list, from place `first` on.
+/// `count` elements of the list, from place `first` on.
 fn part<X>(all: &[X], first: u32, count: u32) -> &[X]
     requires { first + count ≤ length all.now }
     ensures { result.now ≡ take count (drop first all.now) }

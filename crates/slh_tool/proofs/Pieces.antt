@@ -1,10 +1,15 @@
 -- Files that are read by pieces.
-use Rattle.std.proofs.Common.{◌≡◌, ◌==◌, Bool, true, false, ℕ, ◌<◌, ◌≤◌, List, [], ◌++◌, length, take, Option, Some, None, IfSome, refl, subst, sym, ap, ap₂, ◌∙◌, arith, length-append}
-use Rattle.std.proofs.Math.Seq.{take-add}
-use Rattle.std.proofs.lemmas.List.{length-take, take_all}
+use Rattle.std.proofs.Common.{◌≡◌, ◌↔◌, ◌==◌, Bool, true, false, ℕ, ◌+◌, ◌-◌, ◌<◌, ◌≤◌, List, [], ◌++◌, length, inl, inr, take, Option, Some, None, IfSome, IsTrue, Result, Ok, Err, IfOk, refl, subst, sym, ap, ap₂, ◌∙◌, arith, length-append}
+use Rattle.std.proofs.Math.Seq.{take-add, take-append-add}
+use Rattle.std.proofs.lemmas.Bool.{cases_lt}
+use Rattle.std.proofs.lemmas.List.{append-nil, length-take, length-take-le, take-append-le, take_all}
+use Rattle.slh_core.specs.Keys.{Key}
+use Rattle.slh_core.specs.Signatures.{IsValid}
+use Rattle.slh_params.specs.Params.{sig_len}
+use Rattle.slh_params.specs.ParamSet.{params}
 use Rattle.slh_devices.specs.Devices.{EndsBy, FilesState, Grew, HasPart}
 use Rattle.std.proofs.lemmas.Bool.Decides.{Decides-eqb, not_from_Decides}
-use Rattle.slh_tool.specs.Reading.{IsFile, file_limit}
+use Rattle.slh_tool.specs.Reading.{IsFile, IsFrontOfFile, file_limit}
 
 -- a front of a file, and then the part that follows it
 pub more_read : (known : Option (List ℕ)) (front part : List ℕ) → HasPart known 0 front → HasPart known (length front) part → HasPart known 0 (front ++ part)
@@ -64,3 +69,50 @@ is_zero n b e t = (Decides-eqb n 0).0 (sym e ∙ t)
 
 pub not_zero : (n : ℕ) (b : Bool) → b ≡ (n == 0) → b ≡ false → 0 < n
 not_zero n b e t = let other : (n ≡ 0 → ⊥) = not_from_Decides (n == 0) (Decides-eqb n 0) (sym e ∙ t) in omega arith
+
+-- of so many bytes of the file that were read a front is held
+pub record HasKept (files : FilesState) (path front : List ℕ) (most at : ℕ) : Type 0 where
+  pub bytes : List ℕ
+  pub held : front ≡ take most bytes
+  pub sized : length bytes ≡ at
+  pub begins : HasPart (files.bytes_at path) 0 bytes
+
+-- a front of some bytes, and then of the part that follows them
+pub front_more : (most : ℕ) (bytes part : List ℕ) → take most bytes ++ take (most - length (take most bytes)) part ≡ take most (bytes ++ part)
+front_more most bytes part = elim (cases_lt most (length bytes)) [
+  | inl lt ↦
+      let size : length (take most bytes) ≡ most = length-take-le most bytes (omega arith) in
+      let none : most - length (take most bytes) ≡ 0 = omega (arith, size) in
+      ap (λ (n : ℕ). take most bytes ++ take n part) none ∙ append-nil (take most bytes) ∙ sym (take-append-le most bytes part (omega arith))
+  | inr ge ↦
+      let whole : take most bytes ≡ bytes = take_all most bytes ge in
+      let split : length bytes + (most - length bytes) ≡ most = omega arith in
+      ap (λ (xs : List ℕ). xs ++ take (most - length xs) part) whole ∙ sym (take-append-add bytes part (most - length bytes))
+      ∙ ap (λ (n : ℕ). take n (bytes ++ part)) split
+]
+
+-- what is true of bytes of one length alone is true of a front of that length and one more where it is true of the whole
+pub front_decides : (P : List ℕ → Type 0) (n : ℕ) (whole : List ℕ) → ((bytes : List ℕ) → P bytes → length bytes ≡ n) → P (take (n + 1) whole) ↔ P whole
+front_decides P n whole sized = (
+  λ p. subst P (take_all (n + 1) whole (omega (arith, length-take (n + 1) whole, sized (take (n + 1) whole) p))) p,
+  λ p. subst P (sym (take_all (n + 1) whole (omega (arith, sized whole p)))) p,
+)
+
+-- so a signature is valid where its front is
+pub judged_by_front : (answer : Bool) (context : List ℕ) (key : Key) (msg whole front : List ℕ) → front ≡ take (sig_len (params key.set) + 1) whole
+    → (IsTrue answer ↔ ((length context ≤ 255) × IsValid key msg front)) → IsTrue answer ↔ ((length context ≤ 255) × IsValid key msg whole)
+judged_by_front answer context key msg whole front e h =
+    let same = front_decides (IsValid key msg) (sig_len (params key.set)) whole (λ bytes valid. valid.len) in (
+      λ t. ((h.0 t).0, same.0 (subst (IsValid key msg) e (h.0 t).1)),
+      λ v. h.1 (v.0, subst (IsValid key msg) (sym e) (same.1 v.1)),
+    )
+
+-- a file that was read up to the most bytes that it may have was read whole
+pub front_whole : (files : FilesState) (path bytes : List ℕ) → IsFrontOfFile files path file_limit bytes → IsFile files path bytes
+front_whole files path bytes read =
+    subst (λ (xs : List ℕ). IsFile files path xs) (sym (read.2 ∙ take_all (file_limit + 1) read.0 (omega (arith, read.1.at_most)))) read.1
+
+pub file_whole : {T E : Type 0} (files : FilesState) (path : List ℕ) (items : T → List ℕ) (r : Result T E)
+    → IfOk r (λ bytes. IsFrontOfFile files path file_limit (items bytes)) → IfOk r (λ bytes. IsFile files path (items bytes))
+file_whole files path items (Ok bytes) read = front_whole files path (items bytes) read
+file_whole files path items (Err e) read = tt

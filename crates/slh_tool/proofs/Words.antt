@@ -1,5 +1,5 @@
 -- From what `clap` answers to what the words ask for.
-use Rattle.std.proofs.Common.{◌⊎◌, inl, inr, subst, ◌≡◌, ◌≢◌, ◌∙◌, ℕ, true, Option, Some, None, Result, Ok, Err, unwrap_or, refl, sym}
+use Rattle.std.proofs.Common.{arith, [], List, ◌⊎◌, inl, inr, subst, ◌≡◌, ◌≢◌, ◌∙◌, ℕ, true, Option, Some, None, Result, Ok, Err, unwrap_or, refl, sym}
 use Rattle.std.specs.Option.{option_map_or}
 use Rattle.std.specs.Str.Parse.{ParsesUnsigned}
 use Rattle.clap.proofs.WalkLemmas.{byte_read}
@@ -9,6 +9,8 @@ use Rattle.clap.specs.Faults.{is_simple_and_free}
 use Rattle.clap.specs.Kinds.{IsAmong, Kinds}
 use Rattle.clap.specs.declared.error.ErrorKind.{ErrorKind}
 use Rattle.clap.specs.declared.error.ErrorKind.TheVariants.{DisplayHelp, OutOfMemory}
+use Rattle.std.proofs.KnownBytes.{Consumes-nil}
+use Rattle.slh_devices.specs.Devices.{TakesAtMost}
 use Rattle.slh_arguments.specs.Command.{slh_app}
 
 -- the program's command is one whose parse `clap` states
@@ -34,3 +36,7 @@ pub number_read : (E : Type 0) (G : Text → Result ℕ E → Type 0) (o : Optio
 number_read E G None r parses none value = rw (none refl) refl
 number_read E G (Some t) (Some n) parses none value = byte_read {E = E} t (Ok n) (parses t (Ok n) (value t refl))
 number_read E G (Some t) None parses none value = let e = value t refl in byte_read {E = E} t (Err e.0) (parses t (Err e.0) e.1)
+
+-- where nothing was taken, no more was taken than any number
+pub none_taken : (left : Option (List ℕ)) (limit : ℕ) → TakesAtMost left left limit
+none_taken left limit = ([], Consumes-nil left, omega arith)

@@ -1,5 +1,5 @@
 -- Files that are read.
-use Rattle.std.specs.Prelude.{◌≡◌, ⊤, ℕ, ◌<◌, ◌≤◌, ◌^◌, List, length, IfSome}
+use Rattle.std.specs.Prelude.{◌≡◌, ⊤, ℕ, ◌+◌, ◌<◌, ◌≤◌, ◌^◌, List, length, take, IfSome}
 use Rattle.slh_core.specs.PreHash.{Digest, PH}
 use Rattle.slh_core.specs.declared.pre_hash.PreHash.{PreHash}
 use Rattle.slh_devices.specs.Devices.{FilesState, Grew}
@@ -14,6 +14,10 @@ file_limit = 2 ^ 30
 pub record IsFile (files : FilesState) (path bytes : List ℕ) : Type 0 where
   pub known : IfSome (files.bytes_at path) (λ whole. bytes ≡ whole)
   pub at_most : length bytes ≤ file_limit
+
+-- the first bytes of the file at this path: so many and one more, or all where it has fewer
+abbrev pub IsFrontOfFile : FilesState → List ℕ → ℕ → List ℕ → Type 0
+IsFrontOfFile files path most bytes = (whole : List ℕ) × IsFile files path whole × (bytes ≡ take (most + 1) whole)
 
 -- why a file is not read: memory, or it is too long, or a read of some file failed
 abbrev pub RefusesFile : FilesState → FilesState → List ℕ → Fault → Type 0

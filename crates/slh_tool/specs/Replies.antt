@@ -1,9 +1,9 @@
 -- What each command writes, and why it is refused.
-use Rattle.std.specs.Prelude.{◌≡◌, ⊤, ◌⊎◌, ◌↔◌, ℕ, ◌<◌, ◌≤◌, Bool, true, false, IsTrue, [], ◌∷◌, ◌++◌, length, Option, Some, None, codes}
-use Rattle.clap.specs.Words.{Text}
+use Rattle.std.specs.Prelude.{◌≡◌, ⊤, ◌⊎◌, ◌↔◌, ℕ, ◌<◌, ◌≤◌, List, Bool, true, false, IsTrue, [], ◌∷◌, ◌++◌, length, Option, Some, None, codes}
+use Rattle.clap.specs.Words.{Kinds, Text, fault_of, subcommand_of}
 use Rattle.hex.specs.Hex.{encode_lower}
 use Rattle.slh_core.specs.Keys.{IsGeneratedKey, Key, public_of}
-use Rattle.slh_core.specs.Messages.{message_in_form}
+use Rattle.slh_core.specs.Messages.{message_in_form, form_with}
 use Rattle.slh_core.specs.Signatures.{IsValid}
 use Rattle.slh_core.specs.declared.pre_hash.PreHash.{PreHash}
 use Rattle.slh_cutting.specs.CutTrees.{CutTrees}
@@ -17,7 +17,8 @@ use Rattle.slh_tool.specs.Cuts.{HasCutting, IsCutting, RefusesCutting}
 use Rattle.slh_tool.specs.Keys.{HoldsKey, IsGeneratedFrom, RefusesKey, RefusesSeedsOf}
 use Rattle.slh_tool.specs.Options.{HasForm, RefusesForm, random_of, signature_of}
 use Rattle.slh_tool.specs.Reading.{IsFile, RefusesFile}
-use Rattle.slh_tool.specs.Requests.{Asked, KeygenOptions, SignOptions, VerifyOptions}
+use Rattle.slh_arguments.specs.Command.{slh_app}
+use Rattle.slh_tool.specs.Requests.{Asked, KeygenOptions, SignOptions, VerifyOptions, asked_by}
 use Rattle.slh_tool.specs.Requests as requests
 use Rattle.slh_tool.specs.Seeds.{RefusesSeeds, seeds_limit}
 use Rattle.slh_tool.specs.Sets.{lines}
@@ -79,7 +80,7 @@ pub record SignsWith (options : SignOptions) (files : FilesState) (key : Key) (t
   pub cut : IsCutting options.work key.set cutting
   pub read : IsFile files options.message message
   pub short : length context ≤ 255
-  pub signed : text ≡ signature_of key (message_in_form prehash context message) random
+  pub signed : text ≡ signature_of key (message_in_form (form_with prehash) context message) random
 
 -- `sign`: the signature with the key of a secret key file
 abbrev pub SignsMessage : SignOptions → FilesState → Text → Type 0
@@ -112,7 +113,7 @@ RefusesSign options old new fault = RefusesKey Secret old new options.key fault
 -- whether the context is short enough and the signature valid (FIPS 205, Algorithms 24 and 25)
 abbrev pub IsValidIn : Option PreHash → Text → Text → Text → Key → Type 0
 IsValidIn prehash context message signature key =
-    (length context ≤ 255) × IsValid key (message_in_form prehash context message) signature
+    (length context ≤ 255) × IsValid key (message_in_form (form_with prehash) context message) signature
 
 -- the truth of a signature file with a key, in a form
 pub record JudgesFiles (options : VerifyOptions) (files : FilesState) (key : Key) (context : Text) (prehash : Option PreHash) (answer : Bool) : Type 0 where
@@ -176,3 +177,12 @@ abbrev pub input_limit : Option Asked → ℕ
 input_limit (Some (requests.root name)) = limit_of_set (set_named name)
 input_limit (Some (requests.keygen options)) = limit_of_set (set_named options.set)
 input_limit other = 0
+
+-- none where `clap` refuses the words or shows help, else as many as the command takes
+abbrev pub limit_where : Kinds → Option Asked → ℕ
+limit_where [] a = input_limit a
+limit_where (kind ∷ kinds) a = 0
+
+-- so many bytes of the input a run with these words takes at most
+abbrev pub words_limit : List Text → ℕ
+words_limit words = limit_where (fault_of slh_app words) (asked_by (subcommand_of slh_app words))

@@ -21,6 +21,7 @@ use std::alloc::{AllocError, Allocator};
 use std::thread::Threads;
 
 /// The public key of the seeds on the input, as digits and a line feed.
+#[inline(never)]
 pub(crate) fn root<A: Allocator, S: Source>(
     alloc: A,
     name: &str,
@@ -35,6 +36,7 @@ pub(crate) fn root<A: Allocator, S: Source>(
 }
 
 /// The secret key file of the seeds on the input. The cutting is judged before the seeds are read.
+#[inline(never)]
 pub(crate) fn keygen<R: Threads + Sync, A: Allocator + Clone + Send + Sync, S: Source>(
     rt: &R,
     alloc: A,

@@ -40,6 +40,7 @@ pub(crate) fn public_key<A: Allocator, F: Files>(
 }
 
 /// The public key file of a secret key file.
+#[inline(never)]
 pub(crate) fn public<A: Allocator + Clone, F: Files>(
     alloc: A,
     path: &str,
@@ -56,6 +57,7 @@ pub(crate) fn public<A: Allocator + Clone, F: Files>(
 }
 
 /// Whether PK.root in a secret key file is the root that the seeds give.
+#[inline(never)]
 pub(crate) fn check<A: Allocator + Clone, F: Files>(
     alloc: A,
     path: &str,

@@ -1,11 +1,10 @@
 ghost use Rattle.std.specs.Prelude.{◌≡◌, ◌≢◌, ◌⊎◌, ℕ, map, IfOk, IfErr, string_bytes, Some};
 ghost use Rattle.std.specs.Io.KnownBytes.{Appends};
-ghost use Rattle.clap.specs.Words.{Text, subcommand_of};
-ghost use Rattle.slh_arguments.specs.Command.{slh_app};
+ghost use Rattle.clap.specs.Words.{Text};
 ghost use Rattle.slh_devices.specs.Devices.{Grew, LetsThrough, TakesAtMost};
 ghost use Rattle.slh_tool.specs.Faults.{line};
-ghost use Rattle.slh_tool.specs.Replies.{IsRefusal, IsReply, input_limit};
-ghost use Rattle.slh_tool.specs.Requests.{asked, asked_by};
+ghost use Rattle.slh_tool.specs.Replies.{IsRefusal, IsReply, input_limit, words_limit};
+ghost use Rattle.slh_tool.specs.Requests.{asked};
 ghost use Rattle.slh_tool.specs.Runs.{IsTold, Refuses, Replies};
 ghost use Rattle.slh_tool.specs.declared.fault.Fault.{Fault};
 ghost use Rattle.slh_tool.specs.declared.fault.Fault.TheVariants.{WriteFailed};
@@ -59,9 +58,8 @@ pub fn command<
         × ((status : ℕ) × ((text : Text) × Replies (map string_bytes words.now) (F.state files.old) (S.state input.old) (S.state input.new) status text
         × LetsThrough (O.state output.old).contents (O.state output.new).contents text)))) }
 
-    // Of the input no more is taken than the command reads.
-    ensures at_most { TakesAtMost (S.state input.old).left (S.state input.new).left
-        (input_limit (asked_by (subcommand_of slh_app (map string_bytes words.now)))) }
+    // Of the input no more is taken than the command reads, and none where the words are refused or ask for help.
+    ensures at_most { TakesAtMost (S.state input.old).left (S.state input.new).left (words_limit (map string_bytes words.now)) }
 {
     match respond(rt, alloc, words, files, input) {
         Ok(reply) => match put_all(output, reply.output.as_slice()) {
@@ -90,8 +88,7 @@ fn respond<
 >(rt: &R, alloc: A, words: &[String], files: &mut F, input: &mut S) -> Result<Reply<A>, Fault>
     ensures done { IfOk result (λ r. Replies (map string_bytes words.now) (F.state files.old) (S.state input.old) (S.state input.new) r.status r.output.items) }
     ensures refused { IfErr result (Refuses (map string_bytes words.now) (F.state files.old) (F.state files.new) (S.state input.old) (S.state input.new)) }
-    ensures at_most { TakesAtMost (S.state input.old).left (S.state input.new).left
-        (input_limit (asked_by (subcommand_of slh_app (map string_bytes words.now)))) }
+    ensures at_most { TakesAtMost (S.state input.old).left (S.state input.new).left (words_limit (map string_bytes words.now)) }
 {
     match parsed(rt.alloc(), words) {
         Ok(request) => run(rt, alloc, request, files, input),
@@ -109,7 +106,8 @@ fn help<A: Allocator>(global: Global, alloc: A, error: &clap::Error) -> Result<R
     Ok(Reply::text(String::from_str(alloc, text.as_str())?))
 }
 
-/// The answer to a request, or the refusal.
+/// The answer to a request, or the refusal. Each command is kept out of line, so that the stack holds the locals of one
+/// alone.
 fn run<R: AllocGlobal + Threads + Sync, A: Allocator + Clone + Send + Sync, F: Files, S: Source>(
     rt: &R,
     alloc: A,

@@ -1,12 +1,12 @@
-ghost use Rattle.std.specs.Prelude.{◌≡◌, ◌+◌, ◌≤◌, ◌^◌, [], length, IfOk, IfErr, OnOk};
+ghost use Rattle.std.specs.Prelude.{◌≡◌, ◌+◌, ◌-◌, ◌≤◌, ◌^◌, ◌++◌, [], length, take, IfOk, IfErr, OnOk};
 ghost use Rattle.slh_core.specs.PreHash.{PH};
 ghost use Rattle.slh_devices.specs.Devices.{CountsFailure, EndsBy, HasPart};
-ghost use Rattle.slh_tool.specs.Reading.{IsDigestOfFile, IsFile, RefusesFile, file_limit};
+ghost use Rattle.slh_tool.specs.Reading.{IsDigestOfFile, IsFile, IsFrontOfFile, RefusesFile, file_limit};
 
 use super::fault::Fault;
 use slh_core::{MessageDigest, PreHash, PreHasher};
 use slh_devices::{FetchFault, Files};
-use std::alloc::Allocator;
+use std::alloc::{AllocError, Allocator};
 
 /// The most bytes that a file may have.
 const FILE_LIMIT: usize = 1 << 30;
@@ -24,18 +24,48 @@ pub(crate) fn read_file<A: Allocator, F: Files>(
     ensures refused { IfErr result (RefusesFile (F.state files.old) (F.state files.new) path.now) }
     ensures kept { OnOk result (F.state files.new ≡ F.state files.old) }
 {
-    let mut bytes = Vec::new(alloc);
+    read_front(alloc, files, path, FILE_LIMIT)
+}
+
+/// The first bytes of a file, `most` of them and one more. The others are read, but not held.
+pub(crate) fn read_front<A: Allocator, F: Files>(
+    alloc: A,
+    files: &mut F,
+    path: &str,
+    most: usize,
+) -> Result<Vec<u8, A>, Fault>
+    requires most { most ≤ file_limit }
+    ensures done { IfOk result (λ bytes. IsFrontOfFile (F.state files.old) path.now most bytes.items) }
+    ensures refused { IfErr result (RefusesFile (F.state files.old) (F.state files.new) path.now) }
+    ensures kept { OnOk result (F.state files.new ≡ F.state files.old) }
+{
+    let mut front = Vec::new(alloc);
     let mut piece = [0; PIECE];
-    while bytes.len() <= FILE_LIMIT {
-        let Ok(part) = next_part(files, path, bytes.len(), &mut piece) else {
+    let mut at = 0;
+    while at <= FILE_LIMIT {
+        let Ok(part) = next_part(files, path, at, &mut piece) else {
             return Err(Fault::ReadFailed);
         };
         if part.is_empty() {
-            return Ok(bytes);
+            return Ok(front);
         }
-        bytes.extend_from_slice(part)?;
+        push_front(&mut front, part, most + 1)?;
+        at += part.len();
     }
     Err(Fault::FileTooLong)
+}
+
+/// Pushes a front of the bytes, so that no more than `most` are held.
+fn push_front<A: Allocator>(
+    front: &mut Vec<u8, A>,
+    part: &[u8],
+    most: usize,
+) -> Result<(), AllocError>
+    requires few { length front.old.items ≤ most }
+    ensures pushed { OnOk result (front.new.items ≡ front.old.items ++ take (most - length front.old.items) part.now) }
+{
+    let room = most - front.len();
+    front.extend_from_slice(&part[..part.len().min(room)])
 }
 
 /// The digest of a file, of which no more than a piece is held.

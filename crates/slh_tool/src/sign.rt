@@ -1,5 +1,5 @@
 ghost use Rattle.std.specs.Prelude.{◌≡◌, ◌≢◌, ◌↔◌, ◌<◌, ◌≤◌, ◌⊎◌, Err, IfOk, IfErr, IfSome, OnOk, length, option_map};
-ghost use Rattle.slh_core.specs.Messages.{message_in_form};
+ghost use Rattle.slh_core.specs.Messages.{message_in_form, form_with};
 ghost use Rattle.slh_core.specs.Randomizers.{HasLength};
 ghost use Rattle.slh_core.specs.Signatures.{signature_by};
 ghost use Rattle.slh_params.specs.Params.{sig_len};
@@ -23,6 +23,7 @@ use std::alloc::Allocator;
 use std::thread::Threads;
 
 /// The signature of a message file.
+#[inline(never)]
 pub(crate) fn sign_file<R: Threads + Sync, A: Allocator + Clone + Send + Sync, F: Files>(
     rt: &R,
     alloc: A,
@@ -80,7 +81,7 @@ fn signature_of<R: Threads + Sync, A: Allocator + Clone + Send + Sync>(
     requires random { IfSome random.now (λ bytes. length bytes.items ≡ (params key.now.set).n) }
     requires cutting { cutting.now.set ≡ key.now.set }
     ensures short { OnOk result (length form.now.context.items ≤ 255) }
-    ensures done { IfOk result (λ bytes. bytes.items ≡ signature_of key.now (message_in_form form.now.prehash form.now.context.items message.now) (option_map (λ r. r.items) random.now)) }
+    ensures done { IfOk result (λ bytes. bytes.items ≡ signature_of key.now (message_in_form (form_with form.now.prehash) form.now.context.items message.now) (option_map (λ r. r.items) random.now)) }
     ensures refused { IfErr result (λ e. (e ≡ NoMemory) ⊎ ((e ≡ ContextTooLong) × (255 < length form.now.context.items))) }
 {
     let randomizer = match random {
@@ -117,7 +118,7 @@ fn signed<R: Threads + Sync, A: Allocator + Clone + Send + Sync>(
     requires out { length out.old ≡ sig_len (params key.now.set) }
     ensures too_long { (result ≡ Err par.ContextTooLong) ↔ (255 < length form.now.context.items) }
     ensures never_stopped { result ≢ Err par.Stopped }
-    ensures signature { OnOk result (out.new ≡ signature_by key.now (message_in_form form.now.prehash form.now.context.items message.now) randomizer.entry) }
+    ensures signature { OnOk result (out.new ≡ signature_by key.now (message_in_form (form_with form.now.prehash) form.now.context.items message.now) randomizer.entry) }
 {
     let context = form.context.as_slice();
     match form.prehash {

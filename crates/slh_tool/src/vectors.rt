@@ -14,6 +14,7 @@ use std::alloc::Allocator;
 use std::thread::Threads;
 
 /// The report on the tests of a vector file.
+#[inline(never)]
 pub(crate) fn run_file<
     R: AllocGlobal + Threads + Sync,
     A: Allocator + Clone + Send + Sync,

@@ -1,12 +1,15 @@
 ghost use Rattle.std.specs.Prelude.{◌≡◌, ◌↔◌, IsTrue, IfOk, IfErr, None, Some, OnOk};
+ghost use Rattle.slh_params.specs.Params.{sig_len};
+ghost use Rattle.slh_params.specs.ParamSet.{params};
 ghost use Rattle.slh_tool.specs.Options.{HasForm};
+ghost use Rattle.slh_tool.specs.Reading.{IsFrontOfFile, RefusesFile};
 ghost use Rattle.slh_tool.specs.Replies.{IsValidIn, JudgesFiles, JudgesWith, RefusesFiles, RefusesVerify, RefusesVerifying, VerifiesMessage};
 ghost use Rattle.slh_tool.specs.Requests.{verify_asked};
 
 use super::fault::Fault;
 use super::keys::public_key;
 use super::options::form_of;
-use super::reading::{digest_file, read_file};
+use super::reading::{digest_file, read_file, read_front};
 use super::reply::Reply;
 use super::request::VerifyWords;
 use slh_core::{PreHash, PublicKey, hash_verify_digest, verify};
@@ -14,6 +17,7 @@ use slh_devices::Files;
 use std::alloc::Allocator;
 
 /// Whether the signature of a message file is valid.
+#[inline(never)]
 pub(crate) fn verify_file<A: Allocator + Clone, F: Files>(
     alloc: A,
     words: VerifyWords<'_>,
@@ -57,7 +61,7 @@ fn verify_pure<A: Allocator + Clone, F: Files>(
     ensures refused { IfErr result (RefusesFiles (verify_asked words.entry) (F.state files.old) (F.state files.new)) }
 {
     let message = read_file(alloc.clone()?, files, words.message)?;
-    let signature = read_file(alloc, files, words.signature)?;
+    let signature = signature_in(alloc, words, files, key)?;
     Ok(verify(message.as_slice(), context, signature.as_slice(), key))
 }
 
@@ -74,6 +78,21 @@ fn verify_digest<A: Allocator, F: Files>(
     ensures refused { IfErr result (RefusesFiles (verify_asked words.entry) (F.state files.old) (F.state files.new)) }
 {
     let digest = digest_file(files, words.message, function)?;
-    let signature = read_file(alloc, files, words.signature)?;
+    let signature = signature_in(alloc, words, files, key)?;
     Ok(hash_verify_digest(&digest, context, signature.as_slice(), key))
+}
+
+/// The signature of a file, as far as it is looked at: one that is longer than the set's is held up to the byte that
+/// is one too many.
+fn signature_in<A: Allocator, F: Files>(
+    alloc: A,
+    words: VerifyWords<'_>,
+    files: &mut F,
+    key: &PublicKey,
+) -> Result<Vec<u8, A>, Fault>
+    ensures done { IfOk result (λ bytes. IsFrontOfFile (F.state files.old) words.entry.signature.now (sig_len (params key.now.set)) bytes.items) }
+    ensures refused { IfErr result (RefusesFile (F.state files.old) (F.state files.new) words.entry.signature.now) }
+    ensures kept { OnOk result (F.state files.new ≡ F.state files.old) }
+{
+    read_front(alloc, files, words.signature, key.set().sig_len())
 }

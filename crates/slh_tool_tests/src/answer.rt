@@ -2,7 +2,7 @@ ghost use Rattle.std.specs.Prelude.{◌≡◌, ◌≢◌, IfOk, map, string_byte
 ghost use Rattle.slh_tool_tests.specs.Answers.{RepliesOver};
 
 use super::folder::Folder;
-use slh_devices::{Reader, Writer};
+use slh_devices::{Disk, Reader, Writer};
 use slh_tool::command;
 use std::alloc::{AllocError, Global};
 use std::thread::Threads;
@@ -26,7 +26,7 @@ pub fn words_of(alloc: Global, words: &[&str]) -> Result<Vec<String>, AllocError
     Ok(list)
 }
 
-/// Runs a command over files of known bytes and an empty input.
+/// Runs a command over open files of known bytes and an empty input.
 pub fn answer_over<R: AllocGlobal + Threads + Sync>(
     rt: &R,
     words: &[String],
@@ -40,7 +40,7 @@ pub fn answer_over<R: AllocGlobal + Threads + Sync>(
         rt,
         rt.alloc(),
         words,
-        &mut Folder::new(files),
+        &mut Disk::new(Folder::new(files)),
         &mut Reader::new([].as_slice()),
         &mut output,
         &mut errors,

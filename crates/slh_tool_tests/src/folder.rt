@@ -1,7 +1,9 @@
-ghost use Rattle.std.specs.Prelude.{◌≡◌, option_map};
+ghost use Rattle.std.specs.Prelude.{◌≡◌, Some, option_map, drop};
 ghost use Rattle.slh_tool_tests.specs.Folder.{bytes_in};
 
-use slh_devices::{FetchFault, Files};
+use slh_devices::{FetchFault, Files, Opener};
+use std::io;
+use std::io::{Cursor, ErrorKind};
 
 /// Files by name, whose bytes contracts know. A fetch of a name that no file has fails, and so does the fetch of
 /// number `fails_at`, counted from 1.
@@ -33,6 +35,22 @@ impl<'a> Folder<'a> {
     {
         let (_, bytes) = self.files.iter().find(|(name, _)| *name == path)?;
         Some(*bytes)
+    }
+}
+
+/// The same files, as open ones hand out their bytes.
+impl<'a> Opener for Folder<'a> {
+    type File = Cursor<&'a [u8]>;
+
+    ghost bytes_at = { λ s. bytes_in s.files.now };
+
+    ghost left = { λ folder path whole known f bytes at of_bytes of_position. cc };
+
+    fn open(&self, path: &str) -> io::Result<Cursor<&'a [u8]>> {
+        match self.bytes_of(path) {
+            Some(bytes) => Ok(Cursor::new(bytes)),
+            None => Err(io::Error::from(ErrorKind::NotFound)),
+        }
     }
 }
 

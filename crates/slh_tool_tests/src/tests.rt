@@ -1,10 +1,12 @@
 //! Commands through `command`: outside values, and what no clause says.
 mod damage;
 mod devices;
+mod disk;
 mod failures;
 mod files;
 mod memory;
 mod messages;
+mod own_files;
 mod roots;
 mod sets;
 mod vectors;

@@ -112,7 +112,7 @@ lies_in_or_not lo hi i j =
     ]
 
 -- a node lies in one of the ranges or not
-lies_in_one_or_not : (cs : List Cover) (i j : ℕ) → LiesInOne cs i j ⊎ (LiesInOne cs i j → ⊥)
+pub lies_in_one_or_not : (cs : List Cover) (i j : ℕ) → LiesInOne cs i j ⊎ (LiesInOne cs i j → ⊥)
 lies_in_one_or_not [] i j = inr (λ none. none)
 lies_in_one_or_not (c ∷ cs) i j =
     elim (lies_in_or_not c.lo c.hi i j) [

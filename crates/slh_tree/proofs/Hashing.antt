@@ -1,28 +1,22 @@
 -- One leaf more of a range.
-use Rattle.std.proofs.Common.{◌≡◌, ℕ, zero, suc, ◌+◌, ◌*◌, ◌^◌, ◌<◌, ◌≤◌, Some, inl, inr, arith, sym, ◌∙◌, ap, subst, refl}
+use Rattle.std.proofs.Common.{◌≡◌, ℕ, zero, suc, ◌+◌, ◌*◌, ◌^◌, ◌≤◌, Some, inl, inr, arith, sym, ◌∙◌, ap, subst, refl}
 use Rattle.std.proofs.Math.Pow.{pow_mono}
 use Rattle.std.proofs.lemmas.Bool.{cases_lt}
 use Rattle.slh_tree.specs.declared.cover.Placed.{Placed}
 use Rattle.slh_tree.specs.Tree.{MerkleTree, node, sibling, sibling_index}
 use Rattle.slh_tree.specs.Cover.{first_leaf, past_leaf}
-use Rattle.slh_tree.specs.Record.{KnownPath, known, Completes, LiesInRange}
+use Rattle.slh_tree.specs.Record.{KnownPath, known, Gains, Completes, LiesInRange}
 use Rattle.slh_tree.proofs.Blocks.{past-first}
 use Rattle.slh_tree.proofs.Authentic.{node-leaf}
 use Rattle.slh_tree.proofs.Pushing.{Notes}
 
 -- the record r knows what r0 did, and the path's nodes over lo .. hi alone
-pub record Hashed (t : MerkleTree) (lo hi : ℕ) (r0 r : KnownPath) : Type 0 where
-  pub height : r.height ≡ r0.height
-  pub leaf : r.leaf ≡ r0.leaf
-  pub noted : (j : ℕ) → j < r0.height → LiesInRange lo hi r0.leaf j → known r j ≡ Some (sibling t r0.leaf j)
-  pub kept : (j : ℕ) → (LiesInRange lo hi r0.leaf j → ⊥) → known r j ≡ known r0 j
+abbrev pub Hashed : MerkleTree → ℕ → ℕ → KnownPath → KnownPath → Type 0
+Hashed t lo hi r0 r = Gains t (LiesInRange lo hi r0.leaf) r0 r
 
 -- what `push` says of the record
-pub record Pushed (t : MerkleTree) (lo : ℕ) (p : Placed) (r r' : KnownPath) : Type 0 where
-  pub height : r'.height ≡ r.height
-  pub leaf : r'.leaf ≡ r.leaf
-  pub noted : (j : ℕ) → j < r.height → Completes lo p r.leaf j → known r' j ≡ Some (sibling t r.leaf j)
-  pub kept : (j : ℕ) → (Completes lo p r.leaf j → ⊥) → known r' j ≡ known r j
+abbrev pub Pushed : MerkleTree → ℕ → Placed → KnownPath → KnownPath → Type 0
+Pushed t lo p r r' = Gains t (Completes lo p r.leaf) r r'
 
 -- a node over one leaf is a leaf
 lone_leaf : (j s i : ℕ) → i ≤ first_leaf j s → past_leaf j s ≤ i + 1 → j ≡ 0

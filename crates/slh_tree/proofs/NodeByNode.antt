@@ -5,7 +5,7 @@ use Rattle.std.proofs.lemmas.List.{take_all, take_more}
 use Rattle.slh_tree.specs.declared.cover.Placed.{Placed}
 use Rattle.slh_tree.specs.Tree.{MerkleTree, sibling, sibling_index}
 use Rattle.slh_tree.specs.Cover.{first_leaf, past_leaf, IsCoverFromEnd, IsCover}
-use Rattle.slh_tree.specs.Record.{KnownPath, known, Completes, Crosses}
+use Rattle.slh_tree.specs.Record.{KnownPath, Gains, Completes, Crosses}
 use Rattle.slh_tree.proofs.FromEnd.{from_end, cover_of}
 use Rattle.slh_tree.proofs.Blocks.{first-lt-past, higher, lies_inside, ends_with}
 use Rattle.slh_tree.proofs.Covers.{LastAtLeast, last_at_least, cover-le}
@@ -14,11 +14,8 @@ use Rattle.slh_tree.proofs.Hashing.{Pushed}
 use Rattle.slh_tree.proofs.Pushing.{reverse_push}
 
 -- the record r knows what r0 did, and the path's nodes that end in lo .. hi and begin before
-pub record Crossed (t : MerkleTree) (lo hi : ℕ) (r0 r : KnownPath) : Type 0 where
-  pub height : r.height ≡ r0.height
-  pub leaf : r.leaf ≡ r0.leaf
-  pub noted : (j : ℕ) → j < r0.height → Crosses lo hi r0.leaf j → known r j ≡ Some (sibling t r0.leaf j)
-  pub kept : (j : ℕ) → (Crosses lo hi r0.leaf j → ⊥) → known r j ≡ known r0 j
+abbrev pub Crossed : MerkleTree → ℕ → ℕ → KnownPath → KnownPath → Type 0
+Crossed t lo hi r0 r = Gains t (Crosses lo hi r0.leaf) r0 r
 
 -- no node was pushed yet
 pub crossed_none : (t : MerkleTree) (lo : ℕ) (r0 : KnownPath) → Crossed t lo lo r0 r0

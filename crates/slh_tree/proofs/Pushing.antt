@@ -5,7 +5,7 @@ use Rattle.std.proofs.lemmas.Bool.{cases_eq}
 use Rattle.slh_tree.specs.declared.cover.Placed.{Placed}
 use Rattle.slh_tree.specs.Tree.{MerkleTree, node, sibling, sibling_index}
 use Rattle.slh_tree.specs.Cover.{first_leaf, past_leaf, IsNodeOf, AreSiblings, EndsApart, IsCoverFromEnd, IsCover}
-use Rattle.slh_tree.specs.Record.{KnownPath, known, Completes}
+use Rattle.slh_tree.specs.Record.{KnownPath, known, Gains, Completes}
 use Rattle.slh_tree.proofs.FromEnd.{from_end, cover_of}
 use Rattle.slh_tree.proofs.Blocks.{first-lt-past, begins_before, same_past, past_right_half, first_left_half}
 use Rattle.slh_tree.proofs.Covers.{LastAtLeast, last_at_least, cover-le}
@@ -128,7 +128,7 @@ module _ (t : MerkleTree) (p0 : Placed) (s0 : List Placed) (r0 : KnownPath) (s :
       cover_of (subst At (sym (reverse_push s p)) (now.own, now.ends, apart, from_end (now.covers lo c)))
 
   -- then the nodes that p0 completes are known
-  pub joining_noted : (lo j : ℕ) → IsCover t lo (first_leaf p0.z p0.i) s0 → EndsApart (reverse s) p → j < r0.height → Completes lo p0 r0.leaf j → known r j ≡ Some (sibling t r0.leaf j)
+  joining_noted : (lo j : ℕ) → IsCover t lo (first_leaf p0.z p0.i) s0 → EndsApart (reverse s) p → j < r0.height → Completes lo p0 r0.leaf j → known r j ≡ Some (sibling t r0.leaf j)
   unfolding LastAtLeast
   joining_noted lo j c apart below done =
       let At : ℕ → Type 0 = λ hi. IsCoverFromEnd t lo hi (p ∷ reverse s) in
@@ -137,9 +137,18 @@ module _ (t : MerkleTree) (p0 : Placed) (s0 : List Placed) (r0 : KnownPath) (s :
       now.noted j below high done.before done.ends
 
   -- and no others
-  pub joining_kept : (lo j : ℕ) → IsCover t lo (first_leaf p0.z p0.i) s0 → (Completes lo p0 r0.leaf j → ⊥) → known r j ≡ known r0 j
+  joining_kept : (lo j : ℕ) → IsCover t lo (first_leaf p0.z p0.i) s0 → (Completes lo p0 r0.leaf j → ⊥) → known r j ≡ known r0 j
   joining_kept lo j c off =
       now.kept j (λ le before ends.
       let b = begins_before j (sibling_index r0.leaf j) p.z p.i (ends ∙ sym now.ends) le in
       let low = cover-le t lo (first_leaf p.z p.i) (reverse s) (from_end (now.covers lo c)) in
       off (record { from = omega arith; before = before; ends = ends }))
+
+  -- so the record gains exactly these
+  pub joining_gained : (lo : ℕ) → IsCover t lo (first_leaf p0.z p0.i) s0 → EndsApart (reverse s) p → Gains t (Completes lo p0 r0.leaf) r0 r
+  joining_gained lo c apart = record {
+    height = now.height;
+    leaf = now.leaf;
+    noted = λ j below done. joining_noted lo j c apart below done;
+    kept = λ j off. joining_kept lo j c off;
+  }

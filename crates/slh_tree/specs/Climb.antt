@@ -1,4 +1,4 @@
--- The authentication path of a leaf, and the climb from a leaf along a path.
+-- The authentication path of a leaf, and the climb from a leaf along a path (FIPS 205, sections 6.2, 6.3, 8.3 and 8.4).
 use Rattle.std.specs.Prelude.{ℕ, zero, suc, ◌*◌, ◌/◌, ◌%◌, ◌^◌, ◌==◌, List, [], ◌++◌, take, drop, if◌then◌else◌}
 use Rattle.slh_tree.specs.Tree.{MerkleTree, sibling}
 

@@ -1,4 +1,4 @@
--- Covers of a range of leaves by nodes.
+-- Covers of a range of leaves by nodes: ours.
 use Rattle.std.specs.Prelude.{◌≡◌, ℕ, ◌+◌, ◌*◌, ◌%◌, ◌^◌, ◌≤◌, ⊤, List, [], ◌∷◌, All}
 use Rattle.slh_tree.specs.declared.cover.Cover.{Cover}
 use Rattle.slh_tree.specs.declared.cover.Placed.{Placed}
@@ -35,7 +35,8 @@ NoSiblingsMeet [] = ⊤
 NoSiblingsMeet (p ∷ []) = ⊤
 NoSiblingsMeet (p ∷ q ∷ ps) = (AreSiblings p q → ⊥) × NoSiblingsMeet (q ∷ ps)
 
--- The tree's own nodes whose leaves, put end to end, are lo .. hi, with no left child followed by its own right sibling.
+-- The tree's own nodes whose leaves, put end to end, are lo .. hi, with no left child followed by its own right
+-- sibling.
 pub record IsCover (t : MerkleTree) (lo hi : ℕ) (ps : List Placed) : Type 0 where
   pub own : All (IsNodeOf t) ps
   pub spans : Spans lo hi ps

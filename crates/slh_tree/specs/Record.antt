@@ -1,9 +1,9 @@
--- What a path record knows.
+-- What a path record knows: ours.
 use Rattle.std.specs.Prelude.{◌≡◌, ℕ, ◌<◌, ◌≤◌, ◌⊎◌, List, [], ◌∷◌, Option, None, Some, slice_index_or}
 use Rattle.arrayvec.specs.ArrayVec.{ArrayVec}
 use Rattle.slh_tree.specs.declared.cover.Cover.{Cover}
 use Rattle.slh_tree.specs.declared.cover.Placed.{Placed}
-use Rattle.slh_tree.specs.Tree.{sibling_index}
+use Rattle.slh_tree.specs.Tree.{MerkleTree, sibling, sibling_index}
 use Rattle.slh_tree.specs.Cover.{first_leaf, past_leaf}
 
 -- The tree's height, the leaf whose path it is, and for each height the path's node there, as far as it is known.
@@ -20,6 +20,14 @@ bytes_of (Some node) = Some node.items
 -- the path's node of height j, where it is known
 abbrev pub known : KnownPath → ℕ → Option (List ℕ)
 known r j = slice_index_or r.nodes j None
+
+-- What a call does to a record: of the nodes of its leaf's path in the tree, the new one also knows those whose heights
+-- are `Gained`, and nothing else changes.
+pub record Gains (t : MerkleTree) (Gained : ℕ → Type 0) (old new : KnownPath) : Type 0 where
+  pub height : new.height ≡ old.height
+  pub leaf : new.leaf ≡ old.leaf
+  pub noted : (j : ℕ) → j < old.height → Gained j → known new j ≡ Some (sibling t old.leaf j)
+  pub kept : (j : ℕ) → (Gained j → ⊥) → known new j ≡ known old j
 
 -- the leaves of the node of height j of leaf i's path all lie in lo .. hi
 pub record LiesInRange (lo hi i j : ℕ) : Type 0 where

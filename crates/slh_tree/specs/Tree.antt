@@ -1,4 +1,4 @@
--- Merkle trees over byte strings.
+-- Merkle trees over byte strings (FIPS 205, sections 6.1 and 8.2).
 use Rattle.std.specs.Prelude.{◌≡◌, ℕ, zero, suc, ◌+◌, ◌*◌, ◌/◌, ◌^◌, List, length, bit_xor}
 
 -- How high a tree is, how long its nodes are, its leaves, and how two nodes are joined to the one above them.
@@ -15,7 +15,7 @@ pub record Lawful (t : MerkleTree) : Type 0 where
   pub leaf_width : (i : ℕ) → length (t.leaf i) ≡ t.width
   pub join_width : (z i : ℕ) (l r : List ℕ) → length (t.join z i l r) ≡ t.width
 
--- The node of height z at index i, over the leaves from i * 2 ^ z to (i + 1) * 2 ^ z - 1 (FIPS 205, Algorithms 9 and 15).
+-- The node of height z at index i, over the leaves from i * 2 ^ z to (i + 1) * 2 ^ z - 1 (Algorithms 9 and 15).
 unfoldable pub node : MerkleTree → ℕ → ℕ → List ℕ
 node t zero i = t.leaf i
 node t (suc z) i = t.join (suc z) i (node t z (2 * i)) (node t z (2 * i + 1))

@@ -5,7 +5,8 @@ use crate::tree::Tree;
 use slh_params::{Node, node_of};
 use std::cell::Cell;
 
-/// A tree that counts how often a leaf was asked for, in `calls`, and keeps which ones were, leaf i as bit i of `asked`.
+/// A tree that counts how often a leaf was asked for, in `calls`, and keeps which ones were: leaf i as bit i of
+/// `asked`.
 #[derive(Drop)]
 pub(crate) struct Example {
     pub(crate) height: u32,

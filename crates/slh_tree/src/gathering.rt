@@ -2,7 +2,7 @@
 ghost use Rattle.std.specs.Prelude.{◌≡◌, ℕ, ◌^◌, ◌<◌, ◌≤◌, Some};
 ghost use Rattle.slh_tree.specs.Tree.{sibling, root};
 ghost use Rattle.slh_tree.specs.Cover.{IsCover, AreCovers};
-ghost use Rattle.slh_tree.specs.Record.{known, Crosses, LiesInOne};
+ghost use Rattle.slh_tree.specs.Record.{known, Gains, Crosses, LiesInOne};
 
 use crate::cover::{Cover, Placed};
 use crate::range::only_node;
@@ -11,7 +11,7 @@ use crate::stack::Stack;
 use crate::tree::Tree;
 use slh_params::{Node, copy_of};
 
-/// The same node again.
+/// A copy of the node at its place.
 fn copy_placed(placed: &Placed) -> Placed
     ensures { result ≡ placed.now }
 {
@@ -22,16 +22,14 @@ fn copy_placed(placed: &Placed) -> Placed
     }
 }
 
-/// Adds the nodes of the next cover. The record gains those nodes of its path that end in the range and begin before it.
+/// Adds the nodes of the next cover. The record gains those nodes of its path that end in the range and begin before
+/// it.
 fn push_cover<T: Tree>(stack: &mut Stack, tree: &T, cover: &Cover, rec: &mut PathRec)
     requires cover { IsCover (T.tree tree.now) cover.now.lo cover.now.hi cover.now.nodes.items }
     requires follows { IsCover (T.tree tree.now) 0 cover.now.lo stack.old }
     requires same_height { rec.old.height ≡ (T.tree tree.now).height }
     ensures cover { IsCover (T.tree tree.now) 0 cover.now.hi stack.new }
-    ensures height { rec.new.height ≡ rec.old.height }
-    ensures leaf { rec.new.leaf ≡ rec.old.leaf }
-    ensures noted { (j : ℕ) → j < rec.old.height → Crosses cover.now.lo cover.now.hi rec.old.leaf j → known rec.new j ≡ Some (sibling (T.tree tree.now) rec.old.leaf j) }
-    ensures kept { (j : ℕ) → (Crosses cover.now.lo cover.now.hi rec.old.leaf j → ⊥) → known rec.new j ≡ known rec.old j }
+    ensures gained { Gains (T.tree tree.now) (Crosses cover.now.lo cover.now.hi rec.old.leaf) rec.old rec.new }
 {
     let nodes = cover.nodes.as_slice();
     for placed in nodes {
@@ -39,20 +37,18 @@ fn push_cover<T: Tree>(stack: &mut Stack, tree: &T, cover: &Cover, rec: &mut Pat
     }
 }
 
-/// The root of the tree from covers that, put end to end, span it. The record gains exactly those nodes of its path whose
-/// leaves do not all lie in one cover's range. So once the record also has what `hash_range` noted over each range, it
-/// knows the whole path.
+/// The root of the tree from covers that, put end to end, span it. The record gains exactly those nodes of its path
+/// whose leaves do not all lie in one cover's range. So once the record also has what `hash_range` noted over each
+/// range, it knows the whole path.
 pub fn gather<T: Tree>(tree: &T, covers: &[Cover], rec: &mut PathRec) -> Node
     requires covers { AreCovers (T.tree tree.now) 0 covers.now }
     requires same_height { rec.old.height ≡ (T.tree tree.now).height }
     requires leaf { rec.old.leaf < 2 ^ rec.old.height }
     ensures root { result.items ≡ root (T.tree tree.now) }
-    ensures height { rec.new.height ≡ rec.old.height }
-    ensures leaf { rec.new.leaf ≡ rec.old.leaf }
-    ensures noted { (j : ℕ) → j < rec.old.height → (LiesInOne covers.now rec.old.leaf j → ⊥) → known rec.new j ≡ Some (sibling (T.tree tree.now) rec.old.leaf j) }
-    ensures kept { (j : ℕ) → LiesInOne covers.now rec.old.leaf j → known rec.new j ≡ known rec.old j }
+    ensures gained { Gains (T.tree tree.now) (λ j. LiesInOne covers.now rec.old.leaf j → ⊥) rec.old rec.new }
     ensures complete { ((j : ℕ) → j < rec.old.height → LiesInOne covers.now rec.old.leaf j → known rec.old j ≡ Some (sibling (T.tree tree.now) rec.old.leaf j)) → (j : ℕ) → j < rec.old.height → known rec.new j ≡ Some (sibling (T.tree tree.now) rec.old.leaf j) }
 {
+    // For the prover: a tree has a height of at most 14.
     let _highest = tree.height();
     let mut stack = Stack::new();
     for cover in covers {

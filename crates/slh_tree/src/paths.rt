@@ -1,5 +1,5 @@
 //! The authentication path of a leaf, and the climb along a path.
-ghost use Rattle.std.specs.Prelude.{◌≡◌, ◌+◌, ◌*◌, ◌/◌, ◌^◌, ◌<◌, ◌≤◌, ◌++◌, length, take};
+ghost use Rattle.std.specs.Prelude.{◌≡◌, ◌+◌, ◌*◌, ◌/◌, ◌^◌, ◌<◌, ◌≤◌, length};
 ghost use Rattle.slh_tree.specs.Tree.{root, node};
 ghost use Rattle.slh_tree.specs.Cover.{past_leaf};
 ghost use Rattle.slh_tree.specs.Climb.{climb as climb_of, parent as parent_of, path};
@@ -7,7 +7,7 @@ ghost use Rattle.slh_tree.specs.Climb.{climb as climb_of, parent as parent_of, p
 use crate::range::hash_range;
 use crate::record::PathRec;
 use crate::tree::Tree;
-use slh_params::{Node, copy_of, node_of};
+use slh_params::{Node, copy_of, node_of, put_node};
 
 /// Writes the authentication path of leaf `idx` into `out`: for each height below the tree's, the sibling of the node
 /// over the leaf, end to end (FIPS 205, AUTH of Algorithms 10 and 16).
@@ -20,7 +20,7 @@ pub fn path<T: Tree>(tree: &T, idx: u32, out: &mut [u8])
 {
     for level in 0..tree.height() {
         let node = node_over(tree, level, (idx >> level) ^ 1);
-        write_node(out, level as usize * node.len(), &node);
+        put_node(out, level as usize * node.len(), &node);
     }
 }
 
@@ -36,15 +36,6 @@ fn node_over<T: Tree>(tree: &T, z: u32, i: u32) -> Node
     let first = i * size;
     let cover = hash_range(tree, first, first + size, &mut rec);
     copy_of(&cover.nodes[0].node)
-}
-
-/// Writes a node's bytes from `start` on.
-fn write_node(out: &mut [u8], start: usize, node: &Node)
-    requires { start + length node.now.items ≤ length out.old }
-    ensures { take (start + length node.now.items) out.new ≡ take start out.old ++ node.now.items }
-{
-    let end = start + node.len();
-    out[start..end].copy_from_slice(node);
 }
 
 /// The parent of the node of height `level` over leaf `idx`, from that node and its sibling.

@@ -1,9 +1,9 @@
 //! The cover of a range of leaves, and the root.
-ghost use Rattle.std.specs.Prelude.{◌≡◌, ℕ, ◌*◌, ◌^◌, ◌<◌, ◌≤◌, [], ◌∷◌, Some, length};
-ghost use Rattle.slh_tree.specs.Tree.{sibling, root};
+ghost use Rattle.std.specs.Prelude.{◌≡◌, ℕ, ◌*◌, ◌^◌, ◌<◌, ◌≤◌, [], ◌∷◌, length};
+ghost use Rattle.slh_tree.specs.Tree.{root};
 ghost use Rattle.slh_tree.specs.declared.cover.Placed.{Placed};
 ghost use Rattle.slh_tree.specs.Cover.{IsCover, first_leaf, past_leaf};
-ghost use Rattle.slh_tree.specs.Record.{known, LiesInRange};
+ghost use Rattle.slh_tree.specs.Record.{Gains, LiesInRange};
 
 use crate::cover::{Cover, Placed};
 use crate::record::PathRec;
@@ -23,11 +23,9 @@ pub fn hash_range<T: Tree>(tree: &T, lo: u32, hi: u32, rec: &mut PathRec) -> Cov
     ensures hi { result.hi ≡ hi }
     ensures block { (z i : ℕ) → lo ≡ first_leaf z i → hi ≡ past_leaf z i → (p : Placed) × (result.nodes.items ≡ p ∷ []) × (p.z ≡ z) × (p.i ≡ i) }
     ensures few { length result.nodes.items ≤ 2 * (T.tree tree.now).height }
-    ensures height { rec.new.height ≡ rec.old.height }
-    ensures leaf { rec.new.leaf ≡ rec.old.leaf }
-    ensures noted { (j : ℕ) → j < rec.old.height → LiesInRange lo hi rec.old.leaf j → known rec.new j ≡ Some (sibling (T.tree tree.now) rec.old.leaf j) }
-    ensures kept { (j : ℕ) → (LiesInRange lo hi rec.old.leaf j → ⊥) → known rec.new j ≡ known rec.old j }
+    ensures gained { Gains (T.tree tree.now) (LiesInRange lo hi rec.old.leaf) rec.old rec.new }
 {
+    // For the prover: a tree has a height of at most 14.
     let _highest = tree.height();
     let mut stack = Stack::new();
     for i in lo..hi {

@@ -1,9 +1,9 @@
 //! The stack of nodes that are not joined yet.
 ghost use Rattle.std.specs.Prelude.{◌≡◌, ℕ, ◌+◌, ◌-◌, ◌*◌, ◌/◌, ◌^◌, ◌<◌, ◌≤◌, List, [], ◌∷◌, ◌++◌, Some, length, reverse, IfSome, IfNone};
 ghost use Rattle.slh_tree.specs.declared.cover.Placed.{Placed};
-ghost use Rattle.slh_tree.specs.Tree.{MerkleTree, sibling};
+ghost use Rattle.slh_tree.specs.Tree.{MerkleTree};
 ghost use Rattle.slh_tree.specs.Cover.{first_leaf, past_leaf, IsNodeOf, AreSiblings, EndsApart, IsCover};
-ghost use Rattle.slh_tree.specs.Record.{known, Completes};
+ghost use Rattle.slh_tree.specs.Record.{Gains, Completes};
 
 use crate::cover::{Cover, Placed};
 use crate::record::PathRec;
@@ -35,6 +35,7 @@ fn join_siblings<T: Tree>(tree: &T, left: &Placed, right: &Placed) -> Placed
     ensures height { result.z ≡ right.now.z + 1 }
     ensures index { right.now.i ≡ 2 * result.i + 1 }
 {
+    // For the prover: a tree has a height of at most 14.
     let _highest = tree.height();
     let z = left.z + 1;
     let i = left.i / 2;
@@ -75,11 +76,10 @@ impl Stack {
         requires follows { (lo : ℕ) × IsCover (T.tree tree.now) lo (first_leaf placed.z placed.i) self.old }
         requires same_height { rec.old.height ≡ (T.tree tree.now).height }
         ensures cover { (lo : ℕ) → IsCover (T.tree tree.now) lo (first_leaf placed.z placed.i) self.old → IsCover (T.tree tree.now) lo (past_leaf placed.z placed.i) self.new }
-        ensures height { rec.new.height ≡ rec.old.height }
-        ensures leaf { rec.new.leaf ≡ rec.old.leaf }
-        ensures noted { (lo j : ℕ) → IsCover (T.tree tree.now) lo (first_leaf placed.z placed.i) self.old → j < rec.old.height → Completes lo placed rec.old.leaf j → known rec.new j ≡ Some (sibling (T.tree tree.now) rec.old.leaf j) }
-        ensures kept { (lo j : ℕ) → IsCover (T.tree tree.now) lo (first_leaf placed.z placed.i) self.old → (Completes lo placed rec.old.leaf j → ⊥) → known rec.new j ≡ known rec.old j }
+        ensures gained { (lo : ℕ) → IsCover (T.tree tree.now) lo (first_leaf placed.z placed.i) self.old
+            → Gains (T.tree tree.now) (Completes lo placed rec.old.leaf) rec.old rec.new }
     {
+        // For the prover: a tree has a height of at most 14.
         let _highest = tree.height();
         let mut top = placed;
         while let Some(left) = self.take_left(&top) {

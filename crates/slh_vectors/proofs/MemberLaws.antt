@@ -10,11 +10,12 @@ use Rattle.slh_params.proofs.Names.{set_named_is}
 use Rattle.slh_params.specs.ParamSet as param_set
 use Rattle.slh_params.specs.ParamSet.{params, set_named}
 use Rattle.slh_params.specs.declared.param_set.ParamSet.{ParamSet}
-use Rattle.slh_vectors.specs.Names.{form_name, form_named, kind_name, kind_named}
+use Rattle.slh_vectors.specs.Names.{form_name, form_named, pre_hashed, kind_name, kind_named}
 use Rattle.slh_vectors.specs.declared.test.Kind.{Kind}
 use Rattle.slh_vectors.specs.declared.test.Kind.TheVariants as kinds
-use Rattle.slh_vectors.specs.declared.test.Form.{Form}
-use Rattle.slh_vectors.specs.declared.test.Form.TheVariants as forms
+use Rattle.slh_vectors.specs.declared.test.Interface.{Interface}
+use Rattle.slh_vectors.specs.declared.test.Interface.TheVariants.{Internal, External}
+use Rattle.slh_core.specs.declared.form.Form.TheVariants as forms
 use Rattle.slh_vectors.specs.declared.fault.Member.TheVariants as members
 use Rattle.hex.specs.Hex.{decode_of}
 use Rattle.hex.specs.declared.error.FromHexError.{FromHexError}
@@ -113,33 +114,32 @@ kind_found n d k e =
     let a = bind_ok (text_in n members.Kind d) (λ s. or_fault (kind_named s) (Bad n members.Kind)) k e in
     rw (← kind_named_is a.0 k (some_from (kind_named a.0) (Bad n members.Kind) k a.2)) (text_found n members.Kind d a.0 a.1)
 
-prehash_form : (o : Option PreHash) (s : List ℕ) (f : Form) → ((p : PreHash) → o ≡ Some p → pre_hash.name p ≡ s) → option_map forms.PreHash o ≡ Some f → s ≡ form_name f
+prehash_form : (o : Option PreHash) (s : List ℕ) (f : Interface) → ((p : PreHash) → o ≡ Some p → pre_hash.name p ≡ s) → option_map pre_hashed o ≡ Some f → s ≡ form_name f
 prehash_form (Some p) s f h e =
-    let same : forms.PreHash p ≡ f = cc in
+    let same : External (forms.PreHash p) ≡ f = cc in
     rw (← same) (sym (h p refl))
 prehash_form None s f h e = absurd cc
 
-form_named_is : (s : List ℕ) (f : Form) → form_named s ≡ Some f → s ≡ form_name f
+form_named_is : (s : List ℕ) (f : Interface) → form_named s ≡ Some f → s ≡ form_name f
 form_named_is s f e =
-    elim (picked s (codes "internal") forms.Internal f _ e) [
+    elim (picked s (codes "internal") Internal f _ e) [
       | inl a ↦ rw (← a.1) a.0
-      | inr a ↦ elim (picked s (codes "pure") forms.Pure f _ a) [
+      | inr a ↦ elim (picked s (codes "pure") (External forms.Pure) f _ a) [
         | inl b ↦ rw (← b.1) b.0
         | inr b ↦ prehash_form (pre_hash.function_named s) s f (function_named_is s) b
       ]
     ]
 
-form_found : (n : ℕ) (d : Data) (f : Form) → form_in n d ≡ Ok f → HasText d (codes "form") (form_name f)
+form_found : (n : ℕ) (d : Data) (f : Interface) → form_in n d ≡ Ok f → HasText d (codes "form") (form_name f)
 unfolding form_in
 form_found n d f e =
     let a = bind_ok (text_in n members.Form d) (λ s. or_fault (form_named s) (Bad n members.Form)) f e in
     rw (← form_named_is a.0 f (some_from (form_named a.0) (Bad n members.Form) f a.2)) (text_found n members.Form d a.0 a.1)
 
-context_found : (n : ℕ) (f : Form) (d : Data) (bytes : List ℕ) → context_in n f d ≡ Ok bytes → HasContext d f bytes
+context_found : (n : ℕ) (f : Interface) (d : Data) (bytes : List ℕ) → context_in n f d ≡ Ok bytes → HasContext d f bytes
 unfolding context_in
-context_found n forms.Internal d bytes e = cc
-context_found n forms.Pure d bytes e = hex_found n members.Context d bytes e
-context_found n (forms.PreHash p) d bytes e = hex_found n members.Context d bytes e
+context_found n Internal d bytes e = cc
+context_found n (External form) d bytes e = hex_found n members.Context d bytes e
 
 pub ok_is : {A : Type 0} (x y : A) → (let r : Result A VectorFault = Ok x in r) ≡ Ok y → x ≡ y
 ok_is x y e = cc

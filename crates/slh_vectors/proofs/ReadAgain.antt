@@ -10,11 +10,12 @@ use Rattle.slh_params.proofs.Names.{set_named-name}
 use Rattle.slh_params.specs.ParamSet as param_set
 use Rattle.slh_params.specs.ParamSet.{params}
 use Rattle.slh_params.specs.declared.param_set.ParamSet.{ParamSet}
-use Rattle.slh_vectors.specs.Names.{form_name, form_named, kind_name}
+use Rattle.slh_vectors.specs.Names.{form_name, form_named, pre_hashed, kind_name}
 use Rattle.slh_vectors.specs.declared.test.Kind.{Kind}
 use Rattle.slh_vectors.specs.declared.test.Kind.TheVariants as kinds
-use Rattle.slh_vectors.specs.declared.test.Form.{Form}
-use Rattle.slh_vectors.specs.declared.test.Form.TheVariants as forms
+use Rattle.slh_vectors.specs.declared.test.Interface.{Interface}
+use Rattle.slh_vectors.specs.declared.test.Interface.TheVariants.{Internal, External}
+use Rattle.slh_core.specs.declared.form.Form.TheVariants as forms
 use Rattle.slh_vectors.specs.declared.fault.Member.TheVariants as members
 use Rattle.serde_json.specs.Data.{Data, boolean, Items, no_items, item}
 use Rattle.serde_json.specs.Find.{get}
@@ -42,25 +43,24 @@ kind_again n d kinds.Sign h = rw (text_again n members.Kind d (kind_name kinds.S
 kind_again n d kinds.Verify h = rw (text_again n members.Kind d (kind_name kinds.Verify) h) refl
 
 -- the name of a pre-hash function is no other form's
-form_of_function : (n : ℕ) (p : PreHash) → or_fault (form_named (pre_hash.name p)) (Bad n members.Form) ≡ Ok (forms.PreHash p)
-form_of_function n Sha224 = ap (λ (o : Option PreHash). or_fault (option_map forms.PreHash o) (Bad n members.Form)) (function_named-name Sha224)
-form_of_function n Sha256 = ap (λ (o : Option PreHash). or_fault (option_map forms.PreHash o) (Bad n members.Form)) (function_named-name Sha256)
-form_of_function n Sha384 = ap (λ (o : Option PreHash). or_fault (option_map forms.PreHash o) (Bad n members.Form)) (function_named-name Sha384)
-form_of_function n Sha512 = ap (λ (o : Option PreHash). or_fault (option_map forms.PreHash o) (Bad n members.Form)) (function_named-name Sha512)
-form_of_function n Sha512_224 = ap (λ (o : Option PreHash). or_fault (option_map forms.PreHash o) (Bad n members.Form)) (function_named-name Sha512_224)
-form_of_function n Sha512_256 = ap (λ (o : Option PreHash). or_fault (option_map forms.PreHash o) (Bad n members.Form)) (function_named-name Sha512_256)
+form_of_function : (n : ℕ) (p : PreHash) → or_fault (form_named (pre_hash.name p)) (Bad n members.Form) ≡ Ok (External (forms.PreHash p))
+form_of_function n Sha224 = ap (λ (o : Option PreHash). or_fault (option_map pre_hashed o) (Bad n members.Form)) (function_named-name Sha224)
+form_of_function n Sha256 = ap (λ (o : Option PreHash). or_fault (option_map pre_hashed o) (Bad n members.Form)) (function_named-name Sha256)
+form_of_function n Sha384 = ap (λ (o : Option PreHash). or_fault (option_map pre_hashed o) (Bad n members.Form)) (function_named-name Sha384)
+form_of_function n Sha512 = ap (λ (o : Option PreHash). or_fault (option_map pre_hashed o) (Bad n members.Form)) (function_named-name Sha512)
+form_of_function n Sha512_224 = ap (λ (o : Option PreHash). or_fault (option_map pre_hashed o) (Bad n members.Form)) (function_named-name Sha512_224)
+form_of_function n Sha512_256 = ap (λ (o : Option PreHash). or_fault (option_map pre_hashed o) (Bad n members.Form)) (function_named-name Sha512_256)
 
-form_again : (n : ℕ) (d : Data) (f : Form) → HasText d (codes "form") (form_name f) → form_in n d ≡ Ok f
+form_again : (n : ℕ) (d : Data) (f : Interface) → HasText d (codes "form") (form_name f) → form_in n d ≡ Ok f
 unfolding form_in
-form_again n d forms.Internal h = rw (text_again n members.Form d (codes "internal") h) refl
-form_again n d forms.Pure h = rw (text_again n members.Form d (codes "pure") h) refl
-form_again n d (forms.PreHash p) h = rw (text_again n members.Form d (pre_hash.name p) h) (form_of_function n p)
+form_again n d Internal h = rw (text_again n members.Form d (codes "internal") h) refl
+form_again n d (External forms.Pure) h = rw (text_again n members.Form d (codes "pure") h) refl
+form_again n d (External (forms.PreHash p)) h = rw (text_again n members.Form d (pre_hash.name p) h) (form_of_function n p)
 
-context_again : (n : ℕ) (f : Form) (d : Data) (bytes : List ℕ) → HasContext d f bytes → context_in n f d ≡ Ok bytes
+context_again : (n : ℕ) (f : Interface) (d : Data) (bytes : List ℕ) → HasContext d f bytes → context_in n f d ≡ Ok bytes
 unfolding context_in
-context_again n forms.Internal d bytes h = rw h refl
-context_again n forms.Pure d bytes h = hex_again n members.Context d bytes h
-context_again n (forms.PreHash p) d bytes h = hex_again n members.Context d bytes h
+context_again n Internal d bytes h = rw h refl
+context_again n (External form) d bytes h = hex_again n members.Context d bytes h
 
 input_again : (n : ℕ) (d : Data) (i : InputCase) → HasInput d i → input_in n d ≡ Ok i
 unfolding input_in

@@ -3,7 +3,7 @@ use Rattle.std.specs.Prelude.{ℕ, List, Bool, map}
 use Rattle.slh_params.specs.declared.param_set.ParamSet.{ParamSet}
 use Rattle.slh_vectors.specs.declared.test.Kind.{Kind}
 use Rattle.slh_vectors.specs.declared.test.Kind.TheVariants as kinds
-use Rattle.slh_vectors.specs.declared.test.Form.{Form}
+use Rattle.slh_vectors.specs.declared.test.Interface.{Interface}
 use Rattle.slh_vectors.specs.declared.test.Seeds.{Seeds}
 use Rattle.slh_vectors.specs.declared.test.Input.{Input}
 use Rattle.slh_vectors.specs.declared.test.KeygenTest.{KeygenTest}
@@ -18,7 +18,7 @@ pub record SeedsCase : Type 0 where
   pub pk_seed : List ℕ
 
 pub record InputCase : Type 0 where
-  pub form : Form
+  pub form : Interface
   pub message : List ℕ
   pub context : List ℕ
 

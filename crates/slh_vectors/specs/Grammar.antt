@@ -8,8 +8,8 @@ use Rattle.serde_json.specs.Find.{get}
 use Rattle.slh_params.specs.ParamSet.{params, name}
 use Rattle.slh_vectors.specs.Cases.{InputCase, KeygenCase, SignCase, VerifyCase, Case, keygen, sign, verify}
 use Rattle.slh_vectors.specs.Names.{form_name}
-use Rattle.slh_vectors.specs.declared.test.Form.{Form}
-use Rattle.slh_vectors.specs.declared.test.Form.TheVariants as forms
+use Rattle.slh_vectors.specs.declared.test.Interface.{Interface}
+use Rattle.slh_vectors.specs.declared.test.Interface.TheVariants.{Internal, External}
 
 -- the member is there, and it is this text
 abbrev pub HasText : Data → List ℕ → List ℕ → Type 0
@@ -27,10 +27,9 @@ pub record HasBytes (d : Data) (name : List ℕ) (len : ℕ) (bytes : List ℕ) 
   pub sized : length bytes ≡ len
 
 -- a message that is signed as it is has no context
-abbrev pub HasContext : Data → Form → List ℕ → Type 0
-HasContext d forms.Internal context = context ≡ []
-HasContext d forms.Pure context = HasHex d (codes "context") context
-HasContext d (forms.PreHash p) context = HasHex d (codes "context") context
+abbrev pub HasContext : Data → Interface → List ℕ → Type 0
+HasContext d Internal context = context ≡ []
+HasContext d (External form) context = HasHex d (codes "context") context
 
 pub record HasInput (d : Data) (i : InputCase) : Type 0 where
   pub form : HasText d (codes "form") (form_name i.form)

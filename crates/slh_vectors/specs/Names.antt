@@ -2,10 +2,12 @@
 use Rattle.std.specs.Prelude.{List, ℕ, Option, Some, None, option_map, codes, if◌then◌else◌}
 use Rattle.std.specs.Str.{bytes_eq}
 use Rattle.slh_core.specs.PreHash as pre_hash
+use Rattle.slh_core.specs.declared.pre_hash.PreHash.{PreHash}
 use Rattle.slh_vectors.specs.declared.test.Kind.{Kind}
 use Rattle.slh_vectors.specs.declared.test.Kind.TheVariants as kinds
-use Rattle.slh_vectors.specs.declared.test.Form.{Form}
-use Rattle.slh_vectors.specs.declared.test.Form.TheVariants as forms
+use Rattle.slh_vectors.specs.declared.test.Interface.{Interface}
+use Rattle.slh_vectors.specs.declared.test.Interface.TheVariants.{Internal, External}
+use Rattle.slh_core.specs.declared.form.Form.TheVariants as forms
 
 abbrev pub kind_name : Kind → List ℕ
 kind_name kinds.Keygen = codes "keygen"
@@ -18,12 +20,16 @@ kind_named text = if bytes_eq text (kind_name kinds.Keygen) then Some kinds.Keyg
     else (if bytes_eq text (kind_name kinds.Sign) then Some kinds.Sign
     else (if bytes_eq text (kind_name kinds.Verify) then Some kinds.Verify else None))
 
-abbrev pub form_name : Form → List ℕ
-form_name forms.Internal = codes "internal"
-form_name forms.Pure = codes "pure"
-form_name (forms.PreHash function) = pre_hash.name function
+abbrev pub form_name : Interface → List ℕ
+form_name Internal = codes "internal"
+form_name (External forms.Pure) = codes "pure"
+form_name (External (forms.PreHash function)) = pre_hash.name function
+
+-- the pre-hash form with a function
+abbrev pub pre_hashed : PreHash → Interface
+pre_hashed function = External (forms.PreHash function)
 
 -- the form of this name
-abbrev pub form_named : List ℕ → Option Form
-form_named text = if bytes_eq text (form_name forms.Internal) then Some forms.Internal
-    else (if bytes_eq text (form_name forms.Pure) then Some forms.Pure else option_map forms.PreHash (pre_hash.function_named text))
+abbrev pub form_named : List ℕ → Option Interface
+form_named text = if bytes_eq text (form_name Internal) then Some Internal
+    else (if bytes_eq text (form_name (External forms.Pure)) then Some (External forms.Pure) else option_map pre_hashed (pre_hash.function_named text))

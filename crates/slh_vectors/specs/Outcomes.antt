@@ -1,25 +1,23 @@
 -- What comes of a test, by FIPS 205.
-use Rattle.std.specs.Prelude.{◌≡◌, ◌↔◌, ◌≤◌, ⊤, ℕ, List, [], ◌∷◌, length, IsTrue, Some, None}
+use Rattle.std.specs.Prelude.{◌≡◌, ◌↔◌, ◌≤◌, ⊤, ℕ, List, [], ◌∷◌, length, IsTrue}
 use Rattle.slh_core.specs.Keys.{Key, generated_key, pk_seed, public_of}
 use Rattle.slh_core.specs.Messages.{message_in_form}
 use Rattle.slh_core.specs.Signatures.{IsValid, signature}
 use Rattle.slh_vectors.specs.Cases.{Case, InputCase, KeygenCase, SignCase, VerifyCase, keygen, sign, verify}
 use Rattle.slh_vectors.specs.declared.outcome.Outcome.{Outcome}
 use Rattle.slh_vectors.specs.declared.outcome.Outcome.TheVariants.{Pass}
-use Rattle.slh_vectors.specs.declared.test.Form.{Form}
-use Rattle.slh_vectors.specs.declared.test.Form.TheVariants.{Internal, Pure, PreHash}
+use Rattle.slh_vectors.specs.declared.test.Interface.{Interface}
+use Rattle.slh_vectors.specs.declared.test.Interface.TheVariants.{Internal, External}
 
 -- M' of a form, a context and a message (Algorithms 22 and 23)
-abbrev pub message_in : Form → List ℕ → List ℕ → List ℕ
+abbrev pub message_in : Interface → List ℕ → List ℕ → List ℕ
 message_in Internal context message = message
-message_in Pure context message = message_in_form None context message
-message_in (PreHash function) context message = message_in_form (Some function) context message
+message_in (External form) context message = message_in_form form context message
 
 -- there is an M' of the form and the context: a context of over 255 bytes has none
-abbrev pub HasMessage : Form → List ℕ → Type 0
+abbrev pub HasMessage : Interface → List ℕ → Type 0
 HasMessage Internal context = ⊤
-HasMessage Pure context = length context ≤ 255
-HasMessage (PreHash function) context = length context ≤ 255
+HasMessage (External form) context = length context ≤ 255
 
 abbrev pub message_of : InputCase → List ℕ
 message_of i = message_in i.form i.context i.message

@@ -16,8 +16,8 @@ use Rattle.slh_vectors.specs.declared.fault.VectorFault.{VectorFault}
 use Rattle.slh_vectors.specs.declared.fault.VectorFault.TheVariants.{NoMemory, NotJson, NotAList, Missing, Bad}
 use Rattle.slh_vectors.specs.declared.test.Kind.{Kind}
 use Rattle.slh_vectors.specs.declared.test.Kind.TheVariants as kinds
-use Rattle.slh_vectors.specs.declared.test.Form.{Form}
-use Rattle.slh_vectors.specs.declared.test.Form.TheVariants as forms
+use Rattle.slh_vectors.specs.declared.test.Interface.{Interface}
+use Rattle.slh_vectors.specs.declared.test.Interface.TheVariants.{Internal, External}
 
 infixl 10 ◌>>=◌
 abbrev pub ◌>>=◌ : {A B : Type 0} → Result A VectorFault → (A → Result B VectorFault) → Result B VectorFault
@@ -97,14 +97,13 @@ kind_in n d = text_in n members.Kind d >>= λ s. or_fault (kind_named s) (Bad n 
 unfoldable pub set_in : ℕ → Data → Result ParamSet VectorFault
 set_in n d = text_in n members.Set d >>= λ s. or_fault (set_named s) (Bad n members.Set)
 
-unfoldable pub form_in : ℕ → Data → Result Form VectorFault
+unfoldable pub form_in : ℕ → Data → Result Interface VectorFault
 form_in n d = text_in n members.Form d >>= λ s. or_fault (form_named s) (Bad n members.Form)
 
 -- a message that is signed as it is has no context
-unfoldable pub context_in : ℕ → Form → Data → Result (List ℕ) VectorFault
-context_in n forms.Internal d = Ok []
-context_in n forms.Pure d = hex_in n members.Context d
-context_in n (forms.PreHash p) d = hex_in n members.Context d
+unfoldable pub context_in : ℕ → Interface → Data → Result (List ℕ) VectorFault
+context_in n Internal d = Ok []
+context_in n (External form) d = hex_in n members.Context d
 
 -- no bytes stand for the deterministic variant
 unfoldable pub random_in : ℕ → ParamSet → Data → Result (List ℕ) VectorFault

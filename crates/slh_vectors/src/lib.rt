@@ -7,7 +7,7 @@ pub use outcome::{Outcome, all_passed};
 pub use reading::read_vectors;
 pub use running::run_test;
 pub use runs::run_vectors;
-pub use test::{Form, Input, KeygenTest, Kind, Seeds, SignTest, Test, VerifyTest};
+pub use test::{Input, Interface, KeygenTest, Kind, Seeds, SignTest, Test, VerifyTest};
 
 mod fault;
 mod kinds;

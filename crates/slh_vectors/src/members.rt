@@ -5,7 +5,7 @@ ghost use Rattle.slh_vectors.specs.Reading.{Gives, member_in, text_in, bool_in, 
 
 use super::fault::{Member, VectorFault};
 use super::names::{form_named, kind_named};
-use super::test::{Form, Kind};
+use super::test::{Interface, Kind};
 use hex::FromHexError;
 use serde_json::Value;
 use slh_params::ParamSet;
@@ -124,7 +124,7 @@ pub(crate) fn set(n: u64, test: &Value) -> Result<ParamSet, VectorFault>
 
 /// The member `form`.
 #[tactic(auto, unfolding(crate::specs::Reading::form_in))]
-pub(crate) fn form(n: u64, test: &Value) -> Result<Form, VectorFault>
+pub(crate) fn form(n: u64, test: &Value) -> Result<Interface, VectorFault>
     ensures { Gives (λ f. f) result (form_in n (view test.now)) }
 {
     match form_named(text(n, Member::Form, test)?) {
@@ -141,14 +141,14 @@ pub(crate) fn form(n: u64, test: &Value) -> Result<Form, VectorFault>
 pub(crate) fn context(
     alloc: Global,
     n: u64,
-    form: Form,
+    form: Interface,
     test: &Value,
 ) -> Result<Vec<u8>, VectorFault>
     ensures { Gives (λ v. v.items) result (context_in n form (view test.now)) }
 {
     match form {
-        Form::Internal => Ok(Vec::new(alloc)),
-        Form::Pure | Form::PreHash(_) => hex_bytes(alloc, n, Member::Context, test),
+        Interface::Internal => Ok(Vec::new(alloc)),
+        Interface::External(_) => hex_bytes(alloc, n, Member::Context, test),
     }
 }
 

@@ -1,8 +1,8 @@
 ghost use Rattle.std.specs.Prelude.{◌≡◌};
 ghost use Rattle.slh_vectors.specs.Names.{form_named, kind_named};
 
-use super::test::{Form, Kind};
-use slh_core::PreHash;
+use super::test::{Interface, Kind};
+use slh_core::{Form, PreHash};
 
 /// The kind of this name.
 pub(crate) fn kind_named(text: &str) -> Option<Kind>
@@ -20,14 +20,15 @@ pub(crate) fn kind_named(text: &str) -> Option<Kind>
 }
 
 /// The form of this name.
-pub(crate) fn form_named(text: &str) -> Option<Form>
+pub(crate) fn form_named(text: &str) -> Option<Interface>
     ensures { result ≡ form_named text.now }
 {
     if text == "internal" {
-        Some(Form::Internal)
+        Some(Interface::Internal)
     } else if text == "pure" {
-        Some(Form::Pure)
+        Some(Interface::External(Form::Pure))
     } else {
-        PreHash::from_name(text).map(Form::PreHash)
+        let function = PreHash::from_name(text)?;
+        Some(Interface::External(Form::PreHash(function)))
     }
 }

@@ -132,7 +132,9 @@ fn tests(alloc: Global, list: &[Value]) -> Result<Vec<Test>, VectorFault>
     Ok(tests)
 }
 
-/// The JSON value of a text.
+/// The JSON value of a text. `serde_json` recurses as deep as values nest, so the stack has to hold nothing else than
+/// it needs.
+#[inline(never)]
 fn json(alloc: Global, bytes: &[u8]) -> Result<Value, VectorFault>
     ensures { Gives view result (or_fault (json_of bytes.now) NotJson) }
 {

@@ -10,10 +10,9 @@ ghost use Rattle.slh_vectors.specs.declared.outcome.Outcome.TheVariants.{Pass};
 
 use super::fault::VectorFault;
 use super::outcome::Outcome;
-use super::test::{Form, Input, KeygenTest, SignTest, Test, VerifyTest};
+use super::test::{Input, Interface, KeygenTest, SignTest, Test, VerifyTest};
 use slh_core::{
-    PublicKey, Randomizer, SecretKey, SignFault, hash_sign, hash_verify, keygen_internal, sign,
-    sign_internal, verify, verify_internal,
+    PublicKey, Randomizer, SecretKey, SignFault, keygen_internal, sign_internal, verify_internal,
 };
 use std::alloc::Allocator;
 
@@ -110,12 +109,11 @@ fn signed(
     let message = input.message.as_slice();
     let context = input.context.as_slice();
     match input.form {
-        Form::Internal => {
+        Interface::Internal => {
             sign_internal(&[message], key, randomizer, out);
             Ok(())
         }
-        Form::Pure => sign(message, context, key, randomizer, out),
-        Form::PreHash(function) => hash_sign(message, context, function, key, randomizer, out),
+        Interface::External(form) => form.sign(message, context, key, randomizer, out),
     }
 }
 
@@ -137,8 +135,7 @@ fn is_valid(key: &PublicKey, input: &Input, sig: &[u8]) -> bool
     let message = input.message.as_slice();
     let context = input.context.as_slice();
     match input.form {
-        Form::Internal => verify_internal(&[message], sig, key),
-        Form::Pure => verify(message, context, sig, key),
-        Form::PreHash(function) => hash_verify(message, context, function, sig, key),
+        Interface::Internal => verify_internal(&[message], sig, key),
+        Interface::External(form) => form.verify(message, context, sig, key),
     }
 }

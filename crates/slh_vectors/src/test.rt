@@ -2,7 +2,7 @@ ghost use Rattle.std.specs.Prelude.{◌≡◌, ◌*◌, ◌≢◌, length};
 ghost use Rattle.slh_params.specs.ParamSet.{params};
 ghost use Rattle.slh_vectors.specs.Sizes.{AreSeeds};
 
-use slh_core::PreHash;
+use slh_core::Form;
 use slh_params::ParamSet;
 
 /// What is tested.
@@ -18,13 +18,11 @@ pub enum Kind {
 
 /// How M' is made of the message.
 #[derive(Clone, Copy, Debug, PartialEq, Eq)]
-pub enum Form {
+pub enum Interface {
     /// The message is M' itself (FIPS 205, Algorithms 19 and 20).
     Internal,
-    /// The pure form (Algorithms 22 and 24).
-    Pure,
-    /// The pre-hash form with this function (Algorithms 23 and 25).
-    PreHash(PreHash),
+    /// The message is signed in this form under a context (Algorithms 22 to 25).
+    External(Form),
 }
 
 /// The seeds of a key, n bytes each.
@@ -38,7 +36,7 @@ pub struct Seeds {
 /// What is signed. The context of an internal message is empty.
 #[derive(Debug, Drop)]
 pub struct Input {
-    pub form: Form,
+    pub form: Interface,
     pub message: Vec<u8>,
     pub context: Vec<u8>,
 }

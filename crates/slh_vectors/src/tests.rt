@@ -1,6 +1,7 @@
 //! Vector files, outcomes and reports: outside values, and what no clause says.
 mod faults;
 mod files;
+mod growths;
 mod outcomes;
 mod reports;
 

@@ -2,3 +2,4 @@ pub mod Places
 pub mod Draws
 pub mod Seated
 pub mod Covered
+pub mod ItemAnswers

@@ -9,7 +9,8 @@ use Rattle.slh_workers.specs.declared.worker.End.TheVariants.{Done, Stopped, Gat
 abbrev pub IsFresh : SeatState → Type 0
 IsFresh seat = (seat.mark ≡ FreshMark) × (seat.raised ≡ false)
 
--- the end is Done exactly where the seat is done, Stopped exactly where it is stopped, and else the seat is raised; GateStop comes only where the gate may stop
+-- the end is Done exactly where the seat is done, Stopped exactly where it is stopped, and else the seat is raised;
+-- GateStop comes only where the gate may stop
 abbrev pub EndFits : Type 0 → End → SeatState → Type 0
 EndFits may_stop Done seat = (seat.mark ≡ DoneMark) × (seat.raised ≡ false)
 EndFits may_stop Stopped seat = (seat.mark ≡ StoppedMark) × (seat.raised ≡ false)

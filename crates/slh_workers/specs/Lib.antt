@@ -3,3 +3,4 @@ pub mod RunFault
 pub mod Answers
 pub mod Ends
 pub mod Runs
+pub mod Items

@@ -17,7 +17,8 @@ pub record IsReady (board : BoardState) (count first : ℕ) (seats : List SeatSt
 abbrev pub HasEnded : Type 0 → SeatState → Type 0
 HasEnded may_stop seat = (seat.raised ≡ true → may_stop) × (seat.raised ≡ false → seat.mark ≢ Fresh)
 
--- What the workers at count seats have: right answers, and where no seat is raised one to each number that the seats drew
+-- What the workers at count seats have: right answers, and where no seat is raised one to each number that the seats
+-- drew
 pub record RanSeats {T : Type 0} (board : BoardState) (may_stop : Type 0) (right : ℕ → T → Type 0) (jobs count : ℕ) (seats : List SeatState) (answers : List (ℕ × T)) : Type 0 where
   pub count_is : length seats ≡ count
   pub mine : All (λ s. s.board ≡ board) seats

@@ -1,12 +1,15 @@
 //! Numbered jobs, run by several threads that share a board.
 //!
-//! A `Work` has jobs numbered from 0, and says which answers of each are right. `run_all` runs all of them on 1 to 64 workers and gives the
-//! answers by number. `work_off` is what one worker does: it draws jobs from a `slh_board::Board` and runs them; a caller with threads of its own may call
-//! it there. A `Gate` is asked before each job and told after it, and may stop the run. No call waits for anything but the threads that it started.
+//! A `Work` has jobs numbered from 0, and says which answers of each are right. `run_all` runs all of them on 1 to 64
+//! workers and gives the answers by number. `work_off` is what one worker does: it draws jobs from a `slh_board::Board`
+//! and runs them; a caller with threads of its own may call it there. A `Gate` is asked before each job and told after
+//! it, and may stop the run. `answer_all` asks one question about each item of a list. No call waits for anything but
+//! the threads that it started.
 #![tactic(auto)]
 
 mod fault;
 mod gate;
+mod items;
 mod order;
 mod run;
 mod seats;
@@ -16,6 +19,7 @@ mod workers;
 
 pub use fault::RunFault;
 pub use gate::{Gate, Go, NoGate};
+pub use items::{Question, answer_all};
 pub use run::run_all;
 pub use work::{NoMemory, Work};
 pub use worker::{End, WorkerEnd, work_off};

@@ -14,9 +14,9 @@ use std::thread::{Threads, join};
 // The seats, and the answers of their workers.
 type Worked<T, A> = Result<(Vec<Seat, A>, Vec<(u32, T), A>), NoMemory>;
 
-// The workers at these seats of the board, numbered from `first` on, the first on this thread and each other on a thread of its own, where one can
-// be had. This thread starts all of them: where threads start threads at the same time, the scheduler may put two on one processor. Where memory for
-// a division of the seats is refused, it stops the board.
+// The workers at these seats of the board, numbered from `first` on, the first on this thread and each other on a
+// thread of its own, where one can be had. The list of seats is halved, so that 64 seats nest 6 deep: the stack of a
+// thread bounds the depth. Where memory for a division of the seats is refused, it stops the board.
 pub fn run_seats<R: Threads + Sync, A: Allocator + Clone + Send + Sync, W: Work, G: Gate>(
     rt: &R,
     alloc: A,
@@ -32,7 +32,7 @@ pub fn run_seats<R: Threads + Sync, A: Allocator + Clone + Send + Sync, W: Work,
     if seats.len() == 1 {
         return run_seat(alloc, board, seats, work, first, gate);
     }
-    let Ok((others, theirs)) = last_seat(&alloc, &mut seats) else {
+    let Ok((others, theirs)) = second_half(&alloc, &mut seats) else {
         board.stop(&mut seats[0]);
         return Err(NoMemory);
     };
@@ -45,15 +45,17 @@ pub fn run_seats<R: Threads + Sync, A: Allocator + Clone + Send + Sync, W: Work,
         requires { IsSync R.row × IsSync W.row × IsSync G.row × IsSync A.row × IsSend A.row × IsSend W.Out.row × Frees A.Allocator A.dealloc_token × IsReady board.now (W.jobs work.now) next others.items }
         ensures { IfOk result (λ r. RanSeats board.entry.now (G.may_stop gate.entry.now) (W.is_right work.entry.now) (W.jobs work.entry.now) (length others.items) r.0.items r.1.items) }
     { run_seats(rt, theirs, board, others, work, next, gate) };
-    let (last, rest) = join(rt, back, front);
-    let (mut kept, mut answers) = rest?;
-    let (mut more_kept, mut more_answers) = last?;
+    let (back, front) = join(rt, back, front);
+    let (mut kept, mut answers) = front?;
+    let (mut more_kept, mut more_answers) = back?;
     kept.append(&mut more_kept)?;
     answers.append(&mut more_answers)?;
     Ok((kept, answers))
 }
 
-// The worker at the one seat, on this thread.
+// The worker at the one seat, on this thread. It is kept apart from the recursion, which would else hold the locals of
+// a job at each level.
+#[inline(never)]
 fn run_seat<A: Allocator, W: Work, G: Gate>(
     alloc: A,
     board: &Board<A>,
@@ -73,8 +75,8 @@ fn run_seat<A: Allocator, W: Work, G: Gate>(
     Ok((seats, answers))
 }
 
-// Takes the last seat off, with an allocator for the thread that gets it.
-fn last_seat<A: Allocator + Clone>(
+// Takes the second half of the seats off, with an allocator for the thread that gets it.
+fn second_half<A: Allocator + Clone>(
     alloc: &A,
     seats: &mut Vec<Seat, A>,
 ) -> Result<(Vec<Seat, A>, A), NoMemory>
@@ -84,6 +86,6 @@ fn last_seat<A: Allocator + Clone>(
     ensures err { OnErr result (seats.new.items ≡ seats.old.items) }
 {
     let theirs = alloc.clone()?;
-    let others = seats.split_off(seats.len() - 1)?;
+    let others = seats.split_off(seats.len() / 2)?;
     Ok((others, theirs))
 }

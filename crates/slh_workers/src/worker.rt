@@ -31,9 +31,10 @@ pub struct WorkerEnd<T, A: Allocator> {
     pub end: End,
 }
 
-/// What one worker does: it draws jobs by its seat and runs each, until no job is left or the board is stopped. It asks the gate before each job, and
-/// tells it after. Where the gate answers Stop, or a growth of memory is refused, it stops the board and ends; after Stop `run` and `leave` of that
-/// job are not called. The seat is one of the board's, fresh and not raised, and the board has as many jobs as the work. Waits for nobody.
+/// What one worker does: it draws jobs by its seat and runs each, until no job is left or the board is stopped. It asks
+/// the gate before each job, and tells it after. Where the gate answers Stop, or a growth of memory is refused, it
+/// stops the board and ends; after Stop `run` and `leave` of that job are not called. The seat is one of the board's,
+/// fresh and not raised, and the board has as many jobs as the work. Waits for nobody.
 pub fn work_off<A: Allocator, B: Allocator, W: Work, G: Gate>(
     alloc: A,
     board: &Board<B>,
@@ -47,8 +48,8 @@ pub fn work_off<A: Allocator, B: Allocator, W: Work, G: Gate>(
     requires jobs { board.now.jobs ≡ W.jobs work.now }
     ensures mine { seat.new.board ≡ board.now }
 
-    // The numbers of the answers are those that the seat drew in this call, in their order, and each answer is right for its number.
-    // Only where this worker stopped the board may the last number lack its answer.
+    // The numbers of the answers are those that the seat drew in this call, in their order, and each answer is right
+    // for its number. Only where this worker stopped the board may the last number lack its answer.
     ensures numbers { IsAnswered (may_lack result.end) seat.old.drawn seat.new.drawn (numbers result.answers.items) }
     ensures right { AllRight (W.is_right work.now) (W.jobs work.now) result.answers.items }
 
@@ -82,7 +83,8 @@ pub fn work_off<A: Allocator, B: Allocator, W: Work, G: Gate>(
     }
 }
 
-// Runs the job where the gate lets it, and adds its answer. Room for the answer is made first, so that an answer once made is kept.
+// Runs the job where the gate lets it, and adds its answer. Room for the answer is made first, so that an answer once
+// made is kept.
 fn add_answer<A: Allocator, W: Work, G: Gate>(
     answers: &mut Vec<(u32, W::Out), A>,
     work: &W,

@@ -1,17 +1,19 @@
 // Calls with the 1st growth refused, then the 2nd, and so on until a call meets no refusal.
-use crate::works::{Lists, Squares};
+use crate::works::{AfterRefusal, Lists, Recorded, Squares};
 use refusing_allocator::Refusing;
 use slh_board::Board;
 use slh_workers::{End, NoGate, RunFault, Work, Workers, run_all, work_off};
 use std::alloc::Global;
 use std::process::Abort;
+use std::sync::atomic::Ordering;
 use std::test::Fail;
 use std::thread::Threads;
 
 // More growths than any call here asks for.
 const MANY: u64 = 1000;
 
-// What so many workers give where each growth is granted. Where growth `nth` was refused, they say so, and it is `None`.
+// What so many workers give where each growth is granted. Where growth `nth` was refused, they say so, and it is
+// `None`.
 fn run_if_granted<R: Abort + AllocGlobal + Threads + Sync, W: Work>(
     rt: &R,
     alloc: &Refusing<Global>,
@@ -98,5 +100,63 @@ fn work_off_stops_the_board_at_each_growth(rt: HostRuntime) -> Result<(), Fail> 
         refusals = nth;
     }
     check_count(&rt, 1, refusals, 1);
+    Ok(())
+}
+
+#[test]
+fn room_for_an_answer_is_made_before_its_job_is_entered(rt: HostRuntime) -> Result<(), Fail> {
+    let mut refusals = 0u64;
+    for nth in 1..MANY {
+        let alloc = Refusing::new(rt.alloc(), rt.alloc(), nth)?;
+        let (board, mut seats) = Board::start(rt.alloc(), 10, 1)?;
+        let recorded = Recorded::new(None, None);
+        let worked = work_off(
+            alloc.clone()?,
+            &board,
+            &mut seats[0],
+            &recorded,
+            0,
+            &recorded,
+        );
+        let answered = worked.answers.len();
+        assert_eq!(rt;
+            recorded.entered.load(Ordering::SeqCst).count_ones() as usize,
+            answered
+        );
+        assert_eq!(rt;
+            recorded.ran.load(Ordering::SeqCst).count_ones() as usize,
+            answered
+        );
+        if !alloc.has_refused() {
+            break;
+        }
+        refusals = nth;
+    }
+    check_count(&rt, 1, refusals, 1);
+    Ok(())
+}
+
+// Growths up to the first answer of three workers: each is refused before a job has run, so that no worker runs all of
+// the jobs that are left.
+#[test]
+fn a_refusal_before_the_first_answer_stops_all_workers(rt: HostRuntime) -> Result<(), Fail> {
+    let mut refusals = 0u64;
+    for nth in 1..MANY {
+        let alloc = Refusing::new(rt.alloc(), rt.alloc(), nth)?;
+        let work = AfterRefusal::new(alloc.clone()?);
+        let workers = Workers::new(3).ok_or("workers")?;
+        let outcome = run_all(&rt, alloc.clone()?, &work, workers, &NoGate);
+        if work.gave_up.load(Ordering::SeqCst) > 0 {
+            break;
+        }
+        assert_eq!(rt; outcome.err(), Some(RunFault::NoMemory), "growth {nth}");
+        let ran = work.ran.load(Ordering::SeqCst);
+        assert!(rt;
+            ran < u64::from(work.count()),
+            "growth {nth}: {ran} jobs ran"
+        );
+        refusals = nth;
+    }
+    check_count(&rt, 6, refusals, 3);
     Ok(())
 }

@@ -1,6 +1,6 @@
 // Runs of all jobs.
 use crate::gates::{BothThenStop, Numbered, StopAt};
-use crate::works::{FirstWaits, Meeting, Squares};
+use crate::works::{FirstWaits, Meeting, Recorded, Squares};
 use slh_workers::{NoGate, RunFault, Workers, run_all};
 use std::sync::atomic::{AtomicU64, Ordering};
 use std::test::Fail;
@@ -107,6 +107,59 @@ fn a_gate_stops_the_run(rt: HostRuntime) -> Result<(), Fail> {
         assert_eq!(rt; squares.len(), 10);
         assert_eq!(rt; gate.entered.load(Ordering::SeqCst), 10);
         assert_eq!(rt; gate.left.load(Ordering::SeqCst), 10);
+    }
+    Ok(())
+}
+
+#[test]
+fn each_job_is_entered_then_run_then_left(rt: HostRuntime) -> Result<(), Fail> {
+    let all = 0b11_1111_1111u64;
+    for number in [1u8, 3] {
+        let workers = Workers::new(number).ok_or("workers")?;
+        let recorded = Recorded::new(None, None);
+        let answers = run_all(&rt, rt.alloc(), &recorded, workers, &recorded)?;
+        assert!(rt; answers.iter().copied().eq(0..10));
+        assert_eq!(rt; recorded.entered.load(Ordering::SeqCst), all);
+        assert_eq!(rt; recorded.ran.load(Ordering::SeqCst), all);
+        assert_eq!(rt; recorded.left.load(Ordering::SeqCst), all);
+        assert_eq!(rt; recorded.out_of_turn.load(Ordering::SeqCst), 0);
+    }
+    Ok(())
+}
+
+#[test]
+fn a_job_at_which_the_gate_stops_is_not_run(rt: HostRuntime) -> Result<(), Fail> {
+    for number in [1u8, 3] {
+        let workers = Workers::new(number).ok_or("workers")?;
+        for job in 0u32..10 {
+            let recorded = Recorded::new(Some(job), None);
+            let outcome = run_all(&rt, rt.alloc(), &recorded, workers, &recorded);
+            assert_eq!(rt; outcome.err(), Some(RunFault::Stopped), "job {job}");
+            let bit = 1u64.unbounded_shl(job);
+            let ran = recorded.ran.load(Ordering::SeqCst);
+            assert_eq!(rt; ran | bit, recorded.entered.load(Ordering::SeqCst));
+            assert_eq!(rt; ran & bit, 0, "job {job}");
+            assert_eq!(rt; recorded.left.load(Ordering::SeqCst), ran);
+            assert_eq!(rt; recorded.out_of_turn.load(Ordering::SeqCst), 0);
+        }
+    }
+    Ok(())
+}
+
+#[test]
+fn a_job_that_is_refused_memory_is_left(rt: HostRuntime) -> Result<(), Fail> {
+    for number in [1u8, 3] {
+        let workers = Workers::new(number).ok_or("workers")?;
+        for job in 0u32..10 {
+            let recorded = Recorded::new(None, Some(job));
+            let outcome = run_all(&rt, rt.alloc(), &recorded, workers, &recorded);
+            assert_eq!(rt; outcome.err(), Some(RunFault::NoMemory), "job {job}");
+            let ran = recorded.ran.load(Ordering::SeqCst);
+            assert!(rt; ran & 1u64.unbounded_shl(job) > 0, "job {job}");
+            assert_eq!(rt; recorded.entered.load(Ordering::SeqCst), ran);
+            assert_eq!(rt; recorded.left.load(Ordering::SeqCst), ran);
+            assert_eq!(rt; recorded.out_of_turn.load(Ordering::SeqCst), 0);
+        }
     }
     Ok(())
 }

@@ -44,7 +44,8 @@ fn verify_number<R: Abort + AllocGlobal + Threads + Sync>(rt: &R, file: &[u8]) -
     Ok(number)
 }
 
-/// The refusal of a key file cut to `len` bytes, of which the digits end before byte `end`: its number, or 0 where they are all there.
+/// The refusal of a key file cut to `len` bytes, of which the digits end before byte `end`: its number, or 0 where they
+/// are all there.
 fn cut_number(len: usize, end: usize) -> u8 {
     match len {
         0..=16 => 11,

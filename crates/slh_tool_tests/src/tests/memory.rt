@@ -1,6 +1,6 @@
 //! Memory that is refused.
 use super::devices::Folder;
-use super::messages::{SIGN, VERIFY, joined, secret_key};
+use super::messages::{PUBLIC, SIGN, VERIFY, joined, secret_key};
 use super::vectors::{NOT_VALID, VECTORS};
 use crate::{Answer, words_of};
 use refusing_allocator::Refusing;
@@ -91,6 +91,52 @@ fn refuses_each_growth_and_then_works(rt: HostRuntime) -> Result<(), Fail> {
             refusals = nth;
         }
         assert!(rt; 0 < refusals && refusals.wrapping_add(1) < MANY);
+    }
+    Ok(())
+}
+
+/// How many growths a command asks for, none of which is refused.
+fn growths<R: AllocGlobal + Threads + Sync>(
+    rt: &R,
+    words: &[&str],
+    files: &[(&str, &[u8])],
+) -> Result<u64, Fail> {
+    let alloc = Refusing::new(rt.alloc(), rt.alloc(), 0)?;
+    let words = words_of(rt.alloc(), words)?;
+    let mut output = Writer::new(Vec::new(rt.alloc()));
+    let mut errors = Writer::new(Vec::new(rt.alloc()));
+    let status = command(
+        rt,
+        alloc.clone()?,
+        words.as_slice(),
+        &mut Folder::new(files),
+        &mut Reader::new([].as_slice()),
+        &mut output,
+        &mut errors,
+    );
+    if status == 2 {
+        return Err("the command was refused".into());
+    }
+    Ok(alloc.growths())
+}
+
+/// The growths of `verify` with a signature file of so many bytes.
+fn growths_of_verify<R: AllocGlobal + Threads + Sync>(rt: &R, len: usize) -> Result<u64, Fail> {
+    let mut signature = Vec::new(rt.alloc());
+    signature.resize(len, 7u8)?;
+    let files = [
+        ("public", PUBLIC),
+        ("abc", b"abc".as_slice()),
+        ("sig", signature.as_slice()),
+    ];
+    growths(rt, &VERIFY, &files)
+}
+
+#[test]
+fn holds_no_more_of_a_signature_than_a_byte_too_many(rt: HostRuntime) -> Result<(), Fail> {
+    let least = growths_of_verify(&rt, 17089)?;
+    for len in [17090, 40_000, 1_000_000] {
+        assert_eq!(rt; growths_of_verify(&rt, len)?, least);
     }
     Ok(())
 }

@@ -66,7 +66,17 @@ fn help_names_the_options_and_an_example(rt: HostRuntime) -> Result<(), Fail> {
         (
             &["--help"],
             &[
-                "params", "root", "keygen", "public", "check", "sign", "verify", "vectors",
+                "Usage: slh",
+                "params",
+                "root",
+                "keygen",
+                "public",
+                "check",
+                "sign",
+                "verify",
+                "vectors",
+                "Exit status: 0",
+                "docs/FORMATS.md",
             ],
         ),
         (
@@ -79,10 +89,20 @@ fn help_names_the_options_and_an_example(rt: HostRuntime) -> Result<(), Fail> {
             &["params", "--help"],
             &["--set <NAME>", "Example: slh params"],
         ),
-        (&["root", "--help"], &["--set <NAME>", "Example: slh root"]),
+        (
+            &["root", "--help"],
+            &[
+                "Usage: slh root",
+                "--set <NAME>",
+                "96 for a 128 set",
+                "Example: slh root",
+            ],
+        ),
         (
             &["keygen", "--help"],
             &[
+                "Usage: slh keygen",
+                "96 for a 128 set, 144 for a 192, 192 for a 256",
                 "--set <NAME>",
                 "--workers <N>",
                 "--xmss-levels <N>",
@@ -103,6 +123,7 @@ fn help_names_the_options_and_an_example(rt: HostRuntime) -> Result<(), Fail> {
         (
             &["sign", "--help"],
             &[
+                "Usage: slh sign",
                 "--key <FILE>",
                 "--message <FILE>",
                 "--context <HEX>",

@@ -1,3 +1,4 @@
+-- What is signed are the parts of M' put end to end.
 use Rattle.std.proofs.Common.{◌≡◌, ◌≤◌, ℕ, List, length, rules, subst}
 use Rattle.slh_core.specs.Keys.{public_of}
 use Rattle.slh_core.specs.PreHash.{oid}

@@ -1,3 +1,4 @@
+-- The seeds and the states of the source between the draws are those of the calls.
 use Rattle.slh_core.proofs.random.keygen.Goals as goal
 
 pub returns-clause-key : goal.returns-clause-key

@@ -1,3 +1,4 @@
+-- R and the rest fill the output, and the signature of a generated key is valid.
 use Rattle.std.proofs.Common.{List, ℕ, length, rules, sym, subst}
 use Rattle.slh_params.specs.ParamSet.{params}
 use Rattle.slh_hash.specs.Keyed.{joined}

@@ -1,3 +1,4 @@
+-- A signature of the right length has room for its three parts.
 use Rattle.std.proofs.Common.{◌≡◌, length, arith, rules}
 use Rattle.slh_params.specs.Params.{sig_len}
 use Rattle.slh_params.specs.ParamSet.{params}
@@ -13,8 +14,8 @@ split_at-requires-2 c =
     let n : c.n.result ≡ (params c.args.pk.now.set).n = search rules in
     fors_fits (params c.args.pk.now.set) c.fors_sig_len.result (length c.split_at.result.1.now) (search rules) (omega (arith, c.split_at.ensures.back_len, n, whole))
 
-pub verify_digest-requires-clause-tree : goal.verify_digest-requires-clause-tree
-verify_digest-requires-clause-tree c =
+pub verify_digest-requires-clause-sig_ht : goal.verify_digest-requires-clause-sig_ht
+verify_digest-requires-clause-sig_ht c =
     let whole : length c.args.sig.now ≡ sig_len (params c.args.pk.now.set) = search rules in
     let n : c.n.result ≡ (params c.args.pk.now.set).n = search rules in
     tree_fits (params c.args.pk.now.set) c.fors_sig_len.result (length c.split_at.result.1.now) _ (search rules) (omega (arith, c.split_at.ensures.back_len, n, whole)) (search rules)

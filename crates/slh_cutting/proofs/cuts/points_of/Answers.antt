@@ -1,11 +1,12 @@
+-- Levels and points are refused exactly where the definition has a fault.
 use Rattle.std.proofs.Common.{arith, ◌∙◌, sym, subst, refl}
 use Rattle.slh_cutting.specs.CutFaults.{IsInRule}
 use Rattle.slh_cutting.proofs.Levels.{levels_good}
 use Rattle.slh_cutting.proofs.Rising.{rising-points, points-rising}
 use Rattle.slh_cutting.proofs.cuts.points_of.Goals as goal
 
-pub returns-then-level-le-MAX_LEVEL-clause-good : goal.returns-then-level-le-MAX_LEVEL-clause-good
-returns-then-level-le-MAX_LEVEL-clause-good c = rw c.level_cuts.ensures (levels_good c.args.height c.in-Levels.level (omega arith) (omega arith))
+pub returns-then-level-le-MOST_LEVELS-clause-good : goal.returns-then-level-le-MOST_LEVELS-clause-good
+returns-then-level-le-MOST_LEVELS-clause-good c = rw c.level_cuts.ensures (levels_good c.args.height c.in-Levels.level (omega arith) (omega arith))
 
 pub returns-in-Ok-clause-in_rule : goal.returns-in-Ok-clause-in_rule
 returns-in-Ok-clause-in_rule c = (λ _. rw c.in-Points.is (rising-points c.args.height _ c.in-Ok.ensures.1), λ _. refl)

@@ -1,3 +1,4 @@
+-- The quotient is the tree of the job, and the remainder its range there.
 use Rattle.std.proofs.Common.{arith, ap, ◌∙◌, ◌-◌}
 use Rattle.slh_params.specs.ParamSet.{params}
 use Rattle.slh_cutting.specs.declared.range.JobTree.TheVariants.{Xmss, Fors}

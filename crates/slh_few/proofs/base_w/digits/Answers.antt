@@ -1,3 +1,4 @@
+-- The digits written are those of the definition, and no other message's are nowhere below them.
 use Rattle.std.proofs.Common.{◌≡◌, ℕ, ◌*◌, ◌++◌, ◌<◌, length, get_or, List, subst, ap, ◌∙◌, arith}
 use Rattle.slh_params.specs.Bits.{base_2b}
 use Rattle.slh_params.specs.ParamSet.{params}

@@ -1,9 +1,11 @@
+-- The array begins with the digits, and zeros follow them.
 use Rattle.std.proofs.Common.{◌≡◌, ℕ, ◌≤◌, length, get_or, ap, sym, subst, ◌∙◌, arith}
 use Rattle.std.proofs.lemmas.List.{get_or_append_left, length-take-le}
 use Rattle.slh_params.specs.ParamSet.{params}
 use Rattle.slh_params.specs.Params.{len}
 use Rattle.slh_params.proofs.Table.{len_small}
 use Rattle.slh_few.proofs.DigitBounds.{digit_to_15, length-digits}
+use Rattle.slh_few.proofs.Ends.{zeros_after}
 use Rattle.slh_few.proofs.base_w.digits_of.Goals as goal
 
 pub slice_bounds-out-end : goal.slice_bounds-out-end
@@ -32,3 +34,10 @@ returns-clause-small c = λ i l.
     let s : length c.digits.new.out ≡ len p = ap length c.digits.ensures.digits ∙ length-digits p c.args.msg.now.items in
     subst At (sym (get_or_append_left c.digits.new.out _ 0 i (omega (arith, s)) ∙ ap (λ xs. get_or xs i 0) c.digits.ensures.digits))
     (digit_to_15 c.args.set c.args.msg.now.items i)
+
+pub returns-clause-rest : goal.returns-clause-rest
+returns-clause-rest c = λ i l.
+    let p = params c.args.set in
+    let s : length c.digits.new.out ≡ c.len-count.result =
+    ap length c.digits.ensures.digits ∙ length-digits p c.args.msg.now.items ∙ sym c.len-count.ensures in
+    zeros_after c.digits.new.out c.len-count.result 67 i s (omega (arith, c.len-count.ensures))

@@ -1,7 +1,8 @@
+-- After each tree the stream has absorbed the roots that the signature gives so far.
 use Rattle.std.proofs.Common.{◌≡◌, ℕ, ◌^◌, ◌<◌, length, sym, subst, arith}
 use Rattle.slh_params.specs.ParamSet.{params}
 use Rattle.slh_few.specs.Parts.{part}
-use Rattle.slh_few.specs.Fors.{fors_root, fors_part_len, fors_key}
+use Rattle.slh_few.specs.Fors.{fors_root, fors_part_len, fors_pk_from_sig}
 use Rattle.slh_few.proofs.Sets.{k_high}
 use Rattle.slh_few.proofs.Ends.{end_to_end-none, end_to_end-more, part_fits}
 use Rattle.slh_few.proofs.ForsLaw.{index_lt}
@@ -15,7 +16,7 @@ root_at-requires-clause-leaf c =
     let p = params c.args.public.now.set in
     let At : ℕ → Type 0 = λ i. i < 2 ^ p.a in
     let b : c.loop-j.j < p.k = omega (arith, c.k-j-end.ensures) in
-    rw c.new-tree.ensures.seeds (subst At (sym (c.fors_indices-indices.ensures c.loop-j.j b)) (index_lt p c.args.md.now c.loop-j.j))
+    rw c.new-tree.ensures.seeds (subst At (sym (c.fors_indices-indices.ensures.indices c.loop-j.j b)) (index_lt p c.args.md.now c.loop-j.j))
 
 pub root_at-requires-clause-sig : goal.root_at-requires-clause-sig
 root_at-requires-clause-sig c =
@@ -37,12 +38,12 @@ loop-j-preserved c =
     let j = c.loop-j.j in
     let b : c.loop-j.j < p.k = omega (arith, c.k-j-end.ensures) in
     let x : c.root_at.result.items ≡ fors_root p pk c.args.idx_tree c.args.idx_leaf md j (part (fors_part_len p) c.args.sig.now j) =
-    rw (c.new-tree.ensures.seeds, c.new-tree.ensures.idx_tree, c.new-tree.ensures.idx_leaf, c.new-tree.ensures.tree_no, c.fors_indices-indices.ensures c.loop-j.j b) at c.root_at.ensures in
+    rw (c.new-tree.ensures.seeds, c.new-tree.ensures.idx_tree, c.new-tree.ensures.idx_leaf, c.new-tree.ensures.tree_no, c.fors_indices-indices.ensures.indices c.loop-j.j b) at c.root_at.ensures in
     rw (end_to_end-more (λ j. fors_root p pk c.args.idx_tree c.args.idx_leaf md j (part (fors_part_len p) c.args.sig.now j)) c.loop-j.j, sym x)
     (c.absorb.ensures _ _ _ _ c.loop-j.invariant)
 
 pub returns-clause-value : goal.returns-clause-value
-unfolding fors_key
+unfolding fors_pk_from_sig
 returns-clause-value c =
     let e : c.loop-j.j ≡ (params c.args.public.now.set).k = omega (arith, c.k-j-end.ensures) in
     rw e at (c.finish.ensures.value _ _ _ _ c.loop-j.invariant)

@@ -1,9 +1,10 @@
+-- After each tree the first parts of the signature are written.
 use Rattle.std.proofs.Common.{◌≡◌, ℕ, ◌+◌, ◌*◌, ◌^◌, ◌<◌, ◌++◌, length, take, refl, ap, sym, subst, ◌∙◌, arith}
 use Rattle.slh_params.specs.ParamSet.{params}
-use Rattle.slh_few.specs.Fors.{fors_part, fors_part_len, fors_sig, fors_key}
+use Rattle.slh_few.specs.Fors.{fors_part, fors_part_len, fors_sig, fors_pk_from_sig}
 use Rattle.slh_few.proofs.Sets.{k_high}
 use Rattle.slh_few.proofs.Ends.{end_to_end-none, writes-more, part_fits, written_all}
-use Rattle.slh_few.proofs.ForsLaw.{index_lt, length-fors_part, fors_key-fors_sig}
+use Rattle.slh_few.proofs.ForsLaw.{index_lt, length-fors_part, fors_pk_from_sig-fors_sig}
 use Rattle.slh_few.proofs.fors.fors_sign.Goals as goal
 
 pub bounds-indices-j : goal.bounds-indices-j
@@ -14,7 +15,7 @@ put_tree-requires-clause-leaf c =
     let p = params c.args.seeds.now.set in
     let At : ℕ → Type 0 = λ i. i < 2 ^ p.a in
     let b : c.loop-j.j < p.k = omega (arith, c.k-j-end.ensures) in
-    rw c.new-tree.ensures.seeds (subst At (sym (c.fors_indices-indices.ensures c.loop-j.j b)) (index_lt p c.args.md.now c.loop-j.j))
+    rw c.new-tree.ensures.seeds (subst At (sym (c.fors_indices-indices.ensures.indices c.loop-j.j b)) (index_lt p c.args.md.now c.loop-j.j))
 
 pub put_tree-requires-clause-out : goal.put_tree-requires-clause-out
 put_tree-requires-clause-out c =
@@ -39,7 +40,7 @@ loop-j-preserved c =
     let size = length-fors_part s sk pk c.args.idx_tree c.args.idx_leaf md j in
     let b : c.loop-j.j < p.k = omega (arith, c.k-j-end.ensures) in
     let put : take (j * fors_part_len p + fors_part_len p) c.put_tree.new.out ≡ take (j * fors_part_len p) c.loop-j.out ++ fors_part p sk pk c.args.idx_tree c.args.idx_leaf md j =
-    rw (c.new-tree.ensures.seeds, c.new-tree.ensures.idx_tree, c.new-tree.ensures.idx_leaf, c.new-tree.ensures.tree_no, c.fors_indices-indices.ensures c.loop-j.j b, c.fors_part_len-size.ensures.value)
+    rw (c.new-tree.ensures.seeds, c.new-tree.ensures.idx_tree, c.new-tree.ensures.idx_leaf, c.new-tree.ensures.tree_no, c.fors_indices-indices.ensures.indices c.loop-j.j b, c.fors_part_len-size.ensures.value)
     at (c.put_tree.ensures (rw c.new-tree.ensures.seeds c.new-tree.ensures.state)) in
     writes-more (fors_part p sk pk c.args.idx_tree c.args.idx_leaf md) j (fors_part_len p) c.loop-j.out c.put_tree.new.out (fors_part p sk pk c.args.idx_tree c.args.idx_leaf md j)
     refl size c.loop-j.invariant (ap (λ k. take (j * fors_part_len p + k) c.put_tree.new.out) size ∙ put)
@@ -54,5 +55,5 @@ pub returns-clause-key : goal.returns-clause-key
 returns-clause-key c =
     let s = c.args.seeds.now.set in
     let pk = c.args.seeds.now.pk_seed.now in
-    ap (fors_key (params s) pk c.args.idx_tree c.args.idx_leaf c.args.md.now) (returns-clause-signature c)
-    ∙ fors_key-fors_sig s c.args.seeds.now.sk_seed.now pk c.args.idx_tree c.args.idx_leaf c.args.md.now
+    ap (fors_pk_from_sig (params s) pk c.args.idx_tree c.args.idx_leaf c.args.md.now) (returns-clause-signature c)
+    ∙ fors_pk_from_sig-fors_sig s c.args.seeds.now.sk_seed.now pk c.args.idx_tree c.args.idx_leaf c.args.md.now

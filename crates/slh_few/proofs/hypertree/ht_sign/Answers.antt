@@ -1,15 +1,16 @@
+-- After each layer the first parts of the signature are written, and the node is what the next layer signs.
 use Rattle.std.proofs.Common.{◌≡◌, ℕ, List, ◌+◌, ◌-◌, ◌*◌, ◌<◌, ◌++◌, length, take, ap, sym, ◌∙◌, arith}
 use Rattle.slh_params.specs.ParamSet.{params}
 use Rattle.slh_params.specs.declared.param_set.ParamSet.{ParamSet}
 use Rattle.slh_few.specs.declared.place.Place.{Place}
 use Rattle.slh_few.specs.Xmss.{xmss_sig_len, xmss_sig}
-use Rattle.slh_few.specs.Hypertree.{place_above, layer_place, signed_at, layer_sig, ht_sig, ht_key}
+use Rattle.slh_few.specs.Hypertree.{place_above, layer_place, signed_at, layer_sig, ht_sig, ht_root_from_sig}
 use Rattle.slh_few.specs.Parts.{end_to_end}
 use Rattle.slh_few.proofs.Sets.{top_layer}
 use Rattle.slh_few.proofs.Ends.{end_to_end-none, writes-more, part_fits, written_all}
 use Rattle.slh_few.proofs.Layers.{layer_place-start, layer_place-more}
 use Rattle.slh_few.proofs.XmssLaw.{length-xmss_sig}
-use Rattle.slh_few.proofs.HtLaw.{signed_at-start, layer_made, layer_root, ht_key-ht_sig}
+use Rattle.slh_few.proofs.HtLaw.{signed_at-start, layer_made, layer_root, ht_root_from_sig-ht_sig}
 use Rattle.slh_few.proofs.hypertree.ht_sign.Goals as goal
 
 pub loop-layer-init : goal.loop-layer-init
@@ -82,5 +83,5 @@ returns-clause-key c =
     let p = params s in
     let sk = c.args.seeds.now.sk_seed.now in
     let pk = c.args.seeds.now.pk_seed.now in
-    ap (ht_key p pk c.args.msg.now.items c.args.idx_tree c.args.idx_leaf) (returns-clause-signature c)
-    ∙ ht_key-ht_sig s sk pk c.args.msg.now.items c.args.idx_tree c.args.idx_leaf c.requires.leaf c.requires.tree
+    ap (ht_root_from_sig p pk c.args.msg.now.items c.args.idx_tree c.args.idx_leaf) (returns-clause-signature c)
+    ∙ ht_root_from_sig-ht_sig s sk pk c.args.msg.now.items c.args.idx_tree c.args.idx_leaf c.requires.leaf c.requires.tree

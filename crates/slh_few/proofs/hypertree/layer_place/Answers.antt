@@ -1,3 +1,4 @@
+-- Each turn goes one layer up.
 use Rattle.std.proofs.Common.{◌≡◌, ◌+◌, ap, ◌∙◌, arith}
 use Rattle.slh_params.specs.ParamSet.{params}
 use Rattle.slh_few.specs.Hypertree.{place_above}

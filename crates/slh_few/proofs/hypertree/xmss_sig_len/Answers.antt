@@ -1,3 +1,4 @@
+-- No product of the length wraps, in any set.
 use Rattle.std.proofs.Common.{◌≡◌, ◌+◌, ◌*◌, refl, arith}
 use Rattle.slh_params.specs.ParamSet.{params}
 use Rattle.slh_params.proofs.Table.{len_small}

@@ -1,3 +1,4 @@
+-- A chain run in one call is the chain run in two parts.
 use Rattle.std.proofs.Common.{ap, sym, ◌∙◌, arith}
 use Rattle.slh_params.specs.ParamSet.{params}
 use Rattle.slh_few.specs.Wots.{chain}

@@ -1,3 +1,4 @@
+-- Each turn is one step of the chain.
 use Rattle.std.proofs.Common.{◌≡◌, ◌+◌, ap, ◌∙◌, arith}
 use Rattle.slh_params.specs.Address.{Address}
 use Rattle.slh_few.proofs.Chains.{chain-start, chain-more}

@@ -1,3 +1,4 @@
+-- After each chain the stream has absorbed the ends so far.
 use Rattle.std.proofs.Common.{◌≡◌, ap, sym, ◌∙◌, arith}
 use Rattle.slh_params.proofs.Table.{len_small}
 use Rattle.slh_params.specs.ParamSet.{params}

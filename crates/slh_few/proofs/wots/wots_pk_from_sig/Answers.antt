@@ -1,8 +1,9 @@
+-- After each chain the stream has absorbed the ends that the signature's values lead to so far.
 use Rattle.std.proofs.Common.{◌≡◌, ◌<◌, sym, ◌∙◌, arith}
 use Rattle.slh_params.proofs.Table.{len_small}
 use Rattle.slh_params.specs.ParamSet.{params}
 use Rattle.slh_params.specs.Params.{len}
-use Rattle.slh_few.specs.Wots.{finished_chain, wots_key}
+use Rattle.slh_few.specs.Wots.{finished_chain, wots_pk_from_sig}
 use Rattle.slh_few.proofs.Sets.{last_step}
 use Rattle.slh_few.proofs.Chains.{finished_as}
 use Rattle.slh_few.proofs.Ends.{end_to_end-none, end_to_end-more}
@@ -32,7 +33,7 @@ loop-c-preserved c =
     rw (end_to_end-more (finished_chain p pk c.args.at m c.args.sig.now) c.loop-c.c, sym x) (c.absorb.ensures _ _ _ _ c.loop-c.invariant)
 
 pub returns-clause-value : goal.returns-clause-value
-unfolding wots_key
+unfolding wots_pk_from_sig
 returns-clause-value c =
     let e : c.loop-c.c ≡ len (params c.args.public.now.set) = omega (arith, c.len-c-end.ensures) in
     rw e at (c.finish.ensures.value _ _ _ _ c.loop-c.invariant)

@@ -1,7 +1,7 @@
-use Rattle.slh_few.specs.Xmss.{xmss_key}
+use Rattle.slh_few.specs.Xmss.{xmss_pk_from_sig}
 use Rattle.slh_few.proofs.xmss.xmss_pk_from_sig.Goals as goal
 
 pub returns-clause-value : goal.returns-clause-value
-unfolding xmss_key
+unfolding xmss_pk_from_sig
 returns-clause-value c =
     rw (c.new-tree.ensures, c.wots_pk_from_sig-leaf.ensures.value, c.split_at.ensures.front, c.split_at.ensures.back, c.len.ensures, c.n.ensures) at c.climb.ensures.climbs

@@ -1,9 +1,10 @@
+-- The two parts of the output are the WOTS+ signature and the path, and the tree's root follows from them.
 use Rattle.std.proofs.Common.{◌≡◌, ◌++◌, ap, ◌∙◌}
 use Rattle.slh_params.specs.ParamSet.{params}
 use Rattle.slh_tree.specs.Climb.{path}
 use Rattle.slh_few.specs.Wots.{wots_sig}
-use Rattle.slh_few.specs.Xmss.{xmss_tree, xmss_sig, xmss_key}
-use Rattle.slh_few.proofs.XmssLaw.{xmss_key-xmss_sig}
+use Rattle.slh_few.specs.Xmss.{xmss_tree, xmss_sig, xmss_pk_from_sig}
+use Rattle.slh_few.proofs.XmssLaw.{xmss_pk_from_sig-xmss_sig}
 use Rattle.slh_few.proofs.xmss.xmss_sign.Goals as goal
 
 pub returns-clause-signature : goal.returns-clause-signature
@@ -20,5 +21,5 @@ pub returns-clause-key : goal.returns-clause-key
 returns-clause-key c =
     let at = c.args.at in
     let pk = c.args.seeds.now.pk_seed.now in
-    ap (xmss_key (params c.args.seeds.now.set) pk at c.args.msg.now.items) (returns-clause-signature c)
-    ∙ xmss_key-xmss_sig c.args.seeds.now.set c.args.seeds.now.sk_seed.now pk at c.args.msg.now.items c.requires.pair
+    ap (xmss_pk_from_sig (params c.args.seeds.now.set) pk at c.args.msg.now.items) (returns-clause-signature c)
+    ∙ xmss_pk_from_sig-xmss_sig c.args.seeds.now.set c.args.seeds.now.sk_seed.now pk at c.args.msg.now.items c.requires.pair

@@ -1,3 +1,4 @@
+-- Each turn writes one block more, the last one cut to what is left of the output.
 use Rattle.std.proofs.Common.{ℕ, ◌≡◌, ◌*◌, ◌+◌, ◌-◌, ◌<◌, ◌≤◌, arith, ◌∙◌, ap, length, take, min, List, sym, subst}
 use Rattle.std.proofs.Math.Nat.{mul-le-mul_left}
 use borrow.Rule.Slice.PartMut.{put_mid}

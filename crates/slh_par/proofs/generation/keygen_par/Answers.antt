@@ -1,3 +1,4 @@
+-- The root of the top tree has n bytes, and makes the key that of its seeds.
 use Rattle.std.proofs.Common.{◌≡◌, ◌-◌, ℕ, List, length, ap, sym, subst, ◌∙◌, rules}
 use Rattle.slh_params.specs.ParamSet.{params}
 use Rattle.slh_tree.specs.Tree.{root}

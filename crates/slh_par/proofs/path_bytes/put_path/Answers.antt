@@ -1,3 +1,4 @@
+-- After each level the first nodes of the path are written.
 use Rattle.std.proofs.Common.{◌≡◌, ◌*◌, length, take, refl, ap, sym, ◌∙◌, arith}
 use Rattle.slh_few.proofs.Ends.{end_to_end-none, writes-more, part_fits, written_all}
 use Rattle.slh_par.specs.Paths.{node_bytes}

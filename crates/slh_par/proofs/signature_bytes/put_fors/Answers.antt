@@ -1,7 +1,8 @@
-use Rattle.std.proofs.Common.{◌≡◌, ℕ, ◌+◌, ◌*◌, ◌^◌, ◌<◌, ◌++◌, List, length, take, refl, ap, sym, subst, get_or, ◌∙◌, arith}
+-- After each tree the first parts of the FORS signature are written.
+use Rattle.std.proofs.Common.{◌≡◌, ℕ, ◌+◌, ◌*◌, ◌<◌, ◌++◌, List, length, take, refl, ap, sym, subst, get_or, ◌∙◌, arith}
 use Rattle.slh_few.specs.Fors.{fors_index, fors_part, fors_part_len, fors_sig}
 use Rattle.slh_few.proofs.Ends.{end_to_end-none, writes-more, part_fits, written_all}
-use Rattle.slh_few.proofs.ForsLaw.{index_lt, length-fors_part}
+use Rattle.slh_few.proofs.ForsLaw.{length-fors_part}
 use Rattle.slh_subtrees.specs.Joined.{IsJoined}
 use Rattle.slh_subtrees.specs.declared.joined_tree.JoinedTree.{JoinedTree}
 use Rattle.slh_par.specs.Parts.{params_of, fors_tree_in}
@@ -10,10 +11,7 @@ use Rattle.slh_par.proofs.signature_bytes.put_fors.Goals as goal
 
 pub put_fors_part-requires-clause-leaf : goal.put_fors_part-requires-clause-leaf
 put_fors_part-requires-clause-leaf c =
-    let p = params_of c.args.trees.now in
-    let At : ℕ → Type 0 = λ i. i < 2 ^ p.a in
-    let b : c.loop-j.j < p.k = omega (arith, c.k-j-end.ensures) in
-    subst At (sym (c.fors_indices-indices.ensures c.loop-j.j b)) (index_lt p c.args.trees.now.md.now c.loop-j.j)
+    c.fors_index-index.ensures.small
 
 pub put_fors_part-requires-clause-joined : goal.put_fors_part-requires-clause-joined
 put_fors_part-requires-clause-joined c =
@@ -23,7 +21,7 @@ put_fors_part-requires-clause-joined c =
     let b : c.loop-j.j < p.k = omega (arith, c.k-j-end.ensures) in
     let x : JoinedTree = c.index-joined-first.result in
     let at : get_or c.args.joined.now (p.d + j) x ≡ x = ap (λ k. get_or c.args.joined.now (k + j) x) (sym c.d-first.ensures) ∙ sym c.index-joined-first.is in
-    subst (λ (v : ℕ). IsJoined (fors_tree_in trees j) v x) (sym (c.fors_indices-indices.ensures j b))
+    subst (λ (v : ℕ). IsJoined (fors_tree_in trees j) v x) (sym c.fors_index-index.ensures.value)
     (subst (λ (y : JoinedTree). IsJoined (fors_tree_in trees j) (fors_index p trees.md.now j) y) at (fors-joined trees c.args.joined.now c.requires.joined j x b))
 
 pub put_fors_part-requires-clause-out : goal.put_fors_part-requires-clause-out
@@ -49,7 +47,7 @@ loop-j-preserved c =
     let size = length-fors_part trees.seeds.set sk pk trees.idx_tree trees.idx_leaf trees.md.now j in
     let b : c.loop-j.j < (params_of trees).k = omega (arith, c.k-j-end.ensures) in
     let put : take (j * n + n) c.put_fors_part.new.out ≡ take (j * n) c.loop-j.out ++ part j =
-    rw (c.fors_indices-indices.ensures j b, c.fors_part_len-size.ensures.value) at c.put_fors_part.ensures in
+    rw (c.fors_index-index.ensures.value, c.fors_part_len-size.ensures.value) at c.put_fors_part.ensures in
     writes-more part j n c.loop-j.out c.put_fors_part.new.out (part j) refl size c.loop-j.invariant (ap (λ k. take (j * n + k) c.put_fors_part.new.out) size ∙ put)
 
 pub returns : goal.returns

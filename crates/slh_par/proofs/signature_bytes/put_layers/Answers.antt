@@ -1,3 +1,4 @@
+-- After each layer the first parts of the hypertree signature are written.
 use Rattle.std.proofs.Common.{◌≡◌, ℕ, ◌+◌, ◌*◌, ◌<◌, ◌++◌, List, length, take, refl, ap, sym, subst, ◌∙◌, arith}
 use Rattle.arrayvec.specs.ArrayVec.{ArrayVec}
 use Rattle.slh_params.proofs.Table.{n_small}
@@ -20,7 +21,7 @@ loop-layer-init c =
     ap (λ k. take k c.args.out.now) zero ∙ sym (end_to_end-none _)
 
 -- the bytes that are put first
-wots_there : (c : After-as_slice) → c.as_slice.result.now ≡ layer_wots_sig c.args.trees.now c.args.key.now.items c.loop-layer.layer
+wots_there : (c : After-as_slice) → c.as_slice.result.now ≡ layer_wots_sig c.args.trees.now c.args.pk_fors.now.items c.loop-layer.layer
 wots_there c =
     c.as_slice.ensures.value ∙ ap (λ (y : ArrayVec ℕ). y.items) c.index-sigs-layer.is
     ∙ c.requires.sigs.each c.loop-layer.layer c.index-sigs-layer.result (omega (arith, c.d-layer-end.ensures))
@@ -53,7 +54,7 @@ loop-layer-preserved c =
     let p = params_of trees in
     let sk = trees.seeds.sk_seed.now in
     let pk = trees.seeds.pk_seed.now in
-    let m = c.args.key.now.items in
+    let m = c.args.pk_fors.now.items in
     let sig : ℕ → List ℕ = layer_sig p sk pk m trees.idx_tree trees.idx_leaf in
     let n = xmss_sig_len p in
     let l = c.loop-layer.layer in

@@ -6,8 +6,8 @@ use Rattle.slh_par.proofs.signature_bytes.put_signature.Goals as goal
 pub split_at_mut-front-requires : goal.split_at_mut-front-requires
 split_at_mut-front-requires c = r_fits (params c.args.trees.now.seeds.set) c.n.result (length c.args.out.now) c.n.ensures c.requires.out
 
-pub split_at_mut-fors-requires : goal.split_at_mut-fors-requires
-split_at_mut-fors-requires c =
+pub split_at_mut-sig_fors-requires : goal.split_at_mut-sig_fors-requires
+split_at_mut-sig_fors-requires c =
     fors_fits (params c.args.trees.now.seeds.set) c.fors_sig_len.result (length c.split_at_mut-front.result.1.now) c.fors_sig_len.ensures (search rules)
 
 pub put_layers-requires-clause-out : goal.put_layers-requires-clause-out

@@ -1,3 +1,4 @@
+-- R and the digest are those of the message, so that the signature is its own.
 use Rattle.std.proofs.Common.{◌≡◌, ℕ, List, ◌++◌, ap, sym, subst, ◌∙◌}
 use Rattle.std.proofs.lemmas.Result.{on_ok_weaker}
 use Rattle.slh_hash.specs.Keyed.{joined}

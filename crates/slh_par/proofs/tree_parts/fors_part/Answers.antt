@@ -1,3 +1,4 @@
+-- The nodes that the record knows are the leaf's path, each of n bytes.
 use Rattle.std.proofs.Common.{◌≡◌, ◌+◌, ◌*◌, ◌^◌, ◌∙◌, arith, rules}
 use Rattle.slh_params.specs.ParamSet.{params}
 use Rattle.slh_few.specs.Fors.{fors_tree, fors_secret}

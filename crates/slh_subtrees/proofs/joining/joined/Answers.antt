@@ -1,3 +1,4 @@
+-- After each record the path knows what the first records do; after `gather` it is known whole.
 use Rattle.std.proofs.Common.{◌≡◌, ℕ, ◌<◌, List, length, get_or, arith, sym, subst, ◌∙◌}
 use Rattle.slh_tree.specs.Tree.{MerkleTree}
 use Rattle.slh_tree.specs.Record.{KnownPath}
@@ -30,8 +31,8 @@ pub returns : goal.returns
 returns g c =
     let t = g.T.Tree.tree c.args.tree.now in
     let now = c.loop-record.invariant in
-    let height = c.gather-root.ensures.height ∙ now.height in
-    let leaf = c.gather-root.ensures.leaf ∙ now.leaf in
+    let height = c.gather-root.ensures.gained.height ∙ now.height in
+    let leaf = c.gather-root.ensures.gained.leaf ∙ now.leaf in
     record {
       root = c.gather-root.ensures.root;
       height = height;

@@ -1,3 +1,4 @@
+-- The covers of the ranges, in their order, span the tree.
 use Rattle.std.proofs.Common.{◌≡◌, ℕ, ◌-◌, sym, ◌∙◌, ap, subst}
 use Rattle.slh_params.specs.ParamSet.{params}
 use Rattle.slh_tree.specs.Tree.{MerkleTree}

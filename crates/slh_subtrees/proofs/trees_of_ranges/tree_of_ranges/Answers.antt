@@ -1,3 +1,4 @@
+-- The tree's jobs are those from its first one on, and their covers and records are in the same places.
 use Rattle.std.proofs.Common.{List, take, drop, arith, sym, subst}
 use Rattle.slh_tree.specs.Record.{KnownPath}
 use Rattle.slh_tree.specs.declared.cover.Cover.{Cover}

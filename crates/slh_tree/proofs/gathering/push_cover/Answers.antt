@@ -1,3 +1,4 @@
+-- Each node of the cover is the tree's own and begins where the stack ends.
 use Rattle.std.proofs.Common.{◌≡◌, ℕ, List, get_or, sym, subst}
 use Rattle.slh_tree.specs.declared.cover.Placed.{Placed}
 use Rattle.slh_tree.specs.Cover.{IsCover}
@@ -39,12 +40,7 @@ loop-placed-preserved g c =
     let read = copied nodes c.loop-placed.placed-index c.placed-item.result c.copy_placed.result c.placed-item.is c.copy_placed.ensures in
     let next = gathering_next t c.args.cover.now.lo c.args.cover.now.hi nodes whole c.loop-placed.placed-index c.loop-placed.stack c.args.rec.now c.loop-placed.rec c.loop-placed.invariant
     c.copy_placed.result c.loop-placed-test.true read in
-    let pushed : Pushed t 0 c.copy_placed.result c.loop-placed.rec c.push.new.rec = record {
-      height = c.push.ensures.height;
-      leaf = c.push.ensures.leaf;
-      noted = λ j below done. c.push.ensures.noted 0 j next below done;
-      kept = λ j off. c.push.ensures.kept 0 j next off;
-    } in
+    let pushed : Pushed t 0 c.copy_placed.result c.loop-placed.rec c.push.new.rec = c.push.ensures.gained 0 next in
     gathering_more t c.args.cover.now.lo c.args.cover.now.hi nodes whole c.loop-placed.placed-index c.loop-placed.stack c.args.rec.now c.loop-placed.rec c.loop-placed.invariant
     c.copy_placed.result c.push.new.self c.push.new.rec c.loop-placed-test.true read (c.push.ensures.cover 0 next) pushed
 
@@ -60,8 +56,5 @@ returns g c =
     let crossed = subst Cr (sym end) c.loop-placed.invariant.crossed in
     record {
       cover = subst At (sym end) c.loop-placed.invariant.stacked;
-      height = crossed.height;
-      leaf = crossed.leaf;
-      noted = crossed.noted;
-      kept = crossed.kept;
+      gained = crossed;
     }

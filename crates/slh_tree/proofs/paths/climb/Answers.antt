@@ -1,3 +1,4 @@
+-- The node after each level is that of the definition, and has the length of the tree's nodes.
 use Rattle.std.proofs.Common.{◌≡◌, ℕ, length, List, ap, ◌∙◌, arith}
 use Rattle.slh_tree.specs.Climb.{climb, climb_to, path_node}
 use Rattle.slh_tree.proofs.Authentic.{climb-start, climb-step, climb-path, path_node-slice}

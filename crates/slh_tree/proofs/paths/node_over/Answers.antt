@@ -1,3 +1,4 @@
+-- The leaves below one node have a cover of that node alone.
 use Rattle.std.proofs.Common.{◌≡◌, ℕ, ◌*◌, ◌^◌, ◌%◌, ◌<◌, ◌≤◌, lit<, arith, ap}
 use Rattle.std.proofs.lemmas.Nat.{one_shl}
 use Rattle.std.proofs.Math.Nat.{pow-le-pow_right}

@@ -1,3 +1,4 @@
+-- The first levels of the path are written.
 use Rattle.std.proofs.Common.{length, arith}
 use Rattle.slh_tree.proofs.Branch.{sibling_within}
 use Rattle.slh_tree.proofs.PathBytes.{path_below-none, path_below-more, node_fits}
@@ -10,8 +11,8 @@ pub node_over-node-requires-clause-within : goal.node_over-node-requires-clause-
 node_over-node-requires-clause-within g c =
     sibling_within c.args.idx (g.T.Tree.tree c.args.tree.now).height c.loop-level.level c.requires.index (omega (arith, c.height-level-end.ensures.value))
 
-pub write_node-requires : goal.write_node-requires
-write_node-requires g c =
+pub put_node-requires : goal.put_node-requires
+put_node-requires g c =
     let t = g.T.Tree.tree c.args.tree.now in
     node_fits t (g.met.T.Tree.lawful c.args.tree.now) c.args.idx c.loop-level.level c.len.result (length c.loop-level.out) c.node_over-node.result.items c.node_over-node.ensures
     c.len.ensures.value (omega (arith, c.height-level-end.ensures.value)) (omega (arith, c.requires.length))
@@ -19,5 +20,5 @@ write_node-requires g c =
 pub loop-level-preserved : goal.loop-level-preserved
 loop-level-preserved g c =
     let t = g.T.Tree.tree c.args.tree.now in
-    path_below-more t (g.met.T.Tree.lawful c.args.tree.now) c.args.idx c.loop-level.level c.len.result c.loop-level.out c.write_node.new.out c.node_over-node.result.items
-    c.node_over-node.ensures c.len.ensures.value c.loop-level.invariant c.write_node.ensures
+    path_below-more t (g.met.T.Tree.lawful c.args.tree.now) c.args.idx c.loop-level.level c.len.result c.loop-level.out c.put_node.new.out c.node_over-node.result.items
+    c.node_over-node.ensures c.len.ensures.value c.loop-level.invariant c.put_node.ensures

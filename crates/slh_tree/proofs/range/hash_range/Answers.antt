@@ -1,3 +1,4 @@
+-- The stack covers the leaves pushed so far, and the record knows the path nodes that lie among them.
 use Rattle.std.proofs.Common.{◌≡◌, ℕ, ◌*◌, ◌^◌, length, ◌+◌, List, arith, sym, ap, subst, refl, ◌∙◌}
 use Rattle.slh_tree.specs.declared.cover.Placed.{Placed}
 use Rattle.slh_tree.specs.Tree.{MerkleTree}
@@ -36,12 +37,7 @@ loop-i-preserved g c =
       noted = c.note.ensures.noted;
       kept = c.note.ensures.kept;
     } in
-    let pushed : Pushed t c.args.lo leaf c.note.new.self c.push.new.rec = record {
-      height = c.push.ensures.height;
-      leaf = c.push.ensures.leaf;
-      noted = λ j below done. c.push.ensures.noted c.args.lo j cover below done;
-      kept = λ j off. c.push.ensures.kept c.args.lo j cover off;
-    } in
+    let pushed : Pushed t c.args.lo leaf c.note.new.self c.push.new.rec = c.push.ensures.gained c.args.lo cover in
     let At : ℕ → Type 0 = λ hi. IsCover t c.args.lo hi c.push.new.self in
     let e : (c.loop-i.i + 1) * 2 ^ 0 ≡ c.loop-i.i + 1 = omega arith in
     record {

@@ -1,3 +1,4 @@
+-- The cover of the whole tree is its root alone.
 use Rattle.std.proofs.Common.{◌≡◌, ℕ, [], ◌∷◌, List, length, get_or, arith, ap, ◌∙◌}
 use Rattle.slh_tree.specs.declared.cover.Placed.{Placed}
 use Rattle.slh_tree.proofs.OneCover.{only_cover}

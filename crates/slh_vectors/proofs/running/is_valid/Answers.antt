@@ -1,4 +1,4 @@
 use Rattle.slh_vectors.proofs.running.is_valid.Goals as goal
 
-pub returns-in-PreHash : goal.returns-in-PreHash
-returns-in-PreHash c = rw (c.in-PreHash.is, ← c.as_slice-message.ensures.value, ← c.as_slice-context.ensures.value) c.hash_verify.ensures
+pub returns-in-External : goal.returns-in-External
+returns-in-External c = rw (c.in-External.is, ← c.as_slice-message.ensures.value, ← c.as_slice-context.ensures.value) c.verify.ensures

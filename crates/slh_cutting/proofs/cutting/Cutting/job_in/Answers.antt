@@ -1,3 +1,4 @@
+-- Range r goes from point r - 1 to point r.
 use Rattle.std.proofs.Common.{arith, ap, length, get_or, refl, ◌∙◌, ◌++◌, ◌∷◌, [], ◌^◌}
 use Rattle.slh_cutting.proofs.Numbered.{length-tree_jobs, range-between}
 use Rattle.slh_cutting.proofs.cutting.Cutting.job_in.Goals as goal

@@ -1,5 +1,5 @@
 use Rattle.std.proofs.Common.{◌∙◌, rules}
-use Rattle.slh_params.specs.AdrsBytes.{AllBytes}
+use Rattle.slh_params.specs.Bits.{AllBytes}
 use Rattle.slh_params.proofs.Bytes.{AllBytes-put_mid, AllBytes-written}
 use Rattle.slh_params.proofs.adrs.Adrs.set_chain.Goals as goal
 

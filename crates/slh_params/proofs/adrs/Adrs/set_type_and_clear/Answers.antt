@@ -1,6 +1,6 @@
 use Rattle.std.proofs.Common.{ℕ, ◌<◌, lit<, rules}
 use Rattle.std.proofs.lemmas.List.Elements.{All-set, All-replicate, All-same}
-use Rattle.slh_params.specs.AdrsBytes.{AllBytes}
+use Rattle.slh_params.specs.Bits.{AllBytes}
 use Rattle.slh_params.proofs.Bytes.{AllBytes-put_mid}
 use Rattle.slh_params.proofs.adrs.Adrs.set_type_and_clear.Goals as goal
 

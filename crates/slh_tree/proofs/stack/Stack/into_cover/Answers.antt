@@ -1,3 +1,4 @@
+-- The ends of the first and the last node are those of the cover.
 use Rattle.std.proofs.Common.{◌≡◌, ℕ, ◌-◌, List, length, get_or, arith, ap, ◌∙◌}
 use Rattle.slh_tree.specs.declared.cover.Placed.{Placed}
 use Rattle.slh_tree.proofs.CoverParts.{cover_at, cover-first, cover-last, low_enough}

@@ -1,9 +1,10 @@
+-- While the last node is the left sibling, both are joined; then the stack is a cover again, and has room.
 use Rattle.std.proofs.Common.{◌≡◌, List, [], ◌∷◌, ◌++◌, length, arith, sym, ◌∙◌, ap, subst, lit<}
 use Rattle.slh_tree.specs.declared.cover.Placed.{Placed}
 use Rattle.slh_tree.specs.Cover.{past_leaf, IsCover}
 use Rattle.std.proofs.lemmas.List.{length_push}
 use Rattle.slh_tree.proofs.Covers.{cover-length}
-use Rattle.slh_tree.proofs.Pushing.{Notes, joining_none, left_own, joining_more, joining_cover, joining_noted, joining_kept}
+use Rattle.slh_tree.proofs.Pushing.{Notes, joining_none, left_own, joining_more, joining_cover, joining_gained}
 use Rattle.slh_tree.proofs.stack.Stack.push.Goals as goal
 
 pub loop-left-init : goal.loop-left-init
@@ -44,12 +45,7 @@ returns-clause-cover g c lo cover =
     (joining_cover t c.args.placed c.args.self.now c.args.rec.now c.loop-left.self c.loop-left.top c.loop-left.rec c.loop-left.invariant
     lo cover c.in_default.ensures.none.1)
 
-pub returns-clause-noted : goal.returns-clause-noted
-returns-clause-noted g c lo j cover below done =
-    joining_noted (g.T.Tree.tree c.args.tree.now) c.args.placed c.args.self.now c.args.rec.now c.loop-left.self c.loop-left.top c.loop-left.rec c.loop-left.invariant
-    lo j cover c.in_default.ensures.none.1 below done
-
-pub returns-clause-kept : goal.returns-clause-kept
-returns-clause-kept g c lo j cover off =
-    joining_kept (g.T.Tree.tree c.args.tree.now) c.args.placed c.args.self.now c.args.rec.now c.loop-left.self c.loop-left.top c.loop-left.rec c.loop-left.invariant
-    lo j cover off
+pub returns-clause-gained : goal.returns-clause-gained
+returns-clause-gained g c lo cover =
+    joining_gained (g.T.Tree.tree c.args.tree.now) c.args.placed c.args.self.now c.args.rec.now c.loop-left.self c.loop-left.top c.loop-left.rec c.loop-left.invariant
+    lo cover c.in_default.ensures.none.1

@@ -1,0 +1,17 @@
+-- Keys and randomizers as C hands them in: bytes.
+use Rattle.std.specs.Prelude.{ℕ, List, [], ◌∷◌}
+use Rattle.slh_params.specs.declared.param_set.ParamSet.{ParamSet}
+use Rattle.slh_core.specs.Keys.{Key, public_of, pk_seed}
+use Rattle.slh_core.specs.Signatures.{signature}
+
+abbrev pub key : ParamSet → List ℕ → Key
+key set bytes = record { set = set; bytes = bytes }
+
+-- opt_rand by the bytes of a randomizer: PK.seed where there are none, else these (FIPS 205, section 9.2)
+abbrev pub opt_rand_of : List ℕ → Key → List ℕ
+opt_rand_of [] sk = pk_seed (public_of sk)
+opt_rand_of (byte ∷ bytes) sk = byte ∷ bytes
+
+-- the signature of M' under the bytes of a randomizer
+abbrev pub signature_by : Key → List ℕ → List ℕ → List ℕ
+signature_by sk msg randomizer = signature sk msg (opt_rand_of randomizer sk)

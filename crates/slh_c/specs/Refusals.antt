@@ -1,0 +1,35 @@
+-- The refusals of the calls: their numbers and names in the one table of docs/FORMATS.md.
+use Rattle.std.specs.Prelude.{ℕ, ◌==◌, List, [], ◌∷◌, Option, codes}
+use Rattle.std.specs.List.{find}
+use Rattle.slh_c.specs.declared.refusal.Refusal.{Refusal}
+use Rattle.slh_c.specs.declared.refusal.Refusal.TheVariants.{ContextTooLong, BadLength, NoSuchSet, NoSuchFunction, BadSeedLength, BadDigestLength, BadRandomizerLength, BadOutputLength, NoSuchRefusal}
+
+abbrev pub number : Refusal → ℕ
+number ContextTooLong = 2
+number BadLength = 3
+number NoSuchSet = 8
+number NoSuchFunction = 9
+number BadSeedLength = 10
+number BadDigestLength = 16
+number BadRandomizerLength = 17
+number BadOutputLength = 18
+number NoSuchRefusal = 19
+
+abbrev pub name : Refusal → List ℕ
+name ContextTooLong = codes "ContextTooLong"
+name BadLength = codes "BadLength"
+name NoSuchSet = codes "NoSuchSet"
+name NoSuchFunction = codes "NoSuchFunction"
+name BadSeedLength = codes "BadSeedLength"
+name BadDigestLength = codes "BadDigestLength"
+name BadRandomizerLength = codes "BadRandomizerLength"
+name BadOutputLength = codes "BadOutputLength"
+name NoSuchRefusal = codes "NoSuchRefusal"
+
+-- the refusals, in the order of their numbers
+abbrev pub refusals : List Refusal
+refusals = ContextTooLong ∷ BadLength ∷ NoSuchSet ∷ NoSuchFunction ∷ BadSeedLength ∷ BadDigestLength ∷ BadRandomizerLength ∷ BadOutputLength ∷ NoSuchRefusal ∷ []
+
+-- the refusal of a number
+unfoldable pub refusal_numbered : ℕ → Option Refusal
+refusal_numbered asked = find (λ refusal. number refusal == asked) refusals

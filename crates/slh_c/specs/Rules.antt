@@ -1,0 +1,101 @@
+-- What the calls ask of their arguments, in the order in which it is judged.
+use Rattle.std.specs.Prelude.{ℕ, ◌+◌, ◌==◌, ◌||◌, nat_le, Bool, false, if◌then◌else◌, List, [], ◌∷◌, length, Option, None, Some}
+use Rattle.slh_params.specs.Params.{pk_len, sk_len, sig_len}
+use Rattle.slh_params.specs.ParamSet.{params}
+use Rattle.slh_params.specs.declared.param_set.ParamSet.{ParamSet}
+use Rattle.slh_core.specs.PreHash.{digest_len}
+use Rattle.slh_core.specs.declared.pre_hash.PreHash.{PreHash}
+use Rattle.slh_c.specs.Numbers.{set_numbered, function_numbered}
+use Rattle.slh_c.specs.Refusals.{number, name, refusal_numbered}
+use Rattle.slh_c.specs.declared.refusal.Refusal.{Refusal}
+use Rattle.slh_c.specs.declared.refusal.Refusal.TheVariants.{ContextTooLong, BadLength, NoSuchSet, NoSuchFunction, BadSeedLength, BadDigestLength, BadRandomizerLength, BadOutputLength, NoSuchRefusal}
+
+-- what is asked of an argument, and the refusal where it is not so
+pub record Rule : Type 0 where
+  pub is_met : Bool
+  pub refusal : Refusal
+
+-- the number of the first rule that is not met, and 0 where all are
+abbrev pub first_refusal : List Rule → ℕ
+first_refusal [] = 0
+first_refusal (rule ∷ rules) = if rule.is_met then first_refusal rules else number rule.refusal
+
+-- that a number is one of something, and then the rules for what it is of
+abbrev pub numbered : {A : Type 0} → Option A → Refusal → (A → List Rule) → List Rule
+numbered None refusal rules = record { is_met = false; refusal = refusal } ∷ []
+numbered (Some value) refusal rules = rules value
+
+abbrev pub in_set : ℕ → (ParamSet → List Rule) → List Rule
+in_set set rules = numbered (set_numbered set) NoSuchSet rules
+
+abbrev pub with_function : ℕ → (PreHash → List Rule) → List Rule
+with_function function rules = numbered (function_numbered function) NoSuchFunction rules
+
+abbrev pub has_len : List ℕ → ℕ → Refusal → Rule
+has_len bytes len refusal = record { is_met = length bytes == len; refusal = refusal }
+
+abbrev pub secret : ParamSet → List ℕ → Rule
+secret set sk = has_len sk (sk_len (params set)) BadLength
+
+abbrev pub public : ParamSet → List ℕ → Rule
+public set pk = has_len pk (pk_len (params set)) BadLength
+
+abbrev pub seed : ParamSet → List ℕ → Rule
+seed set bytes = has_len bytes (params set).n BadSeedLength
+
+abbrev pub digest : PreHash → List ℕ → Rule
+digest function bytes = has_len bytes (digest_len function) BadDigestLength
+
+-- none for the deterministic variant, or n
+abbrev pub randomizer : ParamSet → List ℕ → Rule
+randomizer set bytes = record { is_met = length bytes == 0 || length bytes == (params set).n; refusal = BadRandomizerLength }
+
+abbrev pub output : ℕ → List ℕ → Rule
+output len out = has_len out len BadOutputLength
+
+abbrev pub context : List ℕ → Rule
+context ctx = record { is_met = nat_le (length ctx) 255; refusal = ContextTooLong }
+
+abbrev pub lengths_rules : ℕ → List Rule
+lengths_rules set = in_set set (λ _. [])
+
+abbrev pub keygen_rules : ℕ → List ℕ → List ℕ → List ℕ → List ℕ → List Rule
+keygen_rules set sk_seed sk_prf pk_seed out =
+    in_set set (λ s. seed s sk_seed ∷ seed s sk_prf ∷ seed s pk_seed ∷ output (sk_len (params s)) out ∷ [])
+
+abbrev pub public_rules : ℕ → List ℕ → List ℕ → List Rule
+public_rules set sk out = in_set set (λ s. secret s sk ∷ output (pk_len (params s)) out ∷ [])
+
+abbrev pub check_rules : ℕ → List ℕ → List Rule
+check_rules set sk = in_set set (λ s. secret s sk ∷ [])
+
+abbrev pub sign_rules : ℕ → List ℕ → List ℕ → List ℕ → List ℕ → List Rule
+sign_rules set sk ctx random out =
+    in_set set (λ s. secret s sk ∷ randomizer s random ∷ output (sig_len (params s)) out ∷ context ctx ∷ [])
+
+abbrev pub hash_sign_rules : ℕ → ℕ → List ℕ → List ℕ → List ℕ → List ℕ → List Rule
+hash_sign_rules set function sk ctx random out = in_set set (λ s. with_function function (λ _.
+    secret s sk ∷ randomizer s random ∷ output (sig_len (params s)) out ∷ context ctx ∷ []))
+
+abbrev pub hash_sign_digest_rules : ℕ → ℕ → List ℕ → List ℕ → List ℕ → List ℕ → List ℕ → List Rule
+hash_sign_digest_rules set function sk bytes ctx random out = in_set set (λ s. with_function function (λ f.
+    secret s sk ∷ digest f bytes ∷ randomizer s random ∷ output (sig_len (params s)) out ∷ context ctx ∷ []))
+
+abbrev pub sign_internal_rules : ℕ → List ℕ → List ℕ → List ℕ → List Rule
+sign_internal_rules set sk random out =
+    in_set set (λ s. secret s sk ∷ randomizer s random ∷ output (sig_len (params s)) out ∷ [])
+
+-- a context or a signature out of rule is invalid, and no refusal
+abbrev pub verify_rules : ℕ → List ℕ → List Rule
+verify_rules set pk = in_set set (λ s. public s pk ∷ [])
+
+abbrev pub hash_verify_rules : ℕ → ℕ → List ℕ → List Rule
+hash_verify_rules set function pk = in_set set (λ s. with_function function (λ _. public s pk ∷ []))
+
+abbrev pub hash_verify_digest_rules : ℕ → ℕ → List ℕ → List ℕ → List Rule
+hash_verify_digest_rules set function pk bytes =
+    in_set set (λ s. with_function function (λ f. public s pk ∷ digest f bytes ∷ []))
+
+abbrev pub name_rules : ℕ → List ℕ → List Rule
+name_rules asked out = numbered (refusal_numbered asked) NoSuchRefusal (λ refusal.
+    record { is_met = nat_le (length (name refusal) + 1) (length out); refusal = BadOutputLength } ∷ [])

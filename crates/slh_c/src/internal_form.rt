@@ -1,0 +1,70 @@
+ghost use Rattle.std.specs.Prelude.{◌≡◌, ◌≢◌, ◌↔◌, ◌≤◌, length};
+ghost use Rattle.slh_params.specs.Params.{pk_len};
+ghost use Rattle.slh_params.specs.ParamSet.{params};
+ghost use Rattle.slh_core.specs.Keys.{public_of, IsGeneratedKey};
+ghost use Rattle.slh_core.specs.Signatures.{IsValid};
+ghost use Rattle.slh_c.specs.Keys.{key, signature_by};
+ghost use Rattle.slh_c.specs.Numbers.{InSet};
+ghost use Rattle.slh_c.specs.Rules.{first_refusal, sign_internal_rules, verify_rules};
+
+use crate::numbers::set_of;
+use crate::randomizer::randomizer_of;
+use crate::refusal::{DONE, INVALID, Refusal};
+use slh_core::{PublicKey, SecretKey, sign_internal, verify_internal};
+
+/// Signs M' as it is (FIPS 205, Algorithm 19). The lengths are those of `slh_sign`. Refused, with nothing written,
+/// by `sign_internal_rules`: a number of no set, a key, randomizer or output of another length.
+#[unsafe(no_mangle)]
+pub extern "C" fn slh_sign_internal(
+    set: u32,
+    sk: &[u8],
+    msg: &[u8],
+    randomizer: &[u8],
+    sig: &mut [u8],
+) -> u32
+    ensures answer { result ≡ first_refusal (sign_internal_rules set sk.now randomizer.now sig.old) }
+    ensures signature { result ≡ DONE → InSet set (λ s.
+        sig.new ≡ signature_by (key s sk.now) msg.now randomizer.now) }
+    ensures refused { result ≢ DONE → sig.new ≡ sig.old }
+    ensures authentic { result ≡ DONE → InSet set (λ s.
+        IsGeneratedKey (key s sk.now)
+        → IsValid (public_of (key s sk.now)) msg.now sig.new) }
+{
+    let Some(set) = set_of(set) else {
+        return Refusal::NoSuchSet.number();
+    };
+    let Ok(sk) = SecretKey::from_bytes(set, sk) else {
+        return Refusal::BadLength.number();
+    };
+    let Some(randomizer) = randomizer_of(set, randomizer) else {
+        return Refusal::BadRandomizerLength.number();
+    };
+    if sig.len() != set.sig_len() {
+        return Refusal::BadOutputLength.number();
+    }
+    sign_internal(&[msg], &sk, randomizer, sig);
+    DONE
+}
+
+/// Whether the bytes are a valid signature of M' as it is (FIPS 205, Algorithm 20). Invalid where they are not
+/// `sig_len`. Refused as `slh_verify` is, by `verify_rules`.
+#[unsafe(no_mangle)]
+pub extern "C" fn slh_verify_internal(set: u32, pk: &[u8], msg: &[u8], sig: &[u8]) -> u32
+    ensures valid { (result ≡ DONE) ↔ InSet set (λ s.
+        (length pk.now ≡ pk_len (params s)) × IsValid (key s pk.now) msg.now sig.now) }
+    ensures refused { first_refusal (verify_rules set pk.now) ≢ DONE
+        → result ≡ first_refusal (verify_rules set pk.now) }
+    ensures judged { first_refusal (verify_rules set pk.now) ≡ DONE → result ≤ INVALID }
+{
+    let Some(set) = set_of(set) else {
+        return Refusal::NoSuchSet.number();
+    };
+    let Ok(pk) = PublicKey::from_bytes(set, pk) else {
+        return Refusal::BadLength.number();
+    };
+    if verify_internal(&[msg], sig, &pk) {
+        DONE
+    } else {
+        INVALID
+    }
+}

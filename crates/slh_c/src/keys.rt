@@ -1,0 +1,107 @@
+ghost use Rattle.std.specs.Prelude.{◌≡◌, ◌≢◌, ◌↔◌, ◌≤◌, length};
+ghost use Rattle.slh_params.specs.Params.{pk_len, sk_len, sig_len};
+ghost use Rattle.slh_params.specs.ParamSet.{params};
+ghost use Rattle.slh_core.specs.Keys.{public_of, generated_key, IsGeneratedKey};
+ghost use Rattle.slh_c.specs.Keys.{key};
+ghost use Rattle.slh_c.specs.Numbers.{InSet};
+ghost use Rattle.slh_c.specs.Rules.{first_refusal, lengths_rules, keygen_rules, public_rules, check_rules};
+
+use crate::numbers::set_of;
+use crate::refusal::{DONE, INVALID, Refusal};
+use slh_core::{SecretKey, check_pair, keygen_internal};
+
+/// Writes the lengths of a set's public keys, secret keys and signatures in bytes, and n. Refused, with nothing
+/// written, by `lengths_rules`: where the number is no set's.
+#[unsafe(no_mangle)]
+pub extern "C" fn slh_lengths(
+    set: u32,
+    public: &mut usize,
+    secret: &mut usize,
+    signature: &mut usize,
+    n: &mut usize,
+) -> u32
+    ensures answer { result ≡ first_refusal (lengths_rules set) }
+    ensures lengths { result ≡ DONE → InSet set (λ s. (public.new ≡ pk_len (params s))
+        × (secret.new ≡ sk_len (params s)) × (signature.new ≡ sig_len (params s)) × (n.new ≡ (params s).n)) }
+    ensures refused { result ≢ DONE → (public.new ≡ public.old) × (secret.new ≡ secret.old)
+        × (signature.new ≡ signature.old) × (n.new ≡ n.old) }
+{
+    let Some(set) = set_of(set) else {
+        return Refusal::NoSuchSet.number();
+    };
+    *public = set.pk_len();
+    *secret = set.sk_len();
+    *signature = set.sig_len();
+    *n = set.n();
+    DONE
+}
+
+/// Writes the secret key, 4n bytes, of three seeds of n bytes each (FIPS 205, Algorithm 18). Refused, with nothing
+/// written, by `keygen_rules`: a number of no set, a seed or an output of another length.
+#[unsafe(no_mangle)]
+pub extern "C" fn slh_keygen(
+    set: u32,
+    sk_seed: &[u8],
+    sk_prf: &[u8],
+    pk_seed: &[u8],
+    sk: &mut [u8],
+) -> u32
+    ensures answer { result ≡ first_refusal (keygen_rules set sk_seed.now sk_prf.now pk_seed.now sk.old) }
+    ensures key { result ≡ DONE → InSet set (λ s.
+        key s sk.new ≡ generated_key s sk_seed.now sk_prf.now pk_seed.now) }
+    ensures generated { result ≡ DONE → InSet set (λ s. IsGeneratedKey (key s sk.new)) }
+    ensures refused { result ≢ DONE → sk.new ≡ sk.old }
+{
+    let Some(set) = set_of(set) else {
+        return Refusal::NoSuchSet.number();
+    };
+    let n = set.n();
+    if sk_seed.len() != n || sk_prf.len() != n || pk_seed.len() != n {
+        return Refusal::BadSeedLength.number();
+    }
+    if sk.len() != set.sk_len() {
+        return Refusal::BadOutputLength.number();
+    }
+    sk.copy_from_slice(keygen_internal(set, sk_seed, sk_prf, pk_seed).bytes());
+    DONE
+}
+
+/// Writes the public key, 2n bytes, of a secret key of 4n bytes: its second half. Refused, with nothing written, by
+/// `public_rules`: a number of no set, a key or an output of another length.
+#[unsafe(no_mangle)]
+pub extern "C" fn slh_public(set: u32, sk: &[u8], pk: &mut [u8]) -> u32
+    ensures answer { result ≡ first_refusal (public_rules set sk.now pk.old) }
+    ensures key { result ≡ DONE → InSet set (λ s. key s pk.new ≡ public_of (key s sk.now)) }
+    ensures refused { result ≢ DONE → pk.new ≡ pk.old }
+{
+    let Some(set) = set_of(set) else {
+        return Refusal::NoSuchSet.number();
+    };
+    let Ok(sk) = SecretKey::from_bytes(set, sk) else {
+        return Refusal::BadLength.number();
+    };
+    if pk.len() != set.pk_len() {
+        return Refusal::BadOutputLength.number();
+    }
+    pk.copy_from_slice(sk.public_bytes());
+    DONE
+}
+
+/// Whether PK.root of a secret key of 4n bytes is the root that its seeds give. Refused by `check_rules`: a number
+/// of no set, a key of another length.
+#[unsafe(no_mangle)]
+pub extern "C" fn slh_check(set: u32, sk: &[u8]) -> u32
+    ensures generated { (result ≡ DONE) ↔ InSet set (λ s.
+        (length sk.now ≡ sk_len (params s)) × IsGeneratedKey (key s sk.now)) }
+    ensures refused { first_refusal (check_rules set sk.now) ≢ DONE
+        → result ≡ first_refusal (check_rules set sk.now) }
+    ensures judged { first_refusal (check_rules set sk.now) ≡ DONE → result ≤ INVALID }
+{
+    let Some(set) = set_of(set) else {
+        return Refusal::NoSuchSet.number();
+    };
+    let Ok(sk) = SecretKey::from_bytes(set, sk) else {
+        return Refusal::BadLength.number();
+    };
+    if check_pair(&sk) { DONE } else { INVALID }
+}

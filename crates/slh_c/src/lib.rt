@@ -1,0 +1,15 @@
+//! SLH-DSA (FIPS 205) with SHA-2 for C and for any language that calls C: keys, signing and verifying in the calling
+//! thread, without memory. `include/slh.h` declares the calls and says what a caller must uphold.
+//!
+//! Each call tests its numbers and lengths in the order of its rules (`specs/Rules`), and answers the number of the
+//! first that is not met. Else it calls `slh_core`, and answers `DONE` or `INVALID`.
+#![tactic(auto)]
+
+mod internal_form;
+mod keys;
+mod names;
+mod numbers;
+mod pre_hash_form;
+mod pure_form;
+mod randomizer;
+mod refusal;

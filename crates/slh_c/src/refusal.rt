@@ -1,0 +1,86 @@
+ghost use Rattle.std.specs.Prelude.{◌≡◌};
+ghost use Rattle.slh_c.specs.Refusals.{number, name, refusal_numbered};
+
+/// What a call answers that is done, or whose key or signature is valid.
+pub const DONE: u32 = 0;
+
+/// What a call answers whose key or signature is not valid.
+pub const INVALID: u32 = 1;
+
+/// Why a call is refused.
+#[derive(Clone, Copy)]
+pub enum Refusal {
+    /// Signing under a context of over 255 bytes.
+    ContextTooLong,
+    /// A key of another length than the set's.
+    BadLength,
+    /// A number that is no parameter set's.
+    NoSuchSet,
+    /// A number that is no pre-hash function's.
+    NoSuchFunction,
+    /// A seed that has not n bytes.
+    BadSeedLength,
+    /// A digest of another length than the function's.
+    BadDigestLength,
+    /// A randomizer that has neither 0 nor n bytes.
+    BadRandomizerLength,
+    /// An output that has not as many bytes as are written.
+    BadOutputLength,
+    /// A number that is no refusal's.
+    NoSuchRefusal,
+}
+
+impl Refusal {
+    /// The refusal's number.
+    pub fn number(self) -> u32
+        ensures { result ≡ number self }
+    {
+        match self {
+            Refusal::ContextTooLong => 2,
+            Refusal::BadLength => 3,
+            Refusal::NoSuchSet => 8,
+            Refusal::NoSuchFunction => 9,
+            Refusal::BadSeedLength => 10,
+            Refusal::BadDigestLength => 16,
+            Refusal::BadRandomizerLength => 17,
+            Refusal::BadOutputLength => 18,
+            Refusal::NoSuchRefusal => 19,
+        }
+    }
+
+    /// The refusal's name.
+    pub fn name(self) -> &'static str
+        ensures { result.now ≡ name self }
+    {
+        match self {
+            Refusal::ContextTooLong => "ContextTooLong",
+            Refusal::BadLength => "BadLength",
+            Refusal::NoSuchSet => "NoSuchSet",
+            Refusal::NoSuchFunction => "NoSuchFunction",
+            Refusal::BadSeedLength => "BadSeedLength",
+            Refusal::BadDigestLength => "BadDigestLength",
+            Refusal::BadRandomizerLength => "BadRandomizerLength",
+            Refusal::BadOutputLength => "BadOutputLength",
+            Refusal::NoSuchRefusal => "NoSuchRefusal",
+        }
+    }
+
+    /// The refusal of a number. `None` where it is no refusal's.
+    #[tactic(auto, unfolding(crate::specs::Refusals::refusal_numbered))]
+    pub fn from_number(number: u32) -> Option<Refusal>
+        ensures { result ≡ refusal_numbered number }
+    {
+        match number {
+            2 => Some(Refusal::ContextTooLong),
+            3 => Some(Refusal::BadLength),
+            8 => Some(Refusal::NoSuchSet),
+            9 => Some(Refusal::NoSuchFunction),
+            10 => Some(Refusal::BadSeedLength),
+            16 => Some(Refusal::BadDigestLength),
+            17 => Some(Refusal::BadRandomizerLength),
+            18 => Some(Refusal::BadOutputLength),
+            19 => Some(Refusal::NoSuchRefusal),
+            _ => None,
+        }
+    }
+}

@@ -1,0 +1,8 @@
+pub mod DrawnKey
+-- cited by public clauses
+pub use Rattle.slh_params.specs.Params
+pub use Rattle.slh_params.specs.ParamSet
+pub use Rattle.slh_core.specs.Keys
+pub use Rattle.slh_core.specs.Messages
+pub use Rattle.slh_core.specs.PreHash
+pub use Rattle.slh_core.specs.Signatures

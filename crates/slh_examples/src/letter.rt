@@ -1,0 +1,37 @@
+//! A message that is signed and verified by one thread, without memory.
+ghost use Rattle.std.specs.Prelude.{◌≡◌, ◌↔◌, ◌≤◌, IsTrue, IsOk, OnOk, OnErr, length};
+ghost use Rattle.slh_params.specs.Params.{sig_len};
+ghost use Rattle.slh_params.specs.ParamSet.{params};
+ghost use Rattle.slh_core.specs.Keys.{public_of, IsGeneratedKey};
+ghost use Rattle.slh_core.specs.Messages.{pure_message};
+ghost use Rattle.slh_core.specs.Signatures.{signature_by, IsValid};
+ghost use Rattle.slh_core.specs.declared.randomizer.Randomizer.TheVariants.{Deterministic};
+
+use slh_core::{PublicKey, Randomizer, SecretKey, SignFault, sign, verify};
+
+/// Signs a letter under the context of its department, which tells its signatures from those of others. `sig` has the
+/// `sig_len` bytes of the key's set. Refused, with nothing written, where the context has over 255 bytes.
+pub fn sign_letter(
+    sk: &SecretKey,
+    department: &[u8],
+    letter: &[u8],
+    sig: &mut [u8],
+) -> Result<(), SignFault>
+    requires { length sig.old ≡ sig_len (params sk.now.set) }
+    ensures accepted { IsOk result ↔ (length department.now ≤ 255) }
+    ensures signature { OnOk result (sig.new
+        ≡ signature_by sk.now (pure_message department.now letter.now) Deterministic) }
+    ensures valid { OnOk result (IsGeneratedKey sk.now
+        → IsValid (public_of sk.now) (pure_message department.now letter.now) sig.new) }
+    ensures refused { OnErr result (sig.new ≡ sig.old) }
+{
+    sign(letter, department, sk, Randomizer::Deterministic, sig)
+}
+
+/// Whether these bytes, whatever they are, sign the letter under the context of its department.
+pub fn is_letter_of(pk: &PublicKey, department: &[u8], letter: &[u8], sig: &[u8]) -> bool
+    ensures { IsTrue result ↔ ((length department.now ≤ 255)
+        × IsValid pk.now (pure_message department.now letter.now) sig.now) }
+{
+    verify(letter, department, sig, pk)
+}

@@ -1,0 +1,19 @@
+//! Callers of the library, each proved, to copy from: docs/CALLING.md shows them.
+#![tactic(auto)]
+
+mod key;
+mod letter;
+mod many;
+mod stop;
+mod stream;
+mod threads;
+
+pub use key::new_key;
+pub use letter::{is_letter_of, sign_letter};
+pub use many::{Signed, both_valid};
+pub use stop::StopFlag;
+pub use stream::{is_valid_package, sign_package};
+pub use threads::{sign_by_threads, sign_unless_stopped};
+
+#[cfg(test)]
+mod tests;

@@ -1,0 +1,163 @@
+//! Each call once, against values of other implementations.
+ghost use Rattle.std.specs.Prelude.{◌≡◌, IfOk, length};
+ghost use Rattle.slh_params.specs.Params.{sig_len};
+ghost use Rattle.slh_params.specs.ParamSet.{params};
+
+use crate::{
+    Signed, StopFlag, both_valid, is_letter_of, is_valid_package, new_key, sign_by_threads,
+    sign_letter, sign_package, sign_unless_stopped,
+};
+use rand_chacha::ChaCha20Rng;
+use rand_core::SeedableRng;
+use sha2::{Digest, Sha256};
+use slh_core::{ParamSet, PreHash, SecretKey};
+use slh_par::{ParFault, Workers};
+use std::alloc::Global;
+use std::test::Fail;
+
+const SET: ParamSet = ParamSet::S128f;
+
+/// The secret key of the tests.
+const KEY: &str = concat!(
+    "2405753dcaa2a51e87212c4a4b0c9e11d58535cb6eb2c2272bafdb675dcb8739",
+    "d2d79fb9f9456875cf42de28fe04af67a31ca94490eff4f38d562a1c6190d702"
+);
+
+/// The secret key of the seeds 00, 01, 02, ..
+const COUNTING_KEY: &str = concat!(
+    "000102030405060708090a0b0c0d0e0f101112131415161718191a1b1c1d1e1f",
+    "202122232425262728292a2b2c2d2e2f3b56e816847f000386aeec2e2bb9e1b5"
+);
+
+/// The SHA-256 of the signature of "abc" under that key by OpenSSL 3.5, deterministic and with no context.
+const OF_ABC: &str = "7c4622720e758897ec5f2089049bb5e5d98fc2e88bfdacf4fad3a1e20f80d5f8";
+
+/// The SHA-256 of the signature of the empty message, made likewise.
+const OF_EMPTY: &str = "8f99272708b347baa34e384b3188cc225d0d8c8a20bbd91e7f5bd9370da4c81b";
+
+/// The secret key that these hexadecimal digits spell.
+fn key(alloc: Global, digits: &str) -> Result<SecretKey, Fail>
+    ensures { IfOk result (λ sk. sk.set ≡ SET) }
+{
+    Ok(SecretKey::from_bytes(SET, &hex::decode(alloc, digits)?)?)
+}
+
+/// Room for a signature.
+fn room(alloc: Global) -> Result<Vec<u8>, Fail>
+    ensures { IfOk result (λ sig. length sig.items ≡ sig_len (params SET)) }
+{
+    Ok(vec![in alloc; 0; SET.sig_len()]?)
+}
+
+/// The SHA-256 of the bytes, in hexadecimal digits.
+fn sha256_hex(alloc: Global, bytes: &[u8]) -> Result<String, Fail> {
+    Ok(hex::encode(alloc, Sha256::digest(bytes).as_slice())?)
+}
+
+/// That many workers.
+fn workers(number: u8) -> Result<Workers, Fail> {
+    Ok(Workers::new(number).ok_or("no such number of workers")?)
+}
+
+/// The first 48 bytes of ChaCha20 under the key of 32 bytes 00 (RFC 8439, appendix A.1) are the seeds; PK.root is that of a
+/// reference in Python, which gives the roots of OpenSSL 3.5 for other seeds.
+#[test]
+fn key_from_a_generator(rt: HostRuntime) -> Result<(), Fail> {
+    let mut rng = ChaCha20Rng::from_seed([0; 32]);
+    let sk = new_key(SET, &mut rng);
+    assert_eq!(rt;
+        hex::encode(rt.alloc(), sk.bytes())?.as_str(),
+        concat!(
+            "76b8e0ada0f13d90405d6ae55386bd28bdd219b8a08ded1aa836efcc8b770dc7",
+            "da41597c5157488d7724e03fb8d84a37322d913e2cfa3356dee4283dfca396de"
+        )
+    );
+    assert!(rt; new_key(SET, &mut rng).bytes() != sk.bytes());
+    Ok(())
+}
+
+#[test]
+fn letters(rt: HostRuntime) -> Result<(), Fail> {
+    let sk = key(rt.alloc(), KEY)?;
+    let mut sig = room(rt.alloc())?;
+    let refused = sign_letter(&sk, &[7; 256], b"\xda", &mut sig).err();
+    assert_eq!(rt; refused.map(|fault| fault.name()), Some("ContextTooLong"));
+    sign_letter(&sk, b"\xf6", b"\xda", &mut sig)?;
+    assert_eq!(rt;
+        sha256_hex(rt.alloc(), &sig)?.as_str(),
+        "0450b6cdd47d6f6245d879c7d6b8cb92517d8f33f3f9bb8f9379287c1d7a6edc"
+    );
+    let pk = sk.public();
+    assert!(rt; is_letter_of(&pk, b"\xf6", b"\xda", &sig));
+    assert!(rt; !is_letter_of(&pk, b"", b"\xda", &sig));
+    assert!(rt; !is_letter_of(&pk, &[7; 256], b"\xda", &sig));
+    Ok(())
+}
+
+#[test]
+fn packages(rt: HostRuntime) -> Result<(), Fail> {
+    let sk = key(rt.alloc(), KEY)?;
+    let mut sig = room(rt.alloc())?;
+    sign_package(&sk, PreHash::Sha256, b"\x67", b"\xdb\x48", &mut sig);
+    assert_eq!(rt;
+        sha256_hex(rt.alloc(), &sig)?.as_str(),
+        "928ac85ca8ae5547151614b7ca6e573ca6f37f43d4add3b9ab50eaa5ee458ffa"
+    );
+    let pk = sk.public();
+    assert!(rt; is_valid_package(&pk, PreHash::Sha256, b"\x67\xdb", b"\x48", &sig));
+    assert!(rt; !is_valid_package(&pk, PreHash::Sha256, b"\xdb\x48", b"\x67", &sig));
+    assert!(rt; !is_valid_package(&pk, PreHash::Sha512, b"\x67", b"\xdb\x48", &sig));
+    Ok(())
+}
+
+#[test]
+fn threads_and_a_stop_flag(rt: HostRuntime) -> Result<(), Fail> {
+    let sk = key(rt.alloc(), COUNTING_KEY)?;
+    let three = workers(3)?;
+    let mut sig = room(rt.alloc())?;
+    let flag = StopFlag::new();
+    sign_by_threads(&rt, rt.alloc(), &sk, b"abc", three, &mut sig)?;
+    assert_eq!(rt; sha256_hex(rt.alloc(), &sig)?.as_str(), OF_ABC);
+    let mut sig = room(rt.alloc())?;
+    sign_unless_stopped(&rt, rt.alloc(), &sk, b"abc", three, &flag, &mut sig)?;
+    assert_eq!(rt; sha256_hex(rt.alloc(), &sig)?.as_str(), OF_ABC);
+
+    flag.raise();
+    let mut sig = room(rt.alloc())?;
+    let stopped = sign_unless_stopped(&rt, rt.alloc(), &sk, b"abc", three, &flag, &mut sig);
+    assert_eq!(rt; stopped.err(), Some(ParFault::Stopped));
+    assert!(rt; sig.iter().all(|&byte| byte == 0));
+    Ok(())
+}
+
+#[test]
+fn two_signatures_at_once(rt: HostRuntime) -> Result<(), Fail> {
+    let sk = key(rt.alloc(), COUNTING_KEY)?;
+    let pk = sk.public();
+    let mut of_abc = room(rt.alloc())?;
+    sign_letter(&sk, b"", b"abc", &mut of_abc)?;
+    assert_eq!(rt; sha256_hex(rt.alloc(), &of_abc)?.as_str(), OF_ABC);
+    let mut of_empty = room(rt.alloc())?;
+    sign_letter(&sk, b"", b"", &mut of_empty)?;
+    assert_eq!(rt; sha256_hex(rt.alloc(), &of_empty)?.as_str(), OF_EMPTY);
+    let abc = Signed {
+        msg: b"abc",
+        sig: &of_abc,
+    };
+    let empty = Signed {
+        msg: b"",
+        sig: &of_empty,
+    };
+    let exchanged = Signed {
+        msg: b"abc",
+        sig: &of_empty,
+    };
+    for (first, second, valid) in [
+        (abc, empty, true),
+        (abc, exchanged, false),
+        (exchanged, abc, false),
+    ] {
+        assert_eq!(rt; both_valid(&rt, rt.alloc(), &pk, &first, &second)?, valid);
+    }
+    Ok(())
+}

@@ -1,0 +1,124 @@
+#!/usr/bin/env bash
+# Builds the library for C by tools/library.sh into a folder of its own, and tests what was installed: its symbols, the
+# header, the calls with arguments in and out of rule, the vectors of other implementations, the stack, the examples.
+#
+# usage: tools/library_tests.sh
+#
+# It needs what tools/library.sh needs, and a C++ compiler as CXX or g++, rustc as RUSTC or rustc, python3 and
+# pkg-config. The last line has the counts, and the status is 0 where nothing failed.
+set -u
+here=$(cd "$(dirname "${BASH_SOURCE[0]}")/.." && pwd)
+cc=${CC:-cc} cxx=${CXX:-g++} rustc=${RUSTC:-rustc}
+work=$(mktemp -d)
+trap 'rm -rf "$work"' EXIT
+passed=0 failed=0
+prefix=$work/prefix lib=$work/prefix/lib
+strict=(-Wall -Wextra -Werror -pedantic)
+sanitized=(-g -fsanitize=address,undefined -fno-sanitize-recover=all)
+export ASAN_OPTIONS=detect_leaks=0
+
+# Runs a command, and tells by NAME whether its status was 0. What it prints is shown where it was not.
+one() {
+    local name=$1
+    shift
+    if "$@" >"$work/said" 2>&1; then
+        passed=$((passed + 1))
+        echo "$name: yes"
+    else
+        failed=$((failed + 1))
+        tail -n 20 "$work/said"
+        echo "$name: no"
+    fi
+}
+
+# Runs a command whose last line is 'N passed, M failed', and adds up the counts. One that ends otherwise has failed.
+count() {
+    local name=$1 status
+    shift
+    "$@" >"$work/said" 2>&1
+    status=$?
+    if [[ $(tail -n 1 "$work/said") =~ ^([0-9]+)\ passed,\ ([0-9]+)\ failed$ ]]; then
+        passed=$((passed + BASH_REMATCH[1]))
+        failed=$((failed + BASH_REMATCH[2]))
+        [ "$status" = 0 ] || [ "${BASH_REMATCH[2]}" != 0 ] || failed=$((failed + 1))
+    else
+        failed=$((failed + 1))
+    fi
+    [ "$status" = 0 ] || tail -n 20 "$work/said"
+    echo "$name: $(tail -n 1 "$work/said")"
+}
+
+# Whether what `nm` lists of a file is just these lines. What the C runtime adds to each shared object is left out, and
+# so are memcmp and bcmp, which a compiler may call as it does the three of of_c.
+has_symbols() {
+    local file=$1
+    shift
+    nm "$@" "$file" | awk 'NF == 2 { print $1, $2 } NF == 3 { print $2, $3 }' | sed 's/@.*//' |
+        grep -Ev '^[a-z] |^[wW] (_ITM_|__cxa_finalize|__gmon_start__)|^U (memcmp|bcmp)$' | LC_ALL=C sort >"$work/symbols"
+    diff "$work/symbols" -
+}
+
+calls() {
+    printf 'T slh_%s\n' check hash_sign hash_sign_digest hash_verify hash_verify_digest keygen lengths public \
+        refusal_name sign sign_internal verify verify_internal
+}
+
+of_c() {
+    printf 'U %s\n' memcpy memmove memset
+}
+
+# Runs an example over a fresh file: it must say that its signature is valid, and leave one of the set's length beside
+# the file. Over a file that is not there it must fail.
+example() {
+    rm -f "$work/letter" "$work/letter.sig"
+    printf 'a letter\nof two lines' >"$work/letter"
+    [ "$("$@" "$work/letter")" = valid ] && [ "$(wc -c <"$work/letter.sig")" = 17088 ] && ! "$@" "$work/no_such_file"
+}
+
+declared() {
+    printf '#include <slh.h>\n#include <slh.h>\nint main(%s) { return SLH_DONE; }\n' "$1"
+}
+
+if ! "$here/tools/library.sh" "$prefix" >"$work/said" 2>&1; then
+    tail -n 20 "$work/said"
+    echo "0 passed, 1 failed"
+    exit 1
+fi
+
+one "libslh.a defines the calls, and asks for three of C" has_symbols "$lib/libslh.a" < <(calls; of_c)
+one "libslh.so as well" has_symbols "$lib/libslh.so" -D < <(calls; of_c)
+one "libslh_verify.a defines two calls" has_symbols "$lib/libslh_verify.a" \
+    < <(printf 'T slh_%s\n' hash_verify verify; of_c)
+
+one "the header is C99" "$cc" -std=c99 "${strict[@]}" -I "$prefix/include" -fsyntax-only -x c <(declared void)
+one "the header is C++" "$cxx" -std=c++11 "${strict[@]}" -I "$prefix/include" -fsyntax-only -x c++ <(declared '')
+
+one "the test program compiles" "$cc" -std=c99 "${strict[@]}" "${sanitized[@]}" -I "$prefix/include" \
+    -o "$work/tests" "$here/tools/library_tests.c" "$lib/libslh.a" -pthread
+count "calls in and out of rule" "$work/tests"
+one "the program that measures the stack compiles" "$cc" -std=c99 "${strict[@]}" -I "$prefix/include" \
+    -o "$work/stack" "$here/tools/library_stack.c" "$lib/libslh.a" -pthread -Wl,-z,now
+one "the stack is below the limits" "$work/stack"
+
+count "vectors" "$here/tools/library_vectors.py" "$lib/libslh.so"
+one "libslh_verify.a makes a shared object" "$cc" -shared -o "$work/libslh_verify.so" \
+    -Wl,--whole-archive "$lib/libslh_verify.a" -Wl,--no-whole-archive
+count "vectors of verify" "$here/tools/library_vectors.py" --verify-only "$work/libslh_verify.so"
+
+one "the C example compiles" "$cc" -std=c99 "${strict[@]}" "${sanitized[@]}" "$here/examples/sign_file.c" \
+    -I "$prefix/include" "$lib/libslh.a" -o "$work/of_c"
+one "the C example" example "$work/of_c"
+read -ra flags < <(PKG_CONFIG_PATH=$lib/pkgconfig pkg-config --cflags --libs slh)
+one "the C example compiles over the shared object" "$cc" "$here/examples/sign_file.c" "${flags[@]}" -o "$work/shared"
+one "the C example over the shared object" example env LD_LIBRARY_PATH="$lib" "$work/shared"
+one "the C++ example compiles" "$cxx" -std=c++11 "${strict[@]}" "${sanitized[@]}" "$here/examples/sign_file.cpp" \
+    -I "$prefix/include" "$lib/libslh.a" -o "$work/of_cpp"
+one "the C++ example" example "$work/of_cpp"
+one "the Rust example compiles" "$rustc" -D warnings -O -L "native=$lib" -o "$work/of_rust" \
+    "$here/examples/sign_file.rs"
+one "the Rust example" example "$work/of_rust"
+one "the Python example" example python3 "$here/examples/sign_file.py" "$lib/libslh.so"
+one "each example has under 60 lines" awk 'FNR == 60 { long = 1 } END { exit long }' "$here"/examples/sign_file.*
+
+echo "$passed passed, $failed failed"
+[ "$failed" = 0 ]

@@ -1,0 +1,131 @@
+#!/usr/bin/env bash
+# Runs the program `slh` with little stack and little address space. Whatever the limit, a command gives the bytes that it
+# gives without one, or the refusal `1 NoMemory`; a limit under which the system does not start the program counts for nothing.
+#
+# usage: tools/limits.sh [PROGRAM]
+#
+# PROGRAM is crates/slh/out/slh without it. The last line has the counts, and the status is 0 where nothing failed.
+set -u
+here=$(cd "$(dirname "${BASH_SOURCE[0]}")/.." && pwd)
+program=$(realpath "${1:-$here/crates/slh/out/slh}")
+vectors=$here/vectors
+work=$(mktemp -d)
+trap 'rm -rf "$work"' EXIT
+cd "$work" || exit 1
+passed=0 failed=0
+echo "slh: 1 NoMemory" >no_memory
+
+tell() {
+    if [ "$2" = yes ]; then
+        passed=$((passed + 1))
+    else
+        failed=$((failed + 1))
+    fi
+    echo "$1: $2"
+}
+
+# Runs a command under one limit, `-s` or `-v` in KB, and says what came of it: right, refused, unstarted or the fault. The bytes
+# that are right are in the file `wanted`, its status in `status`.
+under() {
+    local option=$1 limit=$2 status
+    shift 2
+    (ulimit "$option" "$limit" && exec "$program" "$@") <"$work/seeds" >out 2>errors
+    status=$?
+    if [ $status = "$(cat status)" ] && cmp -s out wanted && cmp -s errors wanted_errors; then
+        echo right
+    elif [ $status = 2 ] && [ ! -s out ] && cmp -s errors no_memory; then
+        echo refused
+    elif [ $status = 127 ] || grep -q "error while loading" errors; then
+        echo unstarted
+    else
+        echo "status $status"
+    fi
+}
+
+# What the command gives with no limit is what it has to give with one.
+want() {
+    "$program" "$@" <seeds >wanted 2>wanted_errors
+    echo $? >status
+}
+
+# Goes over limits FROM, FROM + STEP, up to TO, and counts what came of them. Of refusals and of right answers there has to be
+# one at least, where SOME is yes.
+sweep() {
+    local name=$1 option=$2 from=$3 to=$4 step=$5 some=$6 limit came right=0 refused=0 bad=0
+    shift 6
+    for ((limit = from; limit <= to; limit += step)); do
+        came=$(under "$option" "$limit" "$@" 2>/dev/null)
+        case $came in
+        right) right=$((right + 1)) ;;
+        refused) refused=$((refused + 1)) ;;
+        unstarted) ;;
+        *)
+            bad=$((bad + 1))
+            echo "ulimit $option $limit: $came"
+            ;;
+        esac
+    done
+    if [ $bad = 0 ] && { [ "$some" = no ] || { [ $right -gt 0 ] && [ $refused -gt 0 ]; }; }; then
+        tell "$name under ulimit $option $from to $to: $right right, $refused refused" yes
+    else
+        tell "$name under ulimit $option $from to $to: $right right, $refused refused, $bad wrong" no
+    fi
+}
+
+set=SLH-DSA-SHA2-128f
+python3 -c 'print(bytes(range(48)).hex())' >seeds
+printf 'a message\n' >message
+"$program" keygen --set $set <seeds >key
+"$program" public --key key >public
+"$program" sign --key key --message message >signature
+# Objects of objects, as deep as they may nest.
+python3 -c 'print("[" + "{\"a\":" * 126 + "1" + "}" * 126 + "]")' >deep.json
+
+# Each command, with 64 workers where it takes workers, under the least limit of the stack, and under every limit below it.
+many="--workers 64 --xmss-levels 3 --fors-levels 3"
+while read -r words; do
+    # shellcheck disable=SC2086
+    want $words
+    # shellcheck disable=SC2086
+    tell "ulimit -s 192: $words" "$([ "$(under -s 192 $words 2>/dev/null)" = right ] && echo yes || echo no)"
+done <<END
+params
+root --set $set
+keygen --set $set --workers 64 --xmss-levels 3
+public --key key
+check --key key
+sign --key key --message message $many
+sign --key key --message message --prehash SHA2-512 --context 00ff --workers 64 --xmss-cuts 1,2,3,5 --fors-cuts 1,63
+verify --key public --message message --signature signature
+verify --key public --message message --signature signature --prehash SHA2-512
+vectors --file $vectors/smoke-128f.json --workers 64
+vectors --file deep.json
+sign --help
+END
+for set_of_key in 128s 192f 256f; do
+    name=SLH-DSA-SHA2-$set_of_key
+    python3 -c "print(bytes(range(3 * ${set_of_key%[sf]} // 8)).hex())" >seeds
+    "$program" keygen --set "$name" <seeds >"key$set_of_key"
+    # shellcheck disable=SC2086
+    want sign --key "key$set_of_key" --message message --workers 64
+    tell "ulimit -s 192: sign $name by 64 workers" \
+        "$([ "$(under -s 192 sign --key "key$set_of_key" --message message --workers 64 2>/dev/null)" = right ] && echo yes || echo no)"
+done
+
+# shellcheck disable=SC2086
+want sign --key key --message message $many
+# shellcheck disable=SC2086
+sweep "sign" -s 24 240 4 yes sign --key key --message message $many
+# shellcheck disable=SC2086
+sweep "sign" -v 2400 9000 41 yes sign --key key --message message $many
+# shellcheck disable=SC2086
+sweep "sign" -v 9000 120000 1511 yes sign --key key --message message $many
+# shellcheck disable=SC2086
+sweep "sign" -v 44600 44640 2 no sign --key key --message message $many
+want vectors --file deep.json
+sweep "a deep vector file" -s 24 240 12 yes vectors --file deep.json
+sweep "a deep vector file" -v 2400 3600 6 yes vectors --file deep.json
+want vectors --file "$vectors/smoke-128f.json" --workers 64
+sweep "vectors" -v 2400 9000 301 yes vectors --file "$vectors/smoke-128f.json" --workers 64
+echo "$passed passed, $failed failed"
+[ "$failed" = 0 ]

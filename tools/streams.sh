@@ -1,0 +1,248 @@
+#!/usr/bin/env bash
+# Runs the built program over real files, pipes and broken streams.
+#
+# usage: tools/streams.sh [PROGRAM]
+#
+# PROGRAM is the program (default: crates/slh/out/slh, which `rt ci` leaves built). Each run is judged by its status, by
+# all that it writes to standard output, and by all that it writes to standard error. Keys are of SLH-DSA-SHA2-128f and
+# the seeds 00, 01, 02, ..; the public key and the digest of the signature of "abc" are those of another implementation.
+# The last line has the counts, and the status is 0 where nothing failed.
+set -u
+here=$(cd "$(dirname "${BASH_SOURCE[0]}")/.." && pwd)
+program=${1:-$here/crates/slh/out/slh}
+program=$(cd "$(dirname "$program")" && pwd)/$(basename "$program")
+work=$(mktemp -d)
+trap 'rm -rf "$work"' EXIT
+cd "$work" || exit 1
+passed=0 failed=0
+
+# Tells whether a run was as wanted: NAME, then a command that tells it by its status.
+check() {
+    local name=$1
+    shift
+    if "$@"; then
+        passed=$((passed + 1))
+        echo "$name: yes"
+    else
+        failed=$((failed + 1))
+        echo "$name: no: status $(cat status 2>/dev/null), errors $(head -c 100 errors 2>/dev/null)"
+    fi
+}
+
+# Runs the program with these words, and leaves its output, its errors and its status in files.
+run() {
+    timeout 60 "$program" "$@" >output 2>errors
+    echo $? >status
+}
+
+# The last run ended with this status, and wrote just the text to standard error and the file to standard output.
+ended() { [ "$(cat status)" = "$1" ] && printf %s "$2" | cmp -s - errors && cmp -s output "$3"; }
+
+# The last run was refused: status 2, nothing on standard output, and the line alone on standard error.
+refused() { ended 2 "slh: $1"$'\n' /dev/null; }
+
+# The last run wrote just the file, with status 0.
+wrote() { ended 0 "" "$1"; }
+
+# ---- what the runs are judged by
+seeds=000102030405060708090a0b0c0d0e0f101112131415161718191a1b1c1d1e1f202122232425262728292a2b2c2d2e2f
+root=3b56e816847f000386aeec2e2bb9e1b5
+printf '%s' "$seeds" >seeds
+printf 'slh-dsa-secret 1\nSLH-DSA-SHA2-128f\n%s%s\n' "$seeds" "$root" >secret
+printf 'slh-dsa-public 1\nSLH-DSA-SHA2-128f\n%s%s\n' "${seeds:64}" "$root" >public
+printf abc >abc
+printf 'valid\n' >valid
+printf 'invalid\n' >invalid
+printf 'consistent\n' >consistent
+printf 'passed 0 failed 0\n' >no_tests
+printf '[]' >tests
+head -c 20000 /dev/zero >zeros
+test_of_none='{"kind":"verify","set":"SLH-DSA-SHA2-128f","pk":"'$(printf '0%.0s' {1..64})'","form":"pure","message":"","context":"","signature":"","valid":false}'
+set=SLH-DSA-SHA2-128f
+sign="sign --key secret --message abc"
+
+# ---- the words, and what is written where
+run keygen --set $set <seeds
+check "keygen writes the secret key" wrote secret
+run public --key secret
+check "public writes the public key" wrote public
+run $sign
+cp output sig
+check "sign writes a signature" wrote sig
+check "and it is that of another implementation" \
+    [ "$(sha256sum <sig)" = "7c4622720e758897ec5f2089049bb5e5d98fc2e88bfdacf4fad3a1e20f80d5f8  -" ]
+run verify --key public --message abc --signature sig
+check "verify finds it valid" wrote valid
+run verify --key public --message zeros --signature sig
+check "verify finds it invalid for another message" ended 1 "" invalid
+run vectors --file tests
+check "vectors reports on no tests" wrote no_tests
+run params
+cp output table
+check "params writes six lines" [ "$(wc -l <table)" = 6 ]
+run
+check "no words write the same" wrote table
+run slh params
+check "the program's name is no word" refused "31 BadWords"
+(exec -a params "$program" >output 2>errors)
+echo $? >status
+check "what the program is called is no word" wrote table
+run --nothing
+check "other words are refused" refused "31 BadWords"
+run params $'\xff'
+check "a word that is no UTF-8 is refused" refused "31 BadWords"
+run root --set $set <abc
+check "bad seeds are refused" refused "34 BadSeeds"
+run params --set none
+check "an unknown set is refused" refused "12 UnknownSet"
+run --help
+check "help is written, and no error" [ -s output -a ! -s errors -a "$(cat status)" = 0 ]
+
+# ---- files that are none
+run sign --key none --message abc
+check "a key that is missing" refused "32 ReadFailed"
+run sign --key secret --message none
+check "a message that is missing" refused "32 ReadFailed"
+run verify --key public --message abc --signature none
+check "a signature that is missing" refused "32 ReadFailed"
+run vectors --file none
+check "a vector file that is missing" refused "32 ReadFailed"
+run sign --key secret --message .
+check "a folder as the message" refused "32 ReadFailed"
+run verify --key . --message abc --signature sig
+check "a folder as the key" refused "32 ReadFailed"
+run vectors --file .
+check "a folder as the vector file" refused "32 ReadFailed"
+run keygen --set $set <.
+check "a folder as standard input" refused "32 ReadFailed"
+run keygen --set $set <&-
+check "standard input closed" refused "32 ReadFailed"
+run sign --key "$(head -c 5000 /dev/zero | tr '\0' a)" --message abc
+check "a path that is too long" refused "32 ReadFailed"
+
+# ---- pipes
+slowly() {
+    local at=0 size
+    size=$(wc -c <"$1")
+    while [ $at -lt "$size" ]; do
+        tail -c +$((at + 1)) "$1" | head -c "$2"
+        at=$((at + $2))
+        sleep 0.02
+    done
+}
+run verify --key <(slowly public 33) --message <(cat abc) --signature <(slowly sig 5000)
+check "pipes for all files of verify" wrote valid
+run verify --key <(cat public) --message <(cat zeros) --signature <(cat sig) --prehash SHA2-256
+check "pipes for all files of verify --prehash" ended 1 "" invalid
+run sign --key <(slowly secret 50) --message <(slowly abc 1)
+check "pipes for all files of sign" wrote sig
+run check --key <(cat secret)
+check "a pipe for the key of check" wrote consistent
+run vectors --file <(cat tests)
+check "a pipe for a vector file" wrote no_tests
+run sign --key secret --message zeros
+cp output sig_of_zeros
+run sign --key secret --message <(slowly zeros 3000)
+check "a pipe of several pieces" wrote sig_of_zeros
+run sign --key secret --message /dev/stdin <zeros
+check "standard input as a message, from a file" wrote sig_of_zeros
+cat zeros | run sign --key secret --message /dev/stdin
+check "standard input as a message, from a pipe" wrote sig_of_zeros
+run verify --key public --message zeros --signature /dev/stdin <sig_of_zeros
+check "standard input as a signature" wrote valid
+run verify --key public --message zeros --signature zeros
+check "one file as message and signature" ended 1 "" invalid
+slowly seeds 7 | run keygen --set $set
+check "seeds from a slow pipe" wrote secret
+cat sig zeros >long_sig
+truncate -s 1G long_sig
+(
+    ulimit -v 20000
+    run verify --key public --message abc --signature long_sig
+)
+check "a signature of 1 GiB, in 20 MB of memory" ended 1 "" invalid
+truncate -s +1 long_sig
+run verify --key public --message abc --signature long_sig
+check "a signature of 1 GiB and a byte" refused "36 FileTooLong"
+
+# ---- standard output and standard error
+for words in params "$sign" "--help"; do
+    timeout 60 "$program" $words >&- 2>errors
+    echo $? >status
+    : >output
+    check "$words with standard output closed" refused "33 WriteFailed"
+    timeout 60 "$program" $words >/dev/full 2>errors
+    echo $? >status
+    check "$words with standard output full" refused "33 WriteFailed"
+done
+timeout 60 "$program" --nothing >output 2>&-
+echo $? >status
+: >errors
+check "standard error closed" ended 2 "" /dev/null
+timeout 60 "$program" --nothing >output 2>/dev/full
+echo $? >status
+check "standard error full" ended 2 "" /dev/null
+timeout 60 "$program" params >output 2>&-
+echo $? >status
+check "standard error closed, and no error" wrote table
+timeout 60 "$program" params >&- 2>&-
+echo $? >status
+: >output
+check "both closed" ended 2 "" /dev/null
+
+# ---- much at once
+head -c 100000000 /dev/zero >much
+run sign --key secret --message much
+cp output sig_of_much
+check "sign a message of 100 MB" [ "$(cat status)" = 0 -a "$(wc -c <output)" = 17088 ]
+run verify --key public --message much --signature sig_of_much
+check "verify it" wrote valid
+run sign --key secret --message much --prehash SHA2-256
+cp output sig_of_much
+run verify --key public --message <(cat much) --signature sig_of_much --prehash SHA2-256
+check "the same in the pre-hash form" wrote valid
+{
+    printf '['
+    for ((k = 1; k < 1200; k++)); do printf '%s,' "$test_of_none"; done
+    printf '%s]' "$test_of_none"
+} >many
+{
+    for ((k = 1; k <= 1200; k++)); do echo "test $k verify $set pass"; done
+    echo "passed 1200 failed 0"
+} >report
+run vectors --file many
+check "a vector file of 1,200 tests" wrote report
+run vectors --file many --workers 3
+check "the same by three workers" wrote report
+context=$(printf 'a5%.0s' {1..255})
+run $sign --context "$context"
+cp output sig_of_context
+run verify --key public --message abc --signature sig_of_context --context "$context"
+check "a context of 255 bytes" wrote valid
+run verify --key public --message abc --signature sig_of_context --context "${context:2}"
+check "and no other context" ended 1 "" invalid
+run $sign --context "${context}a5"
+check "a context of 256 bytes" refused "2 ContextTooLong"
+
+# ---- threads: as many as workers, the first one among them
+printf 'slh-dsa-secret 1\nSLH-DSA-SHA2-128s\n%s990ce6298792b128846a8e4a3a68954c\n' "$seeds" >secret_128s
+has_threads() {
+    local most=0 now pid
+    "$program" sign --key secret_128s --message abc --xmss-levels 4 --fors-levels 4 $2 >/dev/null 2>&1 &
+    pid=$!
+    for ((k = 0; k < 60; k++)); do
+        now=$(find "/proc/$pid/task" -mindepth 1 -maxdepth 1 2>/dev/null | wc -l)
+        [ "$now" -le $most ] || most=$now
+        sleep 0.01
+    done
+    kill "$pid" 2>/dev/null
+    wait "$pid" 2>/dev/null
+    [ $most = "$1" ]
+}
+check "one thread without --workers" has_threads 1 ""
+check "one thread for one worker" has_threads 1 "--workers 1"
+check "three threads for three workers" has_threads 3 "--workers 3"
+check "nine threads for nine workers" has_threads 9 "--workers 9"
+
+echo "$passed passed, $failed failed"
+[ "$failed" = 0 ]
