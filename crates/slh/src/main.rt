@@ -1,11 +1,10 @@
 //! The program `slh`: keys and signatures of SLH-DSA (FIPS 205) with SHA-2.
 #![tactic(auto)]
 
-use libc::types::rlimit;
-use libc::{RLIMIT_STACK, getrlimit};
 use slh_devices::{Disk, Reader, Writer};
 use slh_tool::{Fault, command, refuse};
-use std::io::{Stderr, Stdin, Stdout};
+use std::fs::File;
+use std::io::{Read, Stderr, Stdin, Stdout};
 use std::process::ExitCode;
 use std::rt::{Env, Files};
 use std::thread::Threads;
@@ -17,22 +16,24 @@ const LEAST_STACK: u64 = 192 * 1024;
 
 fn main(rt: HostRuntime) -> ExitCode {
     let mut errors = Writer::new(rt.stderr());
-    if stack_limit().is_some_and(|limit| limit < LEAST_STACK) {
+    if stack_limit(&rt).is_some_and(|limit| limit < LEAST_STACK) {
         return ExitCode::from(refuse(&mut errors, Fault::NoMemory));
     }
     ExitCode::from(run(&rt, rt.stdin(), rt.stdout(), &mut errors))
 }
 
-/// The limit of the stack in bytes, where the system tells it.
-fn stack_limit() -> Option<u64> {
-    let mut limit = rlimit {
-        rlim_cur: 0,
-        rlim_max: 0,
-    };
-    if getrlimit(RLIMIT_STACK, &mut limit) < 0 {
-        return None;
-    }
-    Some(limit.rlim_cur)
+/// The limit of the stack in bytes, where the system tells it: in the list of limits that Linux keeps for each process.
+fn stack_limit<R: Files>(rt: &R) -> Option<u64> {
+    let mut list = [0; 512];
+    let n = File::open(rt, "/proc/self/limits")
+        .ok()?
+        .read(&mut list)
+        .ok()?;
+    let line = str::from_utf8(list.get(..n)?)
+        .ok()?
+        .lines()
+        .find_map(|line| line.strip_prefix("Max stack size"))?;
+    line.split_whitespace().next()?.parse().ok()
 }
 
 /// The command that the words of the program ask for, over the files of the system. It is kept out of `main`, which has
