@@ -29,14 +29,15 @@ low : to_byte 4294967301 2 ≡ 0 ∷ 5 ∷ []
 low = refl
 
 sizes_128f : sig_len (params S128f) ≡ 17088
-unfolding sig_len len
+unfolding sig_len len params
 sizes_128f = refl
 
 sizes_256s : sig_len (params S256s) ≡ 29792
-unfolding sig_len len
+unfolding sig_len len params
 sizes_256s = refl
 
 m_192f : m (params S192f) ≡ 42
+unfolding params
 m_192f = refl
 
 -- other records

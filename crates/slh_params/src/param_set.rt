@@ -1,7 +1,8 @@
 //! The six parameter sets (FIPS 205, section 11).
-ghost use Rattle.std.specs.Prelude.{◌≡◌, IsNone, IfSome};
+ghost use Rattle.std.specs.Prelude.{◌≡◌, ◌≤◌, ◌<◌, IsNone, IfSome, length};
+ghost use Rattle.std.specs.Int.Digits.{digits_of};
 ghost use Rattle.slh_params.specs.ParamSet.{params, name, sets, set_named};
-ghost use Rattle.slh_params.specs.Params.{h, m, md_len, tree_len, leaf_len, len, pk_len, sk_len, sig_len};
+ghost use Rattle.slh_params.specs.Params.{h, m, w, md_len, tree_len, leaf_len, len, len1, len2, pk_len, sk_len, sig_len};
 
 /// A parameter set of SLH-DSA with SHA-2 (FIPS 205, section 11, Table 2).
 ///
@@ -40,6 +41,7 @@ impl ParamSet {
     {}
 
     /// n: the length of a hash value in bytes.
+    #[tactic(auto, unfolding(crate::specs::ParamSet::params))]
     pub fn n(&self) -> usize
         ensures { result ≡ (params self.now).n }
     {
@@ -50,7 +52,16 @@ impl ParamSet {
         }
     }
 
+    /// lg_w: the bits of a digit of a WOTS+ key; its chains have 2^lg_w values.
+    #[tactic(auto, unfolding(crate::specs::ParamSet::params))]
+    pub fn lg_w(&self) -> u32
+        ensures { result ≡ (params self.now).lg_w }
+    {
+        4
+    }
+
     /// h': the height of an XMSS tree.
+    #[tactic(auto, unfolding(crate::specs::ParamSet::params))]
     pub fn hp(&self) -> u32
         ensures { result ≡ (params self.now).hp }
     {
@@ -63,6 +74,7 @@ impl ParamSet {
     }
 
     /// d: the layers of the hypertree.
+    #[tactic(auto, unfolding(crate::specs::ParamSet::params))]
     pub fn d(&self) -> u32
         ensures { result ≡ (params self.now).d }
     {
@@ -75,6 +87,7 @@ impl ParamSet {
     }
 
     /// a: the height of a FORS tree.
+    #[tactic(auto, unfolding(crate::specs::ParamSet::params))]
     pub fn a(&self) -> u32
         ensures { result ≡ (params self.now).a }
     {
@@ -89,6 +102,7 @@ impl ParamSet {
     }
 
     /// k: the number of FORS trees.
+    #[tactic(auto, unfolding(crate::specs::ParamSet::params))]
     pub fn k(&self) -> u32
         ensures { result ≡ (params self.now).k }
     {
@@ -137,11 +151,33 @@ impl ParamSet {
         self.md_len() + self.tree_len() + self.leaf_len()
     }
 
-    /// len: the chains of a WOTS+ key, 2n for the message and 3 for the checksum.
+    /// w: the values of a chain of a WOTS+ key.
+    pub fn w(&self) -> u32
+        ensures { result ≡ w (params self.now) }
+    {
+        1 << self.lg_w()
+    }
+
+    /// len_1: the digits of a message that a WOTS+ key signs.
+    pub fn len1(&self) -> usize
+        ensures { result ≡ len1 (params self.now) }
+    {
+        (8 * self.n()).div_ceil(self.lg_w() as usize)
+    }
+
+    /// len_2: the digits of the checksum (FIPS 205, section 5, Algorithm 1).
+    pub fn len2(&self) -> usize
+        ensures { result ≡ len2 (params self.now) }
+    {
+        digit_count(self.len1() as u32 * (self.w() - 1), self.w())
+    }
+
+    /// len: the chains of a WOTS+ key, one for each digit of the message and of the checksum.
+    #[tactic(auto, unfolding(crate::specs::Params::len))]
     pub fn len(&self) -> usize
         ensures { result ≡ len (params self.now) }
     {
-        2 * self.n() + 3
+        self.len1() + self.len2()
     }
 
     /// The length of a public key in bytes.
@@ -198,4 +234,21 @@ impl ParamSet {
             _ => None,
         }
     }
+}
+
+/// The digits that a number has in a base.
+fn digit_count(number: u32, base: u32) -> usize
+    requires base { 2 ≤ base }
+    requires small { base ≤ 256 }
+    requires some { 1 ≤ number }
+    requires few { number < 16777216 }
+    ensures { result ≡ length (digits_of base number) }
+{
+    let mut count = 1;
+    let mut capacity = base;
+    while capacity <= number {
+        count += 1;
+        capacity *= base;
+    }
+    count
 }

@@ -1,0 +1,159 @@
+-- What holds of the numbers of every valid record: the bounds that lengths, counts and indices keep.
+use Rattle.std.proofs.Common.{◌≡◌, ℕ, zero, suc, ◌+◌, ◌-◌, ◌*◌, ◌/◌, ◌^◌, ◌<◌, ◌≤◌, ◌⊎◌, inl, inr, length, refl, lit<, lit≤, arith, ap, sym}
+use Rattle.std.proofs.Math.Nat.{mul-le-mul, mul-le-mul_right, add_assoc}
+use native.Mathlib.Numerals.{unary_clauses}
+use Rattle.slh_params.specs.declared.param_set.ParamSet.{ParamSet}
+use Rattle.slh_params.specs.declared.param_set.ParamSet.TheVariants.{S128s, S128f, S192s, S192f, S256s, S256f}
+use Rattle.slh_params.specs.ParamSet.{params}
+use Rattle.slh_params.specs.Params.{Params, h, m, w, md_len, tree_len, leaf_len, len, len1, len2, sig_len, pk_len, sk_len}
+use Rattle.slh_params.specs.Valid.{IsValid}
+
+-- the record of each set is valid
+pub valid : (s : ParamSet) → IsValid (params s)
+unfolding params
+valid S128s = record { n = inl refl; lg_w = inr (inl refl); hp_low = lit≤ tt; hp_high = lit≤ tt; d_low = lit≤ tt; d_high = lit≤ tt; a_low = lit≤ tt; a_high = lit≤ tt; k_low = lit≤ tt; k_high = lit≤ tt }
+valid S128f = record { n = inl refl; lg_w = inr (inl refl); hp_low = lit≤ tt; hp_high = lit≤ tt; d_low = lit≤ tt; d_high = lit≤ tt; a_low = lit≤ tt; a_high = lit≤ tt; k_low = lit≤ tt; k_high = lit≤ tt }
+valid S192s = record { n = inr (inl refl); lg_w = inr (inl refl); hp_low = lit≤ tt; hp_high = lit≤ tt; d_low = lit≤ tt; d_high = lit≤ tt; a_low = lit≤ tt; a_high = lit≤ tt; k_low = lit≤ tt; k_high = lit≤ tt }
+valid S192f = record { n = inr (inl refl); lg_w = inr (inl refl); hp_low = lit≤ tt; hp_high = lit≤ tt; d_low = lit≤ tt; d_high = lit≤ tt; a_low = lit≤ tt; a_high = lit≤ tt; k_low = lit≤ tt; k_high = lit≤ tt }
+valid S256s = record { n = inr (inr refl); lg_w = inr (inl refl); hp_low = lit≤ tt; hp_high = lit≤ tt; d_low = lit≤ tt; d_high = lit≤ tt; a_low = lit≤ tt; a_high = lit≤ tt; k_low = lit≤ tt; k_high = lit≤ tt }
+valid S256f = record { n = inr (inr refl); lg_w = inr (inl refl); hp_low = lit≤ tt; hp_high = lit≤ tt; d_low = lit≤ tt; d_high = lit≤ tt; a_low = lit≤ tt; a_high = lit≤ tt; k_low = lit≤ tt; k_high = lit≤ tt }
+
+pub n_low : (s : ParamSet) → 16 ≤ (params s).n
+n_low s = elim (valid s).n [ inl e ↦ omega (arith, e) | inr (inl e) ↦ omega (arith, e) | inr (inr e) ↦ omega (arith, e) ]
+
+pub n_high : (s : ParamSet) → (params s).n ≤ 32
+n_high s = elim (valid s).n [ inl e ↦ omega (arith, e) | inr (inl e) ↦ omega (arith, e) | inr (inr e) ↦ omega (arith, e) ]
+
+pub hp_low : (s : ParamSet) → 1 ≤ (params s).hp
+hp_low s = (valid s).hp_low
+
+pub hp_high : (s : ParamSet) → (params s).hp ≤ 12
+hp_high s = (valid s).hp_high
+
+pub d_low : (s : ParamSet) → 1 ≤ (params s).d
+d_low s = (valid s).d_low
+
+-- fewer layers than 66, since each is at least one level high
+pub d_high : (s : ParamSet) → (params s).d ≤ 65
+d_high s =
+    let up : 1 * ((params s).d - 1) ≤ (params s).hp * ((params s).d - 1) = mul-le-mul_right ((params s).d - 1) (valid s).hp_low in
+    omega (arith, up, (valid s).d_high)
+
+pub a_low : (s : ParamSet) → 1 ≤ (params s).a
+a_low s = (valid s).a_low
+
+pub a_high : (s : ParamSet) → (params s).a ≤ 14
+a_high s = (valid s).a_high
+
+pub k_low : (s : ParamSet) → 1 ≤ (params s).k
+k_low s = (valid s).k_low
+
+pub k_high : (s : ParamSet) → (params s).k ≤ 64
+k_high s = (valid s).k_high
+
+-- a product by d is one by d - 1 and one more
+below_top : (x d : ℕ) → 1 ≤ d → x * d ≡ x * (d - 1) + x
+below_top x zero some = absurd (omega (arith, some))
+below_top x (suc d) some = simp unary_clauses refl
+
+-- the levels below the top tree
+pub h_below_top : (s : ParamSet) → h (params s) - (params s).hp ≡ (params s).hp * ((params s).d - 1)
+h_below_top s = omega (arith, below_top (params s).hp (params s).d (d_low s))
+
+pub h_below_top_high : (s : ParamSet) → h (params s) - (params s).hp ≤ 64
+h_below_top_high s = omega (arith, h_below_top s, (valid s).d_high)
+
+pub h_high : (s : ParamSet) → h (params s) ≤ 76
+h_high s = omega (arith, below_top (params s).hp (params s).d (d_low s), (valid s).d_high, hp_high s)
+
+pub hp_at_most_h : (s : ParamSet) → (params s).hp ≤ h (params s)
+hp_at_most_h s = omega (arith, below_top (params s).hp (params s).d (d_low s))
+
+pub fors_bits_high : (s : ParamSet) → (params s).k * (params s).a ≤ 896
+fors_bits_high s = mul-le-mul (k_high s) (a_high s)
+
+pub md_len_high : (s : ParamSet) → md_len (params s) ≤ 112
+md_len_high s = omega (arith, fors_bits_high s)
+
+pub tree_len_high : (s : ParamSet) → tree_len (params s) ≤ 8
+tree_len_high s = omega (arith, h_below_top_high s)
+
+pub leaf_len_high : (s : ParamSet) → leaf_len (params s) ≤ 2
+leaf_len_high s = omega (arith, hp_high s)
+
+pub m_high : (s : ParamSet) → m (params s) ≤ 122
+m_high s = omega (arith, md_len_high s, tree_len_high s, leaf_len_high s)
+
+pub lg_w_low : (s : ParamSet) → 2 ≤ (params s).lg_w
+lg_w_low s = elim (valid s).lg_w [ inl e ↦ omega (arith, e) | inr (inl e) ↦ omega (arith, e) | inr (inr e) ↦ omega (arith, e) ]
+
+pub lg_w_high : (s : ParamSet) → (params s).lg_w ≤ 8
+lg_w_high s = elim (valid s).lg_w [ inl e ↦ omega (arith, e) | inr (inl e) ↦ omega (arith, e) | inr (inr e) ↦ omega (arith, e) ]
+
+pub w_low : (s : ParamSet) → 4 ≤ w (params s)
+w_low s = elim (valid s).lg_w [ inl e ↦ rw e (lit≤ tt) | inr (inl e) ↦ rw e (lit≤ tt) | inr (inr e) ↦ rw e (lit≤ tt) ]
+
+pub w_high : (s : ParamSet) → w (params s) ≤ 256
+w_high s = elim (valid s).lg_w [ inl e ↦ rw e (lit≤ tt) | inr (inl e) ↦ rw e (lit≤ tt) | inr (inr e) ↦ rw e (lit≤ tt) ]
+
+-- the digits fill the message's bits exactly
+pub len1_exact : (s : ParamSet) → len1 (params s) * (params s).lg_w ≡ 8 * (params s).n
+len1_exact s = elim (valid s).lg_w [ inl e ↦ rw e (omega arith) | inr (inl e) ↦ rw e (omega arith) | inr (inr e) ↦ rw e (omega arith) ]
+
+pub len1_high : (s : ParamSet) → len1 (params s) ≤ 128
+len1_high s = elim (valid s).lg_w [ inl e ↦ rw e (omega (arith, n_high s)) | inr (inl e) ↦ rw e (omega (arith, n_high s)) | inr (inr e) ↦ rw e (omega (arith, n_high s)) ]
+
+pub len1_low : (s : ParamSet) → 16 ≤ len1 (params s)
+len1_low s = elim (valid s).lg_w [ inl e ↦ rw e (omega (arith, n_low s)) | inr (inl e) ↦ rw e (omega (arith, n_low s)) | inr (inr e) ↦ rw e (omega (arith, n_low s)) ]
+
+-- the chains follow from n and lg_w alone
+len_of : ℕ → ℕ → ℕ
+len_of n lg_w = len (record { n = n; lg_w = lg_w; hp = 1; d = 1; a = 1; k = 1 })
+
+len_is : (p : Params) → len p ≡ len_of p.n p.lg_w
+unfolding len len_of
+len_is p = refl
+
+-- each length of a key that the bounds allow
+len_of_high : (n lg_w : ℕ) → (n ≡ 16) ⊎ (n ≡ 24) ⊎ (n ≡ 32) → (lg_w ≡ 2) ⊎ (lg_w ≡ 4) ⊎ (lg_w ≡ 8) → len_of n lg_w ≤ 133
+unfolding len len_of
+len_of_high n lg_w (inl e) (inl f) = rw (e, f) (lit≤ tt)
+len_of_high n lg_w (inl e) (inr (inl f)) = rw (e, f) (lit≤ tt)
+len_of_high n lg_w (inl e) (inr (inr f)) = rw (e, f) (lit≤ tt)
+len_of_high n lg_w (inr (inl e)) (inl f) = rw (e, f) (lit≤ tt)
+len_of_high n lg_w (inr (inl e)) (inr (inl f)) = rw (e, f) (lit≤ tt)
+len_of_high n lg_w (inr (inl e)) (inr (inr f)) = rw (e, f) (lit≤ tt)
+len_of_high n lg_w (inr (inr e)) (inl f) = rw (e, f) (lit≤ tt)
+len_of_high n lg_w (inr (inr e)) (inr (inl f)) = rw (e, f) (lit≤ tt)
+len_of_high n lg_w (inr (inr e)) (inr (inr f)) = rw (e, f) (lit≤ tt)
+
+pub len_high : (s : ParamSet) → len (params s) ≤ 133
+len_high s = rw (len_is (params s)) (len_of_high (params s).n (params s).lg_w (valid s).n (valid s).lg_w)
+
+pub len_sum_high : (s : ParamSet) → len1 (params s) + len2 (params s) ≤ 133
+unfolding len
+len_sum_high s = len_high s
+
+pub d_len_high : (s : ParamSet) → (params s).d * len (params s) ≤ 8645
+d_len_high s = mul-le-mul (d_high s) (len_high s)
+
+pub fors_parts_high : (s : ParamSet) → (params s).k * (1 + (params s).a) ≤ 960
+fors_parts_high s = mul-le-mul {m₂ = 15} (k_high s) (omega (arith, a_high s))
+
+-- the nodes of a signature
+pub nodes_high : (s : ParamSet) → 1 + (params s).k * (1 + (params s).a) + h (params s) + (params s).d * len (params s) ≤ 9682
+nodes_high s = omega (arith, fors_parts_high s, h_high s, d_len_high s)
+
+pub sig_len_high : (s : ParamSet) → sig_len (params s) < 320000
+unfolding sig_len
+sig_len_high s =
+    let up : (1 + (params s).k * (1 + (params s).a) + h (params s) + (params s).d * len (params s)) * (params s).n ≤ 9682 * 32 = mul-le-mul (nodes_high s) (n_high s) in
+    omega (arith, up)
+
+-- the length as the code adds it up
+pub sig_len_is : (s : ParamSet) → (1 + (params s).k * (1 + (params s).a) + (h (params s) + (params s).d * len (params s))) * (params s).n ≡ sig_len (params s)
+unfolding sig_len
+sig_len_is s = ap (λ x. x * (params s).n) (sym (add_assoc (1 + (params s).k * (1 + (params s).a)) (h (params s)) ((params s).d * len (params s))))
+
+-- the bounds of all
+pub ruleset bounds = (n_low, n_high, hp_low, hp_high, d_low, d_high, a_low, a_high, k_low, k_high, h_high, hp_at_most_h, md_len_high, tree_len_high, leaf_len_high, m_high, lg_w_low, lg_w_high, w_low, w_high, len1_low, len1_high, len_high, sig_len_high)
