@@ -28,23 +28,28 @@ length-tweaked block p pk a x e h =
 
 -- F of 128f hashes 102 bytes
 f_128f : (pk : List ℕ) (a : Address) (x : List ℕ) → length pk ≡ 16 → length x ≡ 16 → length (tweaked 64 (params S128f) pk a x) ≡ 102
+unfolding params
 f_128f pk a x e n = omega (arith, length-tweaked 64 (params S128f) pk a x e (lit≤ tt), n)
 
 -- PRF of 192f hashes 110
 prf_192f : (pk : List ℕ) (a : Address) (sk : List ℕ) → length pk ≡ 24 → length sk ≡ 24 → length (tweaked 64 (params S192f) pk a sk) ≡ 110
+unfolding params
 prf_192f pk a sk e n = omega (arith, length-tweaked 64 (params S192f) pk a sk e (lit≤ tt), n)
 
 -- H of 192s hashes 198, by SHA-512
 h_192s : (pk : List ℕ) (a : Address) (x : List ℕ) → length pk ≡ 24 → length x ≡ 2 * 24
     → length (tweaked (category_function (params S192s)).block (params S192s) pk a x) ≡ 198
+unfolding params
 h_192s pk a x e n = omega (arith, length-tweaked 128 (params S192s) pk a x e (lit≤ tt), n)
 
 -- T over the k nodes of 128s hashes 310, by SHA-256
 t_128s : (pk : List ℕ) (a : Address) (x : List ℕ) → length pk ≡ 16 → length x ≡ 14 * 16
     → length (tweaked (category_function (params S128s)).block (params S128s) pk a x) ≡ 310
+unfolding params
 t_128s pk a x e n = omega (arith, length-tweaked 64 (params S128s) pk a x e (lit≤ tt), n)
 
 -- T over the len nodes of 256f hashes 2294, by SHA-512
 t_256f : (pk : List ℕ) (a : Address) (x : List ℕ) → length pk ≡ 32 → length x ≡ 67 * 32
     → length (tweaked (category_function (params S256f)).block (params S256f) pk a x) ≡ 2294
+unfolding params
 t_256f pk a x e n = omega (arith, length-tweaked 128 (params S256f) pk a x e (lit≤ tt), n)

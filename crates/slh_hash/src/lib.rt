@@ -1,5 +1,5 @@
 //! The hash functions of SLH-DSA with SHA-2 (FIPS 205, section 11.2). Nothing here takes memory or refuses.
-#![tactic(auto)]
+#![tactic(auto, using(slh_params::proofs::Bounds::n_high))]
 
 pub use hmac::{hmac_sha256, hmac_sha512};
 pub use message::{h_msg, prf_msg};

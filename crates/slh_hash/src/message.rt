@@ -12,7 +12,7 @@ use sha2::{Sha256, Sha512};
 use slh_params::{Node, ParamSet};
 
 /// PRF_msg (FIPS 205, section 11.2): the randomizer of a message, whose bytes are the parts put end to end.
-#[tactic(auto, unfolding(crate::specs::Keyed::PRF_msg))]
+#[tactic(auto, using(slh_params::proofs::Bounds::n_high), unfolding(crate::specs::Keyed::PRF_msg))]
 pub fn prf_msg(set: ParamSet, sk_prf: &[u8], opt_rand: &[u8], parts: &[&[u8]]) -> Node
     ensures value { result.items ≡ PRF_msg (params set) sk_prf.now opt_rand.now (joined parts.now) }
     ensures len { length result.items ≡ (params set).n }
@@ -26,7 +26,7 @@ pub fn prf_msg(set: ParamSet, sk_prf: &[u8], opt_rand: &[u8], parts: &[&[u8]]) -
 }
 
 /// H_msg (section 11.2): the digest of a message, whose bytes are the parts put end to end. `out` has m bytes.
-#[tactic(auto, unfolding(crate::specs::Keyed::H_msg))]
+#[tactic(auto, using(slh_params::proofs::Bounds::m_high), unfolding(crate::specs::Keyed::H_msg))]
 pub fn h_msg(
     set: ParamSet,
     r: &[u8],

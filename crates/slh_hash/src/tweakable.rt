@@ -25,7 +25,8 @@ pub(crate) fn zeros(count: usize) -> &'static [u8]
 pub(crate) fn truncated(digest: &[u8], n: usize) -> Node
     requires digest { n ≤ length digest.now }
     requires node { n ≤ 32 }
-    ensures { result.items ≡ take n digest.now }
+    ensures front { result.items ≡ take n digest.now }
+    ensures len { length result.items ≡ n }
 {
     let mut node = Node::new();
     let _ = node.try_extend_from_slice(&digest[..n]);
