@@ -5,7 +5,7 @@ use Rattle.slh_params.specs.Params.{Params}
 use Rattle.slh_params.specs.ParamSet.{params}
 use Rattle.slh_params.specs.Address.{address}
 use Rattle.slh_params.specs.declared.param_set.ParamSet.{ParamSet}
-use Rattle.slh_params.proofs.Table.{n_small}
+use Rattle.slh_params.proofs.Bounds.{n_high}
 use Rattle.slh_params.proofs.Groups.{base_2b-digit}
 use Rattle.slh_hash.specs.Hash.{T}
 use Rattle.slh_hash.proofs.Lengths.{length-PRF}
@@ -22,7 +22,7 @@ use Rattle.slh_few.proofs.XmssLaw.{take_front}
 -- a secret has n bytes
 pub length-fors_secret : (s : ParamSet) (sk pk : List ℕ) (t i u : ℕ) → length (fors_secret (params s) sk pk t i u) ≡ (params s).n
 unfolding fors_secret
-length-fors_secret s sk pk t i u = length-PRF (params s) pk sk _ (n_small s)
+length-fors_secret s sk pk t i u = length-PRF (params s) pk sk _ (n_high s)
 
 -- a digest asks for a leaf of the tree
 pub index_lt : (p : Params) (md : List ℕ) (j : ℕ) → fors_index p md j < 2 ^ p.a

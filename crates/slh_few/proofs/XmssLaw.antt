@@ -3,7 +3,7 @@ use Rattle.std.proofs.Common.{◌≡◌, ℕ, ◌^◌, ◌<◌, List, [], ◌++�
 use Rattle.std.proofs.lemmas.List.{take-append-le, take_all, drop_at}
 use Rattle.slh_params.specs.ParamSet.{params}
 use Rattle.slh_params.specs.declared.param_set.ParamSet.{ParamSet}
-use Rattle.slh_params.proofs.Table.{n_small}
+use Rattle.slh_params.proofs.Bounds.{n_high}
 use Rattle.slh_tree.specs.Tree.{root}
 use Rattle.slh_tree.specs.Climb.{path, climb, path_node}
 use Rattle.slh_tree.proofs.Authentic.{climb-path, length-path_below}
@@ -26,7 +26,7 @@ length-xmss_sig s sk pk at m =
     length-append (wots_sig p sk pk at m) (path (xmss_tree p sk pk at.layer at.tree) at.pair)
     ∙ omega (
       arith,
-      length-wots_sig p sk pk at m (n_small s),
+      length-wots_sig p sk pk at m (n_high s),
       length-path_below (xmss_tree p sk pk at.layer at.tree) (xmss_tree-lawful s sk pk at.layer at.tree) at.pair p.hp,
     )
 
@@ -39,11 +39,11 @@ xmss_pk_from_sig-xmss_sig s sk pk at m h =
     let W = wots_sig p sk pk at m in
     let t = xmss_tree p sk pk at.layer at.tree in
     let u = xmss_tree p [] pk at.layer at.tree in
-    let l = length-wots_sig p sk pk at m (n_small s) in
+    let l = length-wots_sig p sk pk at m (n_high s) in
     let front : take (wots_sig_len p) (W ++ path t at.pair) ≡ W = take_front W (path t at.pair) (wots_sig_len p) l in
     let back : drop (wots_sig_len p) (W ++ path t at.pair) ≡ path t at.pair = drop_at W (path t at.pair) (wots_sig_len p) l in
     ap (λ xs. climb u at.pair (wots_pk_from_sig p pk at m xs) (drop (wots_sig_len p) (W ++ path t at.pair))) front
     ∙ ap (λ ys. climb u at.pair (wots_pk_from_sig p pk at m W) ys) back
-    ∙ ap (λ x. climb u at.pair x (path t at.pair)) (wots_pk_from_sig-wots_sig p sk pk at m (n_small s))
+    ∙ ap (λ x. climb u at.pair x (path t at.pair)) (wots_pk_from_sig-wots_sig p sk pk at m (n_high s))
     ∙ climb_to-join u t at.pair (wots_pk p sk pk at) (path_node p.n (path t at.pair)) p.hp refl
     ∙ climb-path t (xmss_tree-lawful s sk pk at.layer at.tree) at.pair h

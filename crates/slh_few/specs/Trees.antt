@@ -2,7 +2,7 @@
 use Rattle.std.proofs.Common.{◌≡◌, ℕ, ◌≤◌, List, length}
 use Rattle.slh_params.specs.Params.{Params}
 use Rattle.slh_params.specs.ParamSet.{params}
-use Rattle.slh_params.proofs.Table.{n_small}
+use Rattle.slh_params.proofs.Bounds.{n_high}
 use Rattle.slh_hash.proofs.Lengths.{length-F}
 use Rattle.slh_hash.proofs.Lengths.{length-T}
 use Rattle.slh_tree.specs.Tree.{MerkleTree, Lawful}
@@ -30,14 +30,14 @@ length-wots_pk p sk pk at h = length-T p pk _ _ h
 -- all nodes of the two trees have n bytes
 pub xmss_tree-lawful : (s : ParamSet) (sk pk : List ℕ) (l t : ℕ) → Lawful (xmss_tree (params s) sk pk l t)
 xmss_tree-lawful s sk pk l t = record {
-  leaf_width = λ i. length-wots_pk (params s) sk pk _ (n_small s);
-  join_width = λ z i x y. length-T (params s) pk _ _ (n_small s);
+  leaf_width = λ i. length-wots_pk (params s) sk pk _ (n_high s);
+  join_width = λ z i x y. length-T (params s) pk _ _ (n_high s);
 }
 
 pub fors_tree-lawful : (s : ParamSet) (sk pk : List ℕ) (t i j : ℕ) → Lawful (fors_tree (params s) sk pk t i j)
 fors_tree-lawful s sk pk t i j = record {
-  leaf_width = λ v. length-F (params s) pk _ _ (n_small s);
-  join_width = λ z v x y. length-T (params s) pk _ _ (n_small s);
+  leaf_width = λ v. length-F (params s) pk _ _ (n_high s);
+  join_width = λ z v x y. length-T (params s) pk _ _ (n_high s);
 }
 
 -- so have those that `XmssTree` and `ForsTree` are
