@@ -12,7 +12,8 @@ use Rattle.slh_few.specs.Xmss.{xmss_tree, xmss_sig, xmss_pk_from_sig, xmss_sig_l
 use Rattle.slh_few.specs.Hypertree.{layer_place, signed_at, layer_sig, ht_sig, root_below, ht_root_from_sig}
 use Rattle.slh_few.specs.declared.place.Place.{Place}
 use Rattle.slh_few.proofs.Ends.{part-end_to_end}
-use Rattle.slh_few.proofs.Sets.{top_layer, height_below_top}
+use Rattle.slh_params.proofs.Bounds.{h_below_top}
+use Rattle.slh_few.proofs.Sizes.{top_layer}
 use Rattle.slh_few.proofs.XmssLaw.{length-xmss_sig, xmss_pk_from_sig-xmss_sig}
 use Rattle.slh_few.proofs.Layers.{layer_place-layer, layer_place-pair, layer_place-tree}
 
@@ -91,7 +92,7 @@ ht_root_from_sig-ht_sig s sk pk m t i hi ht =
     let whole : root_below p pk m t i (ht_sig p sk pk m t i) p.d ≡ signed_at p sk pk m t i p.d = below-signed s sk pk m t i p.d (omega arith) in
     let top : signed_at p sk pk m t i p.d ≡ xmss_pk_from_sig p pk at (signed_at p sk pk m t i e) (xmss_sig p sk pk at (signed_at p sk pk m t i e)) =
     ap (signed_at p sk pk m t i) (top_layer s) ∙ unfold signed_at in refl in
-    let small : t < 2 ^ (p.hp * e) = rw (height_below_top s) at ht in
+    let small : t < 2 ^ (p.hp * e) = rw (h_below_top s) at ht in
     let none : at.tree ≡ 0 = layer_place-tree p t i e ∙ div-eq_of_lt small in
     whole ∙ top ∙ xmss_pk_from_sig-xmss_sig s sk pk at (signed_at p sk pk m t i e) (layer_place-pair p t i e hi)
     ∙ ap (λ l. root (xmss_tree p sk pk l at.tree)) (layer_place-layer p t i e)

@@ -82,7 +82,7 @@ pub fn fors_sign(seeds: &Seeds, idx_tree: u64, idx_leaf: u32, md: &[u8], out: &m
 }
 
 /// The root of the tree that its part of a signature gives for leaf `i`.
-#[tactic(auto, unfolding(crate::specs::Trees::fors_tree_of))]
+#[tactic(auto, using(slh_params::proofs::Bounds::n_high, slh_params::proofs::Bounds::a_high), unfolding(crate::specs::Trees::fors_tree_of))]
 fn root_from(seeded_tree: &SeededForsTree, i: u32, sig: &[u8]) -> Node
     requires leaf { i < 2 ^ (params seeded_tree.now.tree.seeds.set).a }
     requires sig { length sig.now ≡ fors_part_len (params seeded_tree.now.tree.seeds.set) }

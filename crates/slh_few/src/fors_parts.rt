@@ -17,6 +17,7 @@ pub const MOST_TREES: usize = 64;
 
 /// The leaf of each tree that a digest of md_len bytes asks for, with zeros after them (Algorithm 16,
 /// line 2).
+#[tactic(auto, using(slh_params::proofs::Bounds::k_high, slh_params::proofs::Bounds::a_low, slh_params::proofs::Bounds::a_high))]
 pub fn fors_indices(set: ParamSet, md: &[u8]) -> [u32; MOST_TREES]
     requires { length md.now ≡ md_len (params set) }
     ensures few { (params set).k ≤ MOST_TREES }

@@ -135,7 +135,7 @@ impl<'a> Tree for ForsTree<'a> {
 
     ghost lawful = { fors-lawful };
 
-    #[tactic(auto, unfolding(crate::specs::Trees::fors_tree_of))]
+    #[tactic(auto, using(slh_params::proofs::Bounds::a_low, slh_params::proofs::Bounds::a_high), unfolding(crate::specs::Trees::fors_tree_of))]
     fn height(&self) -> u32 {
         self.seeds.set.a()
     }

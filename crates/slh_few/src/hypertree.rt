@@ -44,7 +44,7 @@ pub fn layer_place(set: ParamSet, idx_tree: u64, idx_leaf: u32, layer: u8) -> Pl
 }
 
 /// At least the layers of any set.
-pub const MOST_LAYERS: usize = 22;
+pub const MOST_LAYERS: usize = 65;
 
 /// The places of all d layers, from layer 0 on: the trees that stand above leaf `idx_leaf` of tree `idx_tree` of layer
 /// 0, and the leaf of each (Algorithm 12, lines 7 and 8). In places after the d-th stands that of layer 0.
@@ -70,7 +70,7 @@ pub fn layer_places(set: ParamSet, idx_tree: u64, idx_leaf: u32) -> [Place; MOST
 /// The length of the signature of one layer: (len + h') * n bytes.
 pub fn xmss_sig_len(set: ParamSet) -> usize
     ensures value { result ≡ xmss_sig_len (params set) }
-    ensures small { result < 3000 }
+    ensures small { result < 5000 }
 {
     (set.len() + set.hp() as usize) * set.n()
 }

@@ -68,7 +68,7 @@ impl<'a> Tree for XmssTree<'a> {
 
     ghost lawful = { xmss-lawful };
 
-    #[tactic(auto, unfolding(crate::specs::Trees::xmss_tree_of))]
+    #[tactic(auto, using(slh_params::proofs::Bounds::hp_low, slh_params::proofs::Bounds::hp_high), unfolding(crate::specs::Trees::xmss_tree_of))]
     fn height(&self) -> u32 {
         self.seeds.set.hp()
     }

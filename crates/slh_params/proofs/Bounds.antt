@@ -1,6 +1,7 @@
 -- What holds of the numbers of every valid record: the bounds that lengths, counts and indices keep.
 use Rattle.std.proofs.Common.{◌≡◌, ℕ, zero, suc, ◌+◌, ◌-◌, ◌*◌, ◌/◌, ◌^◌, ◌<◌, ◌≤◌, ◌⊎◌, inl, inr, length, refl, lit<, lit≤, arith, ap, sym}
-use Rattle.std.proofs.Math.Nat.{mul-le-mul, mul-le-mul_right, add_assoc}
+use Rattle.std.proofs.Math.Nat.{mul-le-mul, mul-le-mul_right, add_assoc, pow-le-pow_right}
+use Rattle.std.proofs.lemmas.Nat.{pow_pos}
 use native.Mathlib.Numerals.{unary_clauses}
 use Rattle.slh_params.specs.declared.param_set.ParamSet.{ParamSet}
 use Rattle.slh_params.specs.declared.param_set.ParamSet.TheVariants.{S128s, S128f, S192s, S192f, S256s, S256f}
@@ -68,6 +69,13 @@ h_high s = omega (arith, below_top (params s).hp (params s).d (d_low s), (valid 
 
 pub hp_at_most_h : (s : ParamSet) → (params s).hp ≤ h (params s)
 hp_at_most_h s = omega (arith, below_top (params s).hp (params s).d (d_low s))
+
+-- the leaves of an XMSS tree
+pub leaves_low : (s : ParamSet) → 1 ≤ 2 ^ (params s).hp
+leaves_low s = pow_pos (params s).hp
+
+pub leaves_high : (s : ParamSet) → 2 ^ (params s).hp ≤ 4096
+leaves_high s = pow-le-pow_right {n = 2} (lit≤ tt) (hp_high s)
 
 pub fors_bits_high : (s : ParamSet) → (params s).k * (params s).a ≤ 896
 fors_bits_high s = mul-le-mul (k_high s) (a_high s)

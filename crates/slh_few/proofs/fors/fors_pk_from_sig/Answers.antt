@@ -3,7 +3,7 @@ use Rattle.std.proofs.Common.{◌≡◌, ℕ, ◌^◌, ◌<◌, length, sym, sub
 use Rattle.slh_params.specs.ParamSet.{params}
 use Rattle.slh_few.specs.Parts.{part}
 use Rattle.slh_few.specs.Fors.{fors_root, fors_part_len, fors_pk_from_sig}
-use Rattle.slh_few.proofs.Sets.{k_high}
+use Rattle.slh_params.proofs.Bounds.{k_high}
 use Rattle.slh_few.proofs.Ends.{end_to_end-none, end_to_end-more, part_fits}
 use Rattle.slh_few.proofs.ForsLaw.{index_lt}
 use Rattle.slh_few.proofs.fors.fors_pk_from_sig.Goals as goal

@@ -2,7 +2,7 @@
 use Rattle.std.proofs.Common.{◌≡◌, ℕ, ◌+◌, ◌*◌, ◌^◌, ◌<◌, ◌++◌, length, take, refl, ap, sym, subst, ◌∙◌, arith}
 use Rattle.slh_params.specs.ParamSet.{params}
 use Rattle.slh_few.specs.Fors.{fors_part, fors_part_len, fors_sig, fors_pk_from_sig}
-use Rattle.slh_few.proofs.Sets.{k_high}
+use Rattle.slh_params.proofs.Bounds.{k_high}
 use Rattle.slh_few.proofs.Ends.{end_to_end-none, writes-more, part_fits, written_all}
 use Rattle.slh_few.proofs.ForsLaw.{index_lt, length-fors_part, fors_pk_from_sig-fors_sig}
 use Rattle.slh_few.proofs.fors.fors_sign.Goals as goal

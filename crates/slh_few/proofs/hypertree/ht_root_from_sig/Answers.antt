@@ -3,7 +3,7 @@ use Rattle.std.proofs.Common.{◌≡◌, ◌+◌, ◌<◌, length, ap, ◌∙◌
 use Rattle.slh_params.specs.ParamSet.{params}
 use Rattle.slh_few.specs.Xmss.{xmss_sig_len}
 use Rattle.slh_few.specs.Hypertree.{place_above}
-use Rattle.slh_few.proofs.Sets.{d_high}
+use Rattle.slh_params.proofs.Bounds.{d_high}
 use Rattle.slh_few.proofs.Ends.{part_fits}
 use Rattle.slh_few.proofs.Layers.{layer_place-start, layer_place-more}
 use Rattle.slh_few.proofs.HtLaw.{root_below-start, root_below-more}

@@ -6,7 +6,7 @@ use Rattle.slh_few.specs.declared.place.Place.{Place}
 use Rattle.slh_few.specs.Xmss.{xmss_sig_len, xmss_sig}
 use Rattle.slh_few.specs.Hypertree.{place_above, layer_place, signed_at, layer_sig, ht_sig, ht_root_from_sig}
 use Rattle.slh_few.specs.Parts.{end_to_end}
-use Rattle.slh_few.proofs.Sets.{top_layer}
+use Rattle.slh_few.proofs.Sizes.{top_layer}
 use Rattle.slh_few.proofs.Ends.{end_to_end-none, writes-more, part_fits, written_all}
 use Rattle.slh_few.proofs.Layers.{layer_place-start, layer_place-more}
 use Rattle.slh_few.proofs.XmssLaw.{length-xmss_sig}

@@ -5,7 +5,7 @@ use Rattle.std.proofs.lemmas.List.{get_or-set_other, length-set}
 use Rattle.std.proofs.lemmas.Grind.{get_or-set_at}
 use Rattle.slh_params.specs.ParamSet.{params}
 use Rattle.slh_few.specs.Hypertree.{place_above, layer_place}
-use Rattle.slh_few.proofs.Sets.{d_high}
+use Rattle.slh_params.proofs.Bounds.{d_high}
 use Rattle.slh_few.proofs.Layers.{layer_place-start, layer_place-more}
 use Rattle.slh_few.proofs.hypertree.layer_places.Goals as goal
 

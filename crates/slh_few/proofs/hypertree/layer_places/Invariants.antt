@@ -6,7 +6,7 @@ use Rattle.slh_few.proofs.hypertree.layer_places.Given as goal
 
 abbrev pub invariant-loop-layer : goal.invariant-loop-layer
 invariant-loop-layer l = record {
-  long : length l.places ≡ 22;
+  long : length l.places ≡ 65;
   at : l.at ≡ layer_place (params l.set) l.idx_tree l.idx_leaf l.layer;
   done : (k : ℕ) (place : Place) → k < l.layer → get_or l.places k place ≡ layer_place (params l.set) l.idx_tree l.idx_leaf k;
 }

@@ -1,0 +1,14 @@
+-- How long the parts of a signature are at most.
+use Rattle.std.proofs.Common.{◌≡◌, suc, ◌+◌, ◌-◌, ◌≤◌, arith}
+use Rattle.std.proofs.Math.Nat.{mul-le-mul}
+use Rattle.slh_params.specs.declared.param_set.ParamSet.{ParamSet}
+use Rattle.slh_params.specs.ParamSet.{params}
+use Rattle.slh_params.proofs.Bounds.{n_high, len_high, hp_high, d_low}
+use Rattle.slh_few.specs.Xmss.{xmss_sig_len}
+
+pub xmss_sig_len_small : (s : ParamSet) → xmss_sig_len (params s) ≤ 4640
+xmss_sig_len_small s = mul-le-mul {n₂ = 145} (omega (arith, len_high s, hp_high s)) (n_high s)
+
+-- d is one more than the number of the top layer
+pub top_layer : (s : ParamSet) → (params s).d ≡ suc ((params s).d - 1)
+top_layer s = omega (arith, d_low s)
