@@ -1,4 +1,3 @@
-pub mod Sets
 pub mod FirstBad
 pub mod Rising
 pub mod Levels

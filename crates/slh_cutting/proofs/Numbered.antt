@@ -11,7 +11,7 @@ use Rattle.slh_cutting.specs.Jobs.{IsTreeOf, height_of, cut_points_of, tree_rang
 use Rattle.slh_cutting.specs.declared.range.JobTree.{JobTree}
 use Rattle.slh_cutting.specs.declared.range.JobTree.TheVariants.{Xmss, Fors}
 use Rattle.slh_cutting.specs.declared.range.JobRange.{JobRange}
-use Rattle.slh_cutting.proofs.Sets.{d_some}
+use Rattle.slh_params.proofs.Bounds.{d_low}
 use Rattle.slh_cutting.proofs.Ranges.{length-ranges, lo-ranges, hi-ranges}
 use Rattle.slh_cutting.proofs.Trees.{length-pieces, at-pieces, below_pieces, piece_below}
 use Rattle.slh_cutting.proofs.Ends.{end_to_end-at}
@@ -173,5 +173,5 @@ pub job-layer_zero : (c : CutTrees) (r lo hi : ℕ) → slice_get (tree_ranges c
 job-layer_zero c r lo hi at =
     let within : r < length (tree_ranges c (Xmss 0)) = slice_get_within (tree_ranges c (Xmss 0)) r (lo, hi) at in
     let here : r < length (tree_jobs c (Xmss 0)) = omega (arith, within, length-map (tree_ranges c (Xmss 0)) (in_tree (Xmss 0))) in
-    ap (λ v. slice_get (signing_jobs c) v) (let e : r ≡ 0 + r = omega arith in e) ∙ slice_get-first c (Xmss 0) 0 r (let e : 0 ≡ 0 * (length c.xmss + 1) = omega arith in e) (d_some c.set) here
+    ap (λ v. slice_get (signing_jobs c) v) (let e : r ≡ 0 + r = omega arith in e) ∙ slice_get-first c (Xmss 0) 0 r (let e : 0 ≡ 0 * (length c.xmss + 1) = omega arith in e) (d_low c.set) here
     ∙ slice_get-map (in_tree (Xmss 0)) (tree_ranges c (Xmss 0)) r ∙ ap (λ v. option_map (in_tree (Xmss 0)) v) at

@@ -60,10 +60,10 @@ pub fn keygen_job(cutting: &Cutting, number: u32) -> JobRange
 
 /// The ranges of so many trees, each cut into as many.
 fn times(trees: u32, ranges: u32) -> u32
-    requires trees { trees ≤ 35 }
+    requires trees { trees ≤ 65 }
     requires ranges { ranges ≤ 256 }
     ensures product { result ≡ trees * ranges }
-    ensures few { result ≤ 8960 }
+    ensures few { result ≤ 16640 }
 {
     trees * ranges
 }

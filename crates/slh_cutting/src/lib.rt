@@ -4,7 +4,7 @@
 //! signature are the ranges of its d XMSS trees, layer 0 first, and then of its k FORS trees; those of key generation
 //! are the ranges of the one XMSS tree of the top layer. Nothing here takes memory, and nothing but `Cutting::new` is
 //! refused.
-#![tactic(auto)]
+#![tactic(auto, using(slh_params::proofs::Bounds::bounds))]
 
 mod cuts;
 mod cutting;
