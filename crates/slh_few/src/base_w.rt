@@ -15,6 +15,7 @@ pub(crate) const MOST_DIGITS: usize = 133;
 const MOST_CHECKSUM: u32 = 32640;
 
 /// How far below w - 1 the digits of a message are, in all.
+#[tactic(auto, using(slh_params::proofs::Bounds::len1_high, slh_params::proofs::Bounds::w_high))]
 fn checksum(set: ParamSet, digits: &[u32]) -> u32
     requires few { length digits.now ≡ len1 (params set) }
     requires small { (c : ℕ) → slice_index digits.now c ≤ w (params set) - 1 }
@@ -30,6 +31,7 @@ fn checksum(set: ParamSet, digits: &[u32]) -> u32
 }
 
 /// The digits of a checksum, which are read from whole bytes: len_2 numbers below w.
+#[tactic(auto, using(slh_params::proofs::Bounds::lg_w_low, slh_params::proofs::Bounds::lg_w_high))]
 fn checksum_digits(set: ParamSet, checksum: u32, out: &mut [u32])
     requires small { checksum ≤ MOST_CHECKSUM }
     requires out { length out.old ≡ len2 (params set) }
@@ -45,6 +47,7 @@ fn checksum_digits(set: ParamSet, checksum: u32, out: &mut [u32])
 
 /// The digits of a message of n bytes, then those of their checksum: len numbers below w
 /// (Algorithm 7, lines 1 to 7).
+#[tactic(auto, using(slh_params::proofs::Bounds::lg_w_low, slh_params::proofs::Bounds::lg_w_high))]
 pub fn digits(set: ParamSet, msg: &Node, out: &mut [u32])
     requires msg { length msg.now.items ≡ (params set).n }
     requires out { length out.old ≡ len (params set) }

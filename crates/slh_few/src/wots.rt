@@ -49,6 +49,7 @@ fn run_chain(seeded: &SeededHash, at: Place, c: u32, x: Node, from: u32, steps: 
 
 /// The value of chain `chain_no` that `steps` steps lead to from `x`, its value after `from` steps:
 /// n bytes (Algorithm 5). A chain run in two parts is the chain.
+#[tactic(auto, using(slh_params::proofs::Bounds::w_high))]
 pub fn chain(public: &Public, at: Place, chain_no: u32, x: &Node, from: u32, steps: u32) -> Node
     requires { from + steps ≤ w (params public.now.set) - 1 }
     ensures value { let p = params public.now.set in let pk = public.now.pk_seed.now in
@@ -75,6 +76,7 @@ fn run_secret(seeded: &SeededHash, sk_seed: &[u8], at: Place, c: u32, steps: u32
 }
 
 /// The public key at a place: n bytes (Algorithm 6).
+#[tactic(auto, using(slh_params::proofs::Bounds::len_high, slh_params::proofs::Bounds::w_high))]
 pub fn wots_pk(seeds: &Seeds, at: Place) -> Node
     ensures value { let p = params seeds.now.set in let sk = seeds.now.sk_seed.now in
         let pk = seeds.now.pk_seed.now in
@@ -107,6 +109,7 @@ pub fn wots_sig_len(set: ParamSet) -> usize
 
 /// Writes the signature of a message of n bytes: len * n bytes (Algorithm 7).
 /// The key that it gives is the public key.
+#[tactic(auto, using(slh_params::proofs::Bounds::len_high, slh_params::proofs::Bounds::w_high))]
 pub fn wots_sign(seeds: &Seeds, at: Place, msg: &Node, out: &mut [u8])
     requires msg { length msg.now.items ≡ (params seeds.now.set).n }
     requires out { length out.old ≡ len (params seeds.now.set) * (params seeds.now.set).n }
@@ -126,6 +129,7 @@ pub fn wots_sign(seeds: &Seeds, at: Place, msg: &Node, out: &mut [u8])
 }
 
 /// The public key that a signature of a message of n bytes gives: n bytes (Algorithm 8).
+#[tactic(auto, using(slh_params::proofs::Bounds::len_high, slh_params::proofs::Bounds::n_high, slh_params::proofs::Bounds::w_high))]
 pub fn wots_pk_from_sig(public: &Public, at: Place, msg: &Node, sig: &[u8]) -> Node
     requires msg { length msg.now.items ≡ (params public.now.set).n }
     requires sig { length sig.now ≡ len (params public.now.set) * (params public.now.set).n }
