@@ -11,7 +11,7 @@ use Rattle.std.proofs.Math.Nat.{pow-zero, pow-le-pow_right, mul-le-mul}
 use Rattle.slh_params.specs.declared.param_set.ParamSet.{ParamSet}
 use Rattle.slh_params.specs.ParamSet.{params}
 use Rattle.slh_params.specs.Params.{Params, w, len1, len2, ceil_div}
-use Rattle.slh_params.proofs.Bounds.{valid, w_low}
+use Rattle.slh_params.proofs.Bounds.{valid, n_high, len_high, len1_high, len_sum_high, lg_w_low, lg_w_high, w_low, w_high}
 use Rattle.slh_few.specs.Wots.{checksum_shift}
 
 -- a power of a power of two
@@ -81,3 +81,8 @@ shifted_fits s c h =
 pub checksum-more : (last sum_so_far i : ℕ) (ds : List ℕ) → i < length ds → sum_so_far ≡ sum (map (λ d. last - d) (take i ds))
     → sum_so_far + (last - get_or ds i 0) ≡ sum (map (λ d. last - d) (take (i + 1) ds))
 checksum-more last sum_so_far i ds h e = grind (arith, common_steps)
+
+-- what digits and chains keep to
+pub ruleset digit_bounds = (len1_high, len_sum_high, lg_w_low, lg_w_high, w_high, checksum_bits_high)
+
+pub ruleset chain_bounds = (n_high, len_high, w_high)

@@ -1,5 +1,5 @@
 //! The base-w digits of a message and of its checksum (FIPS 205, section 5).
-ghost use Rattle.std.specs.Prelude.{◌≡◌, ℕ, List, ◌-◌, ◌*◌, ◌≤◌, ◌<◌, length, take, slice_index};
+ghost use Rattle.std.specs.Prelude.{◌≡◌, ℕ, List, ◌-◌, ◌≤◌, ◌<◌, length, slice_index};
 ghost use Rattle.slh_params.specs.Params.{len, len1, len2, w};
 ghost use Rattle.slh_params.specs.ParamSet.{params};
 ghost use Rattle.slh_params.specs.Bits.{AllBytes};
@@ -15,7 +15,7 @@ pub(crate) const MOST_DIGITS: usize = 133;
 const MOST_CHECKSUM: u32 = 32640;
 
 /// How far below w - 1 the digits of a message are, in all.
-#[tactic(auto, using(slh_params::proofs::Bounds::len1_high, slh_params::proofs::Bounds::w_high))]
+#[tactic(auto, using(crate::proofs::Checksum::digit_bounds))]
 fn checksum(set: ParamSet, digits: &[u32]) -> u32
     requires few { length digits.now ≡ len1 (params set) }
     requires small { (c : ℕ) → slice_index digits.now c ≤ w (params set) - 1 }
@@ -31,7 +31,7 @@ fn checksum(set: ParamSet, digits: &[u32]) -> u32
 }
 
 /// The digits of a checksum, which are read from whole bytes: len_2 numbers below w.
-#[tactic(auto, using(slh_params::proofs::Bounds::lg_w_low, slh_params::proofs::Bounds::lg_w_high))]
+#[tactic(auto, using(crate::proofs::Checksum::digit_bounds))]
 fn checksum_digits(set: ParamSet, checksum: u32, out: &mut [u32])
     requires small { checksum ≤ MOST_CHECKSUM }
     requires out { length out.old ≡ len2 (params set) }
@@ -47,7 +47,7 @@ fn checksum_digits(set: ParamSet, checksum: u32, out: &mut [u32])
 
 /// The digits of a message of n bytes, then those of their checksum: len numbers below w
 /// (Algorithm 7, lines 1 to 7).
-#[tactic(auto, using(slh_params::proofs::Bounds::lg_w_low, slh_params::proofs::Bounds::lg_w_high))]
+#[tactic(auto, using(crate::proofs::Checksum::digit_bounds))]
 pub fn digits(set: ParamSet, msg: &Node, out: &mut [u32])
     requires msg { length msg.now.items ≡ (params set).n }
     requires out { length out.old ≡ len (params set) }

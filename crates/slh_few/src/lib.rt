@@ -2,7 +2,7 @@
 //!
 //! Nothing here takes memory or refuses anything: what a call needs is a condition of its contract.
 //! A hash state is made within one call and dropped at its end.
-#![tactic(auto)]
+#![tactic(auto, using(slh_params::proofs::Bounds::bounds))]
 
 mod base_w;
 mod fors;

@@ -76,7 +76,7 @@ fn run_secret(seeded: &SeededHash, sk_seed: &[u8], at: Place, c: u32, steps: u32
 }
 
 /// The public key at a place: n bytes (Algorithm 6).
-#[tactic(auto, using(slh_params::proofs::Bounds::len_high, slh_params::proofs::Bounds::w_high))]
+#[tactic(auto, using(crate::proofs::Checksum::chain_bounds))]
 pub fn wots_pk(seeds: &Seeds, at: Place) -> Node
     ensures value { let p = params seeds.now.set in let sk = seeds.now.sk_seed.now in
         let pk = seeds.now.pk_seed.now in
@@ -109,7 +109,7 @@ pub fn wots_sig_len(set: ParamSet) -> usize
 
 /// Writes the signature of a message of n bytes: len * n bytes (Algorithm 7).
 /// The key that it gives is the public key.
-#[tactic(auto, using(slh_params::proofs::Bounds::len_high, slh_params::proofs::Bounds::w_high))]
+#[tactic(auto, using(crate::proofs::Checksum::chain_bounds))]
 pub fn wots_sign(seeds: &Seeds, at: Place, msg: &Node, out: &mut [u8])
     requires msg { length msg.now.items ≡ (params seeds.now.set).n }
     requires out { length out.old ≡ len (params seeds.now.set) * (params seeds.now.set).n }
@@ -129,7 +129,7 @@ pub fn wots_sign(seeds: &Seeds, at: Place, msg: &Node, out: &mut [u8])
 }
 
 /// The public key that a signature of a message of n bytes gives: n bytes (Algorithm 8).
-#[tactic(auto, using(slh_params::proofs::Bounds::len_high, slh_params::proofs::Bounds::n_high, slh_params::proofs::Bounds::w_high))]
+#[tactic(auto, using(crate::proofs::Checksum::chain_bounds))]
 pub fn wots_pk_from_sig(public: &Public, at: Place, msg: &Node, sig: &[u8]) -> Node
     requires msg { length msg.now.items ≡ (params public.now.set).n }
     requires sig { length sig.now ≡ len (params public.now.set) * (params public.now.set).n }

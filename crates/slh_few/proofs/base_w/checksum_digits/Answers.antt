@@ -1,19 +1,12 @@
 -- The shifted checksum fills the bytes that its digits are read from.
-use Rattle.std.proofs.Common.{◌≡◌, ◌*◌, ◌^◌, ◌≤◌, refl, ap, sym, ◌∙◌, arith, mod-eq_of_lt}
+use Rattle.std.proofs.Common.{◌≡◌, ◌*◌, ◌^◌, refl, ap, sym, ◌∙◌, arith, mod-eq_of_lt}
 use Rattle.std.proofs.lemmas.List.{length-take-le}
 use Rattle.slh_params.specs.Bits.{to_byte}
 use Rattle.slh_params.specs.ParamSet.{params}
 use Rattle.slh_params.specs.Params.{len2, ceil_div}
-use Rattle.slh_params.proofs.Bounds.{len_sum_high}
 use Rattle.slh_few.specs.Wots.{checksum_bytes, checksum_shift}
-use Rattle.slh_few.proofs.Checksum.{checksum_bits_high, checksum_two, checksum_space, checksum_whole, shifted_fits}
+use Rattle.slh_few.proofs.Checksum.{checksum_two, checksum_space, checksum_whole, shifted_fits}
 use Rattle.slh_few.proofs.base_w.checksum_digits.Goals as goal
-
-pub overflow_cast-bits : goal.overflow_cast-bits
-overflow_cast-bits c = omega (arith, c.len2.ensures, len_sum_high c.args.set)
-
-pub overflow_mul-bits : goal.overflow_mul-bits
-overflow_mul-bits c = rw (c.len2.ensures, c.lg_w.ensures) (omega (arith, checksum_bits_high c.args.set))
 
 pub slice_bounds-buffer-end : goal.slice_bounds-buffer-end
 slice_bounds-buffer-end c = checksum_two c.args.set _ _ _ c.len2.ensures c.lg_w.ensures c.div_ceil.ensures

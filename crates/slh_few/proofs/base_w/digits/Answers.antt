@@ -1,8 +1,7 @@
 -- The digits written are those of the definition, and no other message's are nowhere below them.
-use Rattle.std.proofs.Common.{◌≡◌, ℕ, ◌+◌, ◌-◌, ◌*◌, ◌^◌, ◌++◌, ◌<◌, length, get_or, List, subst, refl, ap, ◌∙◌, arith}
-use Rattle.slh_params.specs.Bits.{base_2b}
+use Rattle.std.proofs.Common.{◌≡◌, ℕ, ◌^◌, ◌++◌, ◌<◌, get_or, List, subst, refl, ap, ◌∙◌, arith}
 use Rattle.slh_params.specs.ParamSet.{params}
-use Rattle.slh_params.specs.Params.{len, len1, len2}
+use Rattle.slh_params.specs.Params.{len}
 use Rattle.slh_params.proofs.Bounds.{len1_exact}
 use Rattle.slh_params.proofs.Groups.{base_2b-digit}
 use Rattle.slh_few.specs.Wots.{digits, checksum, message_digits, checksum_digits, NowhereBelow}

@@ -1,14 +1,10 @@
 -- After each chain the stream has absorbed the ends so far.
 use Rattle.std.proofs.Common.{◌≡◌, ◌-◌, ap, sym, ◌∙◌, arith}
-use Rattle.slh_params.proofs.Bounds.{len_high}
 use Rattle.slh_params.specs.ParamSet.{params}
 use Rattle.slh_params.specs.Params.{len}
 use Rattle.slh_few.specs.Wots.{chain, secret, whole_chain, wots_pk}
 use Rattle.slh_few.proofs.Ends.{end_to_end-none, end_to_end-more}
 use Rattle.slh_few.proofs.wots.wots_pk.Goals as goal
-
-pub overflow_cast-c-end : goal.overflow_cast-c-end
-overflow_cast-c-end c = omega (arith, c.len-c-end.ensures, len_high c.args.seeds.now.set)
 
 pub loop-c-init : goal.loop-c-init
 loop-c-init c = rw (end_to_end-none (whole_chain (params c.args.seeds.now.set) c.args.seeds.now.sk_seed.now c.args.seeds.now.pk_seed.now c.args.at), sym c.wots_adrs.ensures) c.new-ends.ensures

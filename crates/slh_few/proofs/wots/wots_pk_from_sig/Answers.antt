@@ -1,18 +1,11 @@
 -- After each chain the stream has absorbed the ends that the signature's values lead to so far.
 use Rattle.std.proofs.Common.{◌≡◌, ◌-◌, ◌<◌, ap, sym, ◌∙◌, arith}
-use Rattle.slh_params.proofs.Bounds.{len_high}
 use Rattle.slh_params.specs.ParamSet.{params}
 use Rattle.slh_params.specs.Params.{len}
 use Rattle.slh_few.specs.Wots.{finished_chain, wots_pk_from_sig}
 use Rattle.slh_few.proofs.Chains.{finished_as}
 use Rattle.slh_few.proofs.Ends.{end_to_end-none, end_to_end-more}
 use Rattle.slh_few.proofs.wots.wots_pk_from_sig.Goals as goal
-
-pub overflow_cast-c : goal.overflow_cast-c
-overflow_cast-c c = omega (arith, c.len-c-end.ensures, len_high c.args.public.now.set)
-
-pub bounds-digits-c : goal.bounds-digits-c
-bounds-digits-c c = omega (arith, c.len-c-end.ensures, len_high c.args.public.now.set)
 
 pub loop-c-init : goal.loop-c-init
 loop-c-init c =

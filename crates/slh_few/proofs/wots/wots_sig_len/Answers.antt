@@ -1,5 +1,5 @@
 -- At most 133 nodes of 32 bytes.
-use Rattle.std.proofs.Common.{◌≡◌, ◌*◌, ◌≤◌, arith}
+use Rattle.std.proofs.Common.{arith}
 use Rattle.std.proofs.Math.Nat.{mul-le-mul}
 use Rattle.slh_params.proofs.Bounds.{len_high, n_high}
 use Rattle.slh_few.proofs.wots.wots_sig_len.Goals as goal

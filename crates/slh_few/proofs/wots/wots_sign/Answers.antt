@@ -2,21 +2,11 @@
 use Rattle.std.proofs.Common.{◌≡◌, ◌*◌, ◌<◌, length, ap, sym, ◌∙◌, arith}
 use Rattle.slh_params.specs.ParamSet.{params}
 use Rattle.slh_params.specs.Params.{len}
-use Rattle.slh_params.proofs.Bounds.{len_high, n_high, w_high}
+use Rattle.slh_params.proofs.Bounds.{n_high}
 use Rattle.slh_few.specs.Wots.{chain, secret, signed_chain, wots_sig, wots_pk_from_sig}
 use Rattle.slh_few.proofs.Ends.{end_to_end-none, writes-more, part_fits, written_all}
 use Rattle.slh_few.proofs.WotsLaw.{wots_pk_from_sig-wots_sig}
 use Rattle.slh_few.proofs.wots.wots_sign.Goals as goal
-
-pub overflow_cast-c : goal.overflow_cast-c
-overflow_cast-c c = omega (arith, c.len-c-end.ensures, len_high c.args.seeds.now.set)
-
-pub bounds-digits-c : goal.bounds-digits-c
-bounds-digits-c c = omega (arith, c.len-c-end.ensures, len_high c.args.seeds.now.set)
-
-pub run_secret-node-requires : goal.run_secret-node-requires
-run_secret-node-requires c =
-    omega (arith, c.digits_of-digits.ensures.small c.loop-c.c (omega (arith, c.len-c-end.ensures)), w_high c.args.seeds.now.set)
 
 pub loop-c-init : goal.loop-c-init
 loop-c-init c = let e : 0 * (params c.args.seeds.now.set).n ≡ 0 = omega arith in rw e (sym (end_to_end-none _))
