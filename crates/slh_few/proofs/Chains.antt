@@ -1,5 +1,5 @@
 -- Chains: one step, their length, and a chain run in two parts.
-use Rattle.std.proofs.Common.{◌≡◌, ℕ, zero, suc, ◌+◌, ◌-◌, ◌≤◌, List, length, refl, ap, sym, ◌∙◌, arith, add-one}
+use Rattle.std.proofs.Common.{◌≡◌, ℕ, zero, suc, ◌+◌, ◌-◌, ◌≤◌, List, length, refl, ap, ◌∙◌, arith, add-one}
 use Rattle.slh_hash.proofs.Lengths.{length-F}
 use Rattle.slh_params.specs.Address.{Address, WOTS_HASH}
 use Rattle.slh_params.specs.Params.{Params, w}
@@ -37,9 +37,9 @@ chain-split p pk at c x f s (suc u) =
     ∙ ap (λ y. F p pk (wots_address at WOTS_HASH c (f + (s + u))) y) (chain-split p pk at c x f s u))
 
 -- the chain that a program runs on from a signature's value
-pub finished_as : (p : Params) (pk : List ℕ) (at : Place) (m sig : List ℕ) (c n d : ℕ) (x : List ℕ) → w p - 1 ≡ 15
-    → x ≡ part n sig c → n ≡ p.n → d ≡ digit p m c → chain p pk at c x d (15 - d) ≡ finished_chain p pk at m sig c
-finished_as p pk at m sig c n d x e ex en ed =
-    ap (λ y. chain p pk at c y d (15 - d)) (ex ∙ ap (λ k. part k sig c) en)
-    ∙ ap (λ j. chain p pk at c (part p.n sig c) j (15 - j)) ed
-    ∙ ap (λ u. chain p pk at c (part p.n sig c) (digit p m c) (u - digit p m c)) (sym e)
+pub finished_as : (p : Params) (pk : List ℕ) (at : Place) (m sig : List ℕ) (c n d last : ℕ) (x : List ℕ) → last ≡ w p - 1
+    → x ≡ part n sig c → n ≡ p.n → d ≡ digit p m c → chain p pk at c x d (last - d) ≡ finished_chain p pk at m sig c
+finished_as p pk at m sig c n d last x e ex en ed =
+    ap (λ y. chain p pk at c y d (last - d)) (ex ∙ ap (λ k. part k sig c) en)
+    ∙ ap (λ j. chain p pk at c (part p.n sig c) j (last - j)) ed
+    ∙ ap (λ u. chain p pk at c (part p.n sig c) (digit p m c) (u - digit p m c)) e

@@ -3,12 +3,9 @@ use Rattle.std.proofs.Common.{◌≡◌, ℕ, ◌-◌, ◌<◌, ◌≤◌, List,
 use Rattle.std.specs.List.{All}
 use Rattle.std.proofs.lemmas.List.Elements.{All-append}
 use Rattle.std.proofs.lemmas.Nat.{pow_pos}
-use Rattle.slh_params.specs.declared.param_set.ParamSet.{ParamSet}
-use Rattle.slh_params.specs.ParamSet.{params}
 use Rattle.slh_params.specs.Params.{Params, w, len, len1, len2}
 use Rattle.slh_params.proofs.Groups.{base_2b-small, length-base_2b, small-at}
 use Rattle.slh_few.specs.Wots.{digits, digit, message_digits, checksum_digits, checksum}
-use Rattle.slh_few.proofs.Sets.{last_step}
 
 -- the digits are below w
 pub digits-small : (p : Params) (m : List ℕ) → All (λ d. d < w p) (digits p m)
@@ -27,7 +24,3 @@ length-digits p m =
     let front : length (message_digits p m) ≡ len1 p = length-base_2b m p.lg_w (len1 p) in
     let back : length (checksum_digits p (checksum p (message_digits p m))) ≡ len2 p = length-base_2b _ p.lg_w (len2 p) in
     length-append (message_digits p m) (checksum_digits p (checksum p (message_digits p m))) ∙ omega (arith, front, back)
-
--- for the six sets w - 1 is 15
-pub digit_to_15 : (s : ParamSet) (m : List ℕ) (c : ℕ) → digit (params s) m c ≤ 15
-digit_to_15 s m c = omega (arith, digit-small (params s) m c, last_step s)

@@ -13,7 +13,8 @@ use Rattle.slh_params.specs.declared.param_set.ParamSet.{ParamSet}
 use Rattle.slh_params.proofs.Windows.{window}
 use Rattle.slh_params.proofs.Groups.{length-base_2b, base_2b-digit}
 use Rattle.slh_few.specs.Wots.{NowhereBelow, digits, message_digits, checksum, checksum_digits, checksum_shift}
-use Rattle.slh_few.proofs.Sets.{exact, checksum_whole, checksum_room}
+use Rattle.slh_params.proofs.Bounds.{len1_exact}
+use Rattle.slh_few.proofs.Checksum.{checksum_whole, checksum_room}
 use Rattle.slh_few.proofs.Unbeaten.{base_2b-number, bytes-number, same_bytes, same_digits, larger_number, checksum_number}
 
 -- nowhere below, of the fronts
@@ -39,7 +40,7 @@ number_is : (s : ParamSet) (m : List ℕ) → length m ≡ (params s).n → AllB
     → number_from_digits (2 ^ (params s).lg_w) (message_digits (params s) m) ≡ number_from_digits 256 m
 number_is s m l a =
     let p = params s in
-    let e : len1 p * p.lg_w ≡ 8 * length m = exact s ∙ ap (λ k. 8 * k) (sym l) in
+    let e : len1 p * p.lg_w ≡ 8 * length m = len1_exact s ∙ ap (λ k. 8 * k) (sym l) in
     base_2b-number m p.lg_w (len1 p) (omega (arith, e)) ∙ ap (window m 0) e ∙ bytes-number m (length m) a (omega arith)
     ∙ ap (number_from_digits 256) (take_all (length m) m (omega arith))
 

@@ -7,7 +7,7 @@ ghost use Rattle.slh_hash.specs.Seeded.{IsSeeded};
 ghost use Rattle.slh_few.specs.Wots.{wots_address, chain as chain_of, secret, whole_chain, wots_pk, wots_sig, wots_pk_from_sig};
 ghost use Rattle.slh_few.specs.Xmss.{wots_sig_len};
 
-use crate::base_w::{LAST_STEP, digits_of};
+use crate::base_w::digits_of;
 use crate::nodes::node_at;
 use crate::place::{Place, Public, Seeds};
 use slh_hash::{SeededHash, TStream};
@@ -27,9 +27,12 @@ fn wots_adrs(at: Place, kind: AdrsType, chain: u32, hash: u32) -> Adrs
     adrs
 }
 
+/// The most steps of a chain in any set: w is at most 256.
+const MOST_STEPS: u32 = 255;
+
 /// Runs chain `c` on from `x`, which is its value after `from` steps.
 fn run_chain(seeded: &SeededHash, at: Place, c: u32, x: Node, from: u32, steps: u32) -> Node
-    requires { from + steps ≤ LAST_STEP }
+    requires { from + steps ≤ MOST_STEPS }
     ensures value { (p : Params) (pk : List ℕ) → IsSeeded seeded.now p pk → result.items
         ≡ chain_of p pk at c x.items from steps }
     ensures len { (p : Params) (pk : List ℕ) → IsSeeded seeded.now p pk → length x.items ≡ p.n
@@ -46,6 +49,7 @@ fn run_chain(seeded: &SeededHash, at: Place, c: u32, x: Node, from: u32, steps: 
 
 /// The value of chain `chain_no` that `steps` steps lead to from `x`, its value after `from` steps:
 /// n bytes (Algorithm 5). A chain run in two parts is the chain.
+#[tactic(auto, using(slh_params::proofs::Bounds::w_high))]
 pub fn chain(public: &Public, at: Place, chain_no: u32, x: &Node, from: u32, steps: u32) -> Node
     requires { from + steps ≤ w (params public.now.set) - 1 }
     ensures value { let p = params public.now.set in let pk = public.now.pk_seed.now in
@@ -61,7 +65,7 @@ pub fn chain(public: &Public, at: Place, chain_no: u32, x: &Node, from: u32, ste
 
 /// The value of chain `c` after `steps` steps from its secret.
 fn run_secret(seeded: &SeededHash, sk_seed: &[u8], at: Place, c: u32, steps: u32) -> Node
-    requires { steps ≤ LAST_STEP }
+    requires { steps ≤ MOST_STEPS }
     ensures value { (p : Params) (pk : List ℕ) → IsSeeded seeded.now p pk
         → result.items ≡ chain_of p pk at c (secret p sk_seed.now pk at c) 0 steps }
     ensures len { (p : Params) (pk : List ℕ) → IsSeeded seeded.now p pk → length result.items
@@ -72,6 +76,7 @@ fn run_secret(seeded: &SeededHash, sk_seed: &[u8], at: Place, c: u32, steps: u32
 }
 
 /// The public key at a place: n bytes (Algorithm 6).
+#[tactic(auto, using(crate::proofs::Checksum::chain_bounds))]
 pub fn wots_pk(seeds: &Seeds, at: Place) -> Node
     ensures value { let p = params seeds.now.set in let sk = seeds.now.sk_seed.now in
         let pk = seeds.now.pk_seed.now in
@@ -79,19 +84,20 @@ pub fn wots_pk(seeds: &Seeds, at: Place) -> Node
     ensures len { length result.items ≡ (params seeds.now.set).n }
 {
     let seeded = SeededHash::new(seeds.set, seeds.pk_seed);
+    let last = seeds.set.w() - 1;
     let mut ends = TStream::new(
         seeds.set,
         seeds.pk_seed,
         &wots_adrs(at, AdrsType::WotsPk, 0, 0),
     );
     for c in 0..seeds.set.len() as u32 {
-        ends.absorb(&run_secret(&seeded, seeds.sk_seed, at, c, LAST_STEP));
+        ends.absorb(&run_secret(&seeded, seeds.sk_seed, at, c, last));
     }
     ends.finish()
 }
 
 /// The most bytes of a WOTS+ signature in any set.
-pub const MOST_WOTS_SIG_LEN: usize = 2144;
+pub const MOST_WOTS_SIG_LEN: usize = 4256;
 
 /// The length of a signature: len * n bytes.
 pub fn wots_sig_len(set: ParamSet) -> usize
@@ -103,6 +109,7 @@ pub fn wots_sig_len(set: ParamSet) -> usize
 
 /// Writes the signature of a message of n bytes: len * n bytes (Algorithm 7).
 /// The key that it gives is the public key.
+#[tactic(auto, using(crate::proofs::Checksum::chain_bounds))]
 pub fn wots_sign(seeds: &Seeds, at: Place, msg: &Node, out: &mut [u8])
     requires msg { length msg.now.items ≡ (params seeds.now.set).n }
     requires out { length out.old ≡ len (params seeds.now.set) * (params seeds.now.set).n }
@@ -122,6 +129,7 @@ pub fn wots_sign(seeds: &Seeds, at: Place, msg: &Node, out: &mut [u8])
 }
 
 /// The public key that a signature of a message of n bytes gives: n bytes (Algorithm 8).
+#[tactic(auto, using(crate::proofs::Checksum::chain_bounds))]
 pub fn wots_pk_from_sig(public: &Public, at: Place, msg: &Node, sig: &[u8]) -> Node
     requires msg { length msg.now.items ≡ (params public.now.set).n }
     requires sig { length sig.now ≡ len (params public.now.set) * (params public.now.set).n }
@@ -132,6 +140,7 @@ pub fn wots_pk_from_sig(public: &Public, at: Place, msg: &Node, sig: &[u8]) -> N
     let seeded = SeededHash::new(public.set, public.pk_seed);
     let digits = digits_of(public.set, msg);
     let n = public.set.n();
+    let last = public.set.w() - 1;
     let mut ends = TStream::new(
         public.set,
         public.pk_seed,
@@ -140,7 +149,7 @@ pub fn wots_pk_from_sig(public: &Public, at: Place, msg: &Node, sig: &[u8]) -> N
     for c in 0..public.set.len() {
         let node = node_at(sig, n, c);
         let digit = digits[c];
-        let end = run_chain(&seeded, at, c as u32, node, digit, LAST_STEP - digit);
+        let end = run_chain(&seeded, at, c as u32, node, digit, last - digit);
         ends.absorb(&end);
     }
     ends.finish()

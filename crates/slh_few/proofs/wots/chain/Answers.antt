@@ -1,13 +1,9 @@
 -- A chain run in one call is the chain run in two parts.
-use Rattle.std.proofs.Common.{ap, sym, ◌∙◌, arith}
+use Rattle.std.proofs.Common.{ap, sym, ◌∙◌}
 use Rattle.slh_params.specs.ParamSet.{params}
 use Rattle.slh_few.specs.Wots.{chain}
-use Rattle.slh_few.proofs.Sets.{last_step}
 use Rattle.slh_few.proofs.Chains.{chain-split}
 use Rattle.slh_few.proofs.wots.chain.Goals as goal
-
-pub run_chain-requires : goal.run_chain-requires
-run_chain-requires c = omega (arith, c.requires, last_step c.args.public.now.set)
 
 pub returns-clause-value : goal.returns-clause-value
 returns-clause-value c =

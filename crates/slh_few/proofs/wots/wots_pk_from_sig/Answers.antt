@@ -1,19 +1,11 @@
 -- After each chain the stream has absorbed the ends that the signature's values lead to so far.
-use Rattle.std.proofs.Common.{◌≡◌, ◌<◌, sym, ◌∙◌, arith}
-use Rattle.slh_params.proofs.Table.{len_small}
+use Rattle.std.proofs.Common.{◌≡◌, ◌-◌, ◌<◌, ap, sym, ◌∙◌, arith}
 use Rattle.slh_params.specs.ParamSet.{params}
 use Rattle.slh_params.specs.Params.{len}
 use Rattle.slh_few.specs.Wots.{finished_chain, wots_pk_from_sig}
-use Rattle.slh_few.proofs.Sets.{last_step}
 use Rattle.slh_few.proofs.Chains.{finished_as}
 use Rattle.slh_few.proofs.Ends.{end_to_end-none, end_to_end-more}
 use Rattle.slh_few.proofs.wots.wots_pk_from_sig.Goals as goal
-
-pub overflow_cast-c : goal.overflow_cast-c
-overflow_cast-c c = omega (arith, c.len-c-end.ensures, len_small c.args.public.now.set)
-
-pub bounds-digits-c : goal.bounds-digits-c
-bounds-digits-c c = omega (arith, c.len-c-end.ensures, len_small c.args.public.now.set)
 
 pub loop-c-init : goal.loop-c-init
 loop-c-init c =
@@ -28,7 +20,7 @@ loop-c-preserved c =
     let b : c.loop-c.c < len p = omega (arith, c.len-c-end.ensures) in
     let x : c.run_chain-end.result.items ≡ finished_chain p pk c.args.at m c.args.sig.now c.loop-c.c =
     c.run_chain-end.ensures.value p pk c.new-seeded.ensures
-    ∙ finished_as p pk c.args.at m c.args.sig.now c.loop-c.c c.n-n.result _ _ (last_step c.args.public.now.set)
+    ∙ finished_as p pk c.args.at m c.args.sig.now c.loop-c.c c.n-n.result _ _ _ (ap (λ k. k - 1) c.w-last.ensures)
     c.node_at-node.ensures.value c.n-n.ensures (c.digits_of-digits.ensures.digits c.loop-c.c b) in
     rw (end_to_end-more (finished_chain p pk c.args.at m c.args.sig.now) c.loop-c.c, sym x) (c.absorb.ensures _ _ _ _ c.loop-c.invariant)
 

@@ -2,20 +2,11 @@
 use Rattle.std.proofs.Common.{◌≡◌, ◌*◌, ◌<◌, length, ap, sym, ◌∙◌, arith}
 use Rattle.slh_params.specs.ParamSet.{params}
 use Rattle.slh_params.specs.Params.{len}
-use Rattle.slh_params.proofs.Table.{len_small, n_small}
+use Rattle.slh_params.proofs.Bounds.{n_high}
 use Rattle.slh_few.specs.Wots.{chain, secret, signed_chain, wots_sig, wots_pk_from_sig}
 use Rattle.slh_few.proofs.Ends.{end_to_end-none, writes-more, part_fits, written_all}
 use Rattle.slh_few.proofs.WotsLaw.{wots_pk_from_sig-wots_sig}
 use Rattle.slh_few.proofs.wots.wots_sign.Goals as goal
-
-pub overflow_cast-c : goal.overflow_cast-c
-overflow_cast-c c = omega (arith, c.len-c-end.ensures, len_small c.args.seeds.now.set)
-
-pub bounds-digits-c : goal.bounds-digits-c
-bounds-digits-c c = omega (arith, c.len-c-end.ensures, len_small c.args.seeds.now.set)
-
-pub run_secret-node-requires : goal.run_secret-node-requires
-run_secret-node-requires c = c.digits_of-digits.ensures.small c.loop-c.c (omega (arith, c.len-c-end.ensures))
 
 pub loop-c-init : goal.loop-c-init
 loop-c-init c = let e : 0 * (params c.args.seeds.now.set).n ≡ 0 = omega arith in rw e (sym (end_to_end-none _))
@@ -55,4 +46,4 @@ returns-clause-key c =
     let m = c.args.msg.now.items in
     let s : c.loop-c.out ≡ wots_sig p sk pk c.args.at m =
     unfold wots_sig in written_all (signed_chain p sk pk c.args.at m) (len p) p.n c.loop-c.c c.loop-c.out (omega (arith, c.len-c-end.ensures)) (omega (arith, c.requires.out)) c.loop-c.invariant in
-    ap (wots_pk_from_sig p pk c.args.at m) s ∙ wots_pk_from_sig-wots_sig p sk pk c.args.at m (n_small c.args.seeds.now.set)
+    ap (wots_pk_from_sig p pk c.args.at m) s ∙ wots_pk_from_sig-wots_sig p sk pk c.args.at m (n_high c.args.seeds.now.set)
