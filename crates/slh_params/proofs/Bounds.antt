@@ -1,56 +1,86 @@
 -- What holds of the numbers of every valid record: the bounds that lengths, counts and indices keep.
-use Rattle.std.proofs.Common.{◌≡◌, ℕ, zero, suc, ◌+◌, ◌-◌, ◌*◌, ◌/◌, ◌^◌, ◌<◌, ◌≤◌, ◌⊎◌, inl, inr, length, refl, lit<, lit≤, arith, ap, sym}
+use Rattle.std.proofs.Common.{◌≡◌, ℕ, zero, suc, ◌+◌, ◌-◌, ◌*◌, ◌/◌, ◌^◌, ◌<◌, ◌≤◌, ◌⊎◌, inl, inr, Bool, true, false, ◌&&◌, ◌||◌, ◌==◌, nat_le, IsTrue, length, refl, lit<, lit≤, arith, ap, sym}
 use Rattle.std.proofs.Math.Nat.{mul-le-mul, mul-le-mul_right, add_assoc, pow-le-pow_right}
 use Rattle.std.proofs.lemmas.Nat.{pow_pos}
 use native.Mathlib.Numerals.{unary_clauses}
 use Rattle.slh_params.specs.declared.param_set.ParamSet.{ParamSet}
-use Rattle.slh_params.specs.declared.param_set.ParamSet.TheVariants.{S128s, S128f, S192s, S192f, S256s, S256f}
 use Rattle.slh_params.specs.ParamSet.{params}
 use Rattle.slh_params.specs.Params.{Params, h, m, w, md_len, tree_len, leaf_len, len, len1, len2, sig_len, pk_len, sk_len}
-use Rattle.slh_params.specs.Valid.{IsValid}
+use Rattle.slh_params.specs.Valid.{IsValid, n_fits, lg_w_fits, hp_fits, d_fits, a_fits, k_fits}
 
--- the record of each set is valid
-pub valid : (s : ParamSet) → IsValid (params s)
+-- what the parts of a test say
+and_left : (b c : Bool) → IsTrue (b && c) → IsTrue b
+and_left true c h = refl
+and_left false c h = h
+
+and_right : (b c : Bool) → IsTrue (b && c) → IsTrue c
+and_right true c h = h
+and_right false c h = absurd cc
+
+le_of_test : {x y : ℕ} → IsTrue (nat_le x y) → x ≤ y
+le_of_test h = grind (arith, h)
+
+one_of : (x a b c : ℕ) → IsTrue (x == a || x == b || x == c) → (x ≡ a) ⊎ (x ≡ b) ⊎ (x ≡ c)
+one_of x a b c h = grind (arith, h)
+
+-- the record of a set is valid
+valid : (s : ParamSet) → IsValid (params s)
 unfolding params
-valid S128s = record { n = inl refl; lg_w = inr (inl refl); hp_low = lit≤ tt; hp_high = lit≤ tt; d_low = lit≤ tt; d_high = lit≤ tt; a_low = lit≤ tt; a_high = lit≤ tt; k_low = lit≤ tt; k_high = lit≤ tt }
-valid S128f = record { n = inl refl; lg_w = inr (inl refl); hp_low = lit≤ tt; hp_high = lit≤ tt; d_low = lit≤ tt; d_high = lit≤ tt; a_low = lit≤ tt; a_high = lit≤ tt; k_low = lit≤ tt; k_high = lit≤ tt }
-valid S192s = record { n = inr (inl refl); lg_w = inr (inl refl); hp_low = lit≤ tt; hp_high = lit≤ tt; d_low = lit≤ tt; d_high = lit≤ tt; a_low = lit≤ tt; a_high = lit≤ tt; k_low = lit≤ tt; k_high = lit≤ tt }
-valid S192f = record { n = inr (inl refl); lg_w = inr (inl refl); hp_low = lit≤ tt; hp_high = lit≤ tt; d_low = lit≤ tt; d_high = lit≤ tt; a_low = lit≤ tt; a_high = lit≤ tt; k_low = lit≤ tt; k_high = lit≤ tt }
-valid S256s = record { n = inr (inr refl); lg_w = inr (inl refl); hp_low = lit≤ tt; hp_high = lit≤ tt; d_low = lit≤ tt; d_high = lit≤ tt; a_low = lit≤ tt; a_high = lit≤ tt; k_low = lit≤ tt; k_high = lit≤ tt }
-valid S256f = record { n = inr (inr refl); lg_w = inr (inl refl); hp_low = lit≤ tt; hp_high = lit≤ tt; d_low = lit≤ tt; d_high = lit≤ tt; a_low = lit≤ tt; a_high = lit≤ tt; k_low = lit≤ tt; k_high = lit≤ tt }
+valid s = s.valid
+
+to_a : (s : ParamSet) → IsTrue (n_fits (params s) && lg_w_fits (params s) && hp_fits (params s) && d_fits (params s) && a_fits (params s))
+to_a s = and_left _ _ (valid s)
+
+to_d : (s : ParamSet) → IsTrue (n_fits (params s) && lg_w_fits (params s) && hp_fits (params s) && d_fits (params s))
+to_d s = and_left _ _ (to_a s)
+
+to_hp : (s : ParamSet) → IsTrue (n_fits (params s) && lg_w_fits (params s) && hp_fits (params s))
+to_hp s = and_left _ _ (to_d s)
+
+to_lg_w : (s : ParamSet) → IsTrue (n_fits (params s) && lg_w_fits (params s))
+to_lg_w s = and_left _ _ (to_hp s)
+
+pub n_cases : (s : ParamSet) → ((params s).n ≡ 16) ⊎ ((params s).n ≡ 24) ⊎ ((params s).n ≡ 32)
+n_cases s = one_of (params s).n 16 24 32 (and_left _ _ (to_lg_w s))
+
+pub lg_w_cases : (s : ParamSet) → ((params s).lg_w ≡ 2) ⊎ ((params s).lg_w ≡ 4) ⊎ ((params s).lg_w ≡ 8)
+lg_w_cases s = one_of (params s).lg_w 2 4 8 (and_right _ _ (to_lg_w s))
 
 pub n_low : (s : ParamSet) → 16 ≤ (params s).n
-n_low s = elim (valid s).n [ inl e ↦ omega (arith, e) | inr (inl e) ↦ omega (arith, e) | inr (inr e) ↦ omega (arith, e) ]
+n_low s = elim (n_cases s) [ inl e ↦ omega (arith, e) | inr (inl e) ↦ omega (arith, e) | inr (inr e) ↦ omega (arith, e) ]
 
 pub n_high : (s : ParamSet) → (params s).n ≤ 32
-n_high s = elim (valid s).n [ inl e ↦ omega (arith, e) | inr (inl e) ↦ omega (arith, e) | inr (inr e) ↦ omega (arith, e) ]
+n_high s = elim (n_cases s) [ inl e ↦ omega (arith, e) | inr (inl e) ↦ omega (arith, e) | inr (inr e) ↦ omega (arith, e) ]
 
 pub hp_low : (s : ParamSet) → 1 ≤ (params s).hp
-hp_low s = (valid s).hp_low
+hp_low s = le_of_test (and_left _ _ (and_right _ _ (to_hp s)))
 
 pub hp_high : (s : ParamSet) → (params s).hp ≤ 12
-hp_high s = (valid s).hp_high
+hp_high s = le_of_test (and_right _ _ (and_right _ _ (to_hp s)))
 
 pub d_low : (s : ParamSet) → 1 ≤ (params s).d
-d_low s = (valid s).d_low
+d_low s = le_of_test (and_left _ _ (and_right _ _ (to_d s)))
+
+pub below_top_high : (s : ParamSet) → (params s).hp * ((params s).d - 1) ≤ 64
+below_top_high s = le_of_test (and_right _ _ (and_right _ _ (to_d s)))
 
 -- fewer layers than 66, since each is at least one level high
 pub d_high : (s : ParamSet) → (params s).d ≤ 65
 d_high s =
-    let up : 1 * ((params s).d - 1) ≤ (params s).hp * ((params s).d - 1) = mul-le-mul_right ((params s).d - 1) (valid s).hp_low in
-    omega (arith, up, (valid s).d_high)
+    let up : 1 * ((params s).d - 1) ≤ (params s).hp * ((params s).d - 1) = mul-le-mul_right ((params s).d - 1) (hp_low s) in
+    omega (arith, up, below_top_high s)
 
 pub a_low : (s : ParamSet) → 1 ≤ (params s).a
-a_low s = (valid s).a_low
+a_low s = le_of_test (and_left _ _ (and_right _ _ (to_a s)))
 
 pub a_high : (s : ParamSet) → (params s).a ≤ 14
-a_high s = (valid s).a_high
+a_high s = le_of_test (and_right _ _ (and_right _ _ (to_a s)))
 
 pub k_low : (s : ParamSet) → 1 ≤ (params s).k
-k_low s = (valid s).k_low
+k_low s = le_of_test (and_left _ _ (and_right _ _ (valid s)))
 
 pub k_high : (s : ParamSet) → (params s).k ≤ 64
-k_high s = (valid s).k_high
+k_high s = le_of_test (and_right _ _ (and_right _ _ (valid s)))
 
 -- a product by d is one by d - 1 and one more
 below_top : (x d : ℕ) → 1 ≤ d → x * d ≡ x * (d - 1) + x
@@ -62,10 +92,10 @@ pub h_below_top : (s : ParamSet) → h (params s) - (params s).hp ≡ (params s)
 h_below_top s = omega (arith, below_top (params s).hp (params s).d (d_low s))
 
 pub h_below_top_high : (s : ParamSet) → h (params s) - (params s).hp ≤ 64
-h_below_top_high s = omega (arith, h_below_top s, (valid s).d_high)
+h_below_top_high s = omega (arith, h_below_top s, below_top_high s)
 
 pub h_high : (s : ParamSet) → h (params s) ≤ 76
-h_high s = omega (arith, below_top (params s).hp (params s).d (d_low s), (valid s).d_high, hp_high s)
+h_high s = omega (arith, below_top (params s).hp (params s).d (d_low s), below_top_high s, hp_high s)
 
 pub hp_at_most_h : (s : ParamSet) → (params s).hp ≤ h (params s)
 hp_at_most_h s = omega (arith, below_top (params s).hp (params s).d (d_low s))
@@ -93,26 +123,26 @@ pub m_high : (s : ParamSet) → m (params s) ≤ 122
 m_high s = omega (arith, md_len_high s, tree_len_high s, leaf_len_high s)
 
 pub lg_w_low : (s : ParamSet) → 2 ≤ (params s).lg_w
-lg_w_low s = elim (valid s).lg_w [ inl e ↦ omega (arith, e) | inr (inl e) ↦ omega (arith, e) | inr (inr e) ↦ omega (arith, e) ]
+lg_w_low s = elim (lg_w_cases s) [ inl e ↦ omega (arith, e) | inr (inl e) ↦ omega (arith, e) | inr (inr e) ↦ omega (arith, e) ]
 
 pub lg_w_high : (s : ParamSet) → (params s).lg_w ≤ 8
-lg_w_high s = elim (valid s).lg_w [ inl e ↦ omega (arith, e) | inr (inl e) ↦ omega (arith, e) | inr (inr e) ↦ omega (arith, e) ]
+lg_w_high s = elim (lg_w_cases s) [ inl e ↦ omega (arith, e) | inr (inl e) ↦ omega (arith, e) | inr (inr e) ↦ omega (arith, e) ]
 
 pub w_low : (s : ParamSet) → 4 ≤ w (params s)
-w_low s = elim (valid s).lg_w [ inl e ↦ rw e (lit≤ tt) | inr (inl e) ↦ rw e (lit≤ tt) | inr (inr e) ↦ rw e (lit≤ tt) ]
+w_low s = elim (lg_w_cases s) [ inl e ↦ rw e (lit≤ tt) | inr (inl e) ↦ rw e (lit≤ tt) | inr (inr e) ↦ rw e (lit≤ tt) ]
 
 pub w_high : (s : ParamSet) → w (params s) ≤ 256
-w_high s = elim (valid s).lg_w [ inl e ↦ rw e (lit≤ tt) | inr (inl e) ↦ rw e (lit≤ tt) | inr (inr e) ↦ rw e (lit≤ tt) ]
+w_high s = elim (lg_w_cases s) [ inl e ↦ rw e (lit≤ tt) | inr (inl e) ↦ rw e (lit≤ tt) | inr (inr e) ↦ rw e (lit≤ tt) ]
 
 -- the digits fill the message's bits exactly
 pub len1_exact : (s : ParamSet) → len1 (params s) * (params s).lg_w ≡ 8 * (params s).n
-len1_exact s = elim (valid s).lg_w [ inl e ↦ rw e (omega arith) | inr (inl e) ↦ rw e (omega arith) | inr (inr e) ↦ rw e (omega arith) ]
+len1_exact s = elim (lg_w_cases s) [ inl e ↦ rw e (omega arith) | inr (inl e) ↦ rw e (omega arith) | inr (inr e) ↦ rw e (omega arith) ]
 
 pub len1_high : (s : ParamSet) → len1 (params s) ≤ 128
-len1_high s = elim (valid s).lg_w [ inl e ↦ rw e (omega (arith, n_high s)) | inr (inl e) ↦ rw e (omega (arith, n_high s)) | inr (inr e) ↦ rw e (omega (arith, n_high s)) ]
+len1_high s = elim (lg_w_cases s) [ inl e ↦ rw e (omega (arith, n_high s)) | inr (inl e) ↦ rw e (omega (arith, n_high s)) | inr (inr e) ↦ rw e (omega (arith, n_high s)) ]
 
 pub len1_low : (s : ParamSet) → 16 ≤ len1 (params s)
-len1_low s = elim (valid s).lg_w [ inl e ↦ rw e (omega (arith, n_low s)) | inr (inl e) ↦ rw e (omega (arith, n_low s)) | inr (inr e) ↦ rw e (omega (arith, n_low s)) ]
+len1_low s = elim (lg_w_cases s) [ inl e ↦ rw e (omega (arith, n_low s)) | inr (inl e) ↦ rw e (omega (arith, n_low s)) | inr (inr e) ↦ rw e (omega (arith, n_low s)) ]
 
 -- the chains follow from n and lg_w alone
 len_of : ℕ → ℕ → ℕ
@@ -136,7 +166,7 @@ len_of_high n lg_w (inr (inr e)) (inr (inl f)) = rw (e, f) (lit≤ tt)
 len_of_high n lg_w (inr (inr e)) (inr (inr f)) = rw (e, f) (lit≤ tt)
 
 pub len_high : (s : ParamSet) → len (params s) ≤ 133
-len_high s = rw (len_is (params s)) (len_of_high (params s).n (params s).lg_w (valid s).n (valid s).lg_w)
+len_high s = rw (len_is (params s)) (len_of_high (params s).n (params s).lg_w (n_cases s) (lg_w_cases s))
 
 pub len_sum_high : (s : ParamSet) → len1 (params s) + len2 (params s) ≤ 133
 unfolding len

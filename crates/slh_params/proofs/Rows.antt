@@ -4,7 +4,7 @@ use Rattle.slh_params.specs.Bits.{base_2b, to_int, to_byte}
 use Rattle.slh_params.specs.Params.{m, len, sig_len, tree_len}
 use Rattle.slh_params.specs.ParamSet.{params}
 use Rattle.slh_params.specs.Address.{address, full, compressed}
-use Rattle.slh_params.specs.declared.param_set.ParamSet.TheVariants.{S128f, S192f, S256s}
+use Rattle.slh_params.specs.ParamSet.{S128f, S192f, S256s}
 
 four : base_2b (0x12 ∷ 0x34 ∷ 0xab ∷ []) 4 6 ≡ 1 ∷ 2 ∷ 3 ∷ 4 ∷ 10 ∷ 11 ∷ []
 unfolding base_2b

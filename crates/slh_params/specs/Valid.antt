@@ -1,16 +1,26 @@
 -- Which parameter records are valid: ours. The bounds keep every length below a machine word and every tree within 64 bits of index.
-use Rattle.std.specs.Prelude.{ℕ, ◌-◌, ◌*◌, ◌≤◌, ◌≡◌, ◌⊎◌}
+use Rattle.std.specs.Prelude.{ℕ, ◌-◌, ◌*◌, ◌==◌, ◌&&◌, ◌||◌, nat_le, Bool, IsTrue}
 use Rattle.slh_params.specs.Params.{Params}
 
--- the six numbers are within their bounds
-pub record IsValid (p : Params) : Type 0 where
-  pub n : (p.n ≡ 16) ⊎ (p.n ≡ 24) ⊎ (p.n ≡ 32)
-  pub lg_w : (p.lg_w ≡ 2) ⊎ (p.lg_w ≡ 4) ⊎ (p.lg_w ≡ 8)
-  pub hp_low : 1 ≤ p.hp
-  pub hp_high : p.hp ≤ 12
-  pub d_low : 1 ≤ p.d
-  pub d_high : p.hp * (p.d - 1) ≤ 64
-  pub a_low : 1 ≤ p.a
-  pub a_high : p.a ≤ 14
-  pub k_low : 1 ≤ p.k
-  pub k_high : p.k ≤ 64
+-- the bounds of each member
+abbrev pub n_fits : Params → Bool
+n_fits p = p.n == 16 || p.n == 24 || p.n == 32
+
+abbrev pub lg_w_fits : Params → Bool
+lg_w_fits p = p.lg_w == 2 || p.lg_w == 4 || p.lg_w == 8
+
+abbrev pub hp_fits : Params → Bool
+hp_fits p = nat_le 1 p.hp && nat_le p.hp 12
+
+abbrev pub d_fits : Params → Bool
+d_fits p = nat_le 1 p.d && nat_le (p.hp * (p.d - 1)) 64
+
+abbrev pub a_fits : Params → Bool
+a_fits p = nat_le 1 p.a && nat_le p.a 14
+
+abbrev pub k_fits : Params → Bool
+k_fits p = nat_le 1 p.k && nat_le p.k 64
+
+-- the record is valid
+abbrev pub IsValid : Params → Type 0
+IsValid p = IsTrue (n_fits p && lg_w_fits p && hp_fits p && d_fits p && a_fits p && k_fits p)

@@ -1,254 +1,41 @@
-//! The six parameter sets (FIPS 205, section 11).
-ghost use Rattle.std.specs.Prelude.{◌≡◌, ◌≤◌, ◌<◌, IsNone, IfSome, length};
-ghost use Rattle.std.specs.Int.Digits.{digits_of};
-ghost use Rattle.slh_params.specs.ParamSet.{params, name, sets, set_named};
-ghost use Rattle.slh_params.specs.Params.{h, m, w, md_len, tree_len, leaf_len, len, len1, len2, pk_len, sk_len, sig_len};
+//! Parameter sets (FIPS 205, section 11): the six of the standard, and free ones.
+ghost use Rattle.std.proofs.Props.{props};
+ghost use Rattle.slh_params.specs.Valid.{IsValid};
 
-/// A parameter set of SLH-DSA with SHA-2 (FIPS 205, section 11, Table 2).
+mod names;
+mod numbers;
+
+/// A parameter set of SLH-DSA with SHA-2: six numbers from which all others follow.
 ///
-/// The letter after the size tells the sets with small signatures from those that sign fast.
+/// The constants are the sets of the standard (FIPS 205, section 11, Table 2); the letter after the size tells the sets
+/// with small signatures from those that sign fast.
 #[derive(Clone, Copy, PartialEq, Eq, Debug)]
-pub enum ParamSet {
-    /// SLH-DSA-SHA2-128s.
-    S128s,
-    /// SLH-DSA-SHA2-128f.
-    S128f,
-    /// SLH-DSA-SHA2-192s.
-    S192s,
-    /// SLH-DSA-SHA2-192f.
-    S192f,
-    /// SLH-DSA-SHA2-256s.
-    S256s,
-    /// SLH-DSA-SHA2-256f.
-    S256f,
+pub struct ParamSet {
+    n: u32,
+    lg_w: u32,
+    hp: u32,
+    d: u32,
+    a: u32,
+    k: u32,
+    ghost valid: { IsValid (record { n = n; lg_w = lg_w; hp = hp; d = d; a = a; k = k }) } by { Prim.hlevel props },
 }
 
 impl ParamSet {
-    /// The sets, in the order of the standard's table.
-    pub const ALL: [ParamSet; 6] = [
-        ParamSet::S128s,
-        ParamSet::S128f,
-        ParamSet::S192s,
-        ParamSet::S192f,
-        ParamSet::S256s,
-        ParamSet::S256f,
-    ];
+    /// SLH-DSA-SHA2-128s.
+    pub const S128s: ParamSet = ParamSet { n: 16, lg_w: 4, hp: 9, d: 7, a: 12, k: 14 };
 
-    /// The law that `ALL` lists the six sets in the order of the standard's table. It does nothing: the law is its
-    /// contract.
-    pub fn all_are_listed_in_order()
-        ensures { ParamSet.ALL ≡ sets }
-    {}
+    /// SLH-DSA-SHA2-128f.
+    pub const S128f: ParamSet = ParamSet { n: 16, lg_w: 4, hp: 3, d: 22, a: 6, k: 33 };
 
-    /// n: the length of a hash value in bytes.
-    #[tactic(auto, unfolding(crate::specs::ParamSet::params))]
-    pub fn n(&self) -> usize
-        ensures { result ≡ (params self.now).n }
-    {
-        match self {
-            ParamSet::S128s | ParamSet::S128f => 16,
-            ParamSet::S192s | ParamSet::S192f => 24,
-            ParamSet::S256s | ParamSet::S256f => 32,
-        }
-    }
+    /// SLH-DSA-SHA2-192s.
+    pub const S192s: ParamSet = ParamSet { n: 24, lg_w: 4, hp: 9, d: 7, a: 14, k: 17 };
 
-    /// lg_w: the bits of a digit of a WOTS+ key; its chains have 2^lg_w values.
-    #[tactic(auto, unfolding(crate::specs::ParamSet::params))]
-    pub fn lg_w(&self) -> u32
-        ensures { result ≡ (params self.now).lg_w }
-    {
-        4
-    }
+    /// SLH-DSA-SHA2-192f.
+    pub const S192f: ParamSet = ParamSet { n: 24, lg_w: 4, hp: 3, d: 22, a: 8, k: 33 };
 
-    /// h': the height of an XMSS tree.
-    #[tactic(auto, unfolding(crate::specs::ParamSet::params))]
-    pub fn hp(&self) -> u32
-        ensures { result ≡ (params self.now).hp }
-    {
-        match self {
-            ParamSet::S128s | ParamSet::S192s => 9,
-            ParamSet::S128f | ParamSet::S192f => 3,
-            ParamSet::S256s => 8,
-            ParamSet::S256f => 4,
-        }
-    }
+    /// SLH-DSA-SHA2-256s.
+    pub const S256s: ParamSet = ParamSet { n: 32, lg_w: 4, hp: 8, d: 8, a: 14, k: 22 };
 
-    /// d: the layers of the hypertree.
-    #[tactic(auto, unfolding(crate::specs::ParamSet::params))]
-    pub fn d(&self) -> u32
-        ensures { result ≡ (params self.now).d }
-    {
-        match self {
-            ParamSet::S128s | ParamSet::S192s => 7,
-            ParamSet::S128f | ParamSet::S192f => 22,
-            ParamSet::S256s => 8,
-            ParamSet::S256f => 17,
-        }
-    }
-
-    /// a: the height of a FORS tree.
-    #[tactic(auto, unfolding(crate::specs::ParamSet::params))]
-    pub fn a(&self) -> u32
-        ensures { result ≡ (params self.now).a }
-    {
-        match self {
-            ParamSet::S128s => 12,
-            ParamSet::S128f => 6,
-            ParamSet::S192s => 14,
-            ParamSet::S192f => 8,
-            ParamSet::S256s => 14,
-            ParamSet::S256f => 9,
-        }
-    }
-
-    /// k: the number of FORS trees.
-    #[tactic(auto, unfolding(crate::specs::ParamSet::params))]
-    pub fn k(&self) -> u32
-        ensures { result ≡ (params self.now).k }
-    {
-        match self {
-            ParamSet::S128s => 14,
-            ParamSet::S128f => 33,
-            ParamSet::S192s => 17,
-            ParamSet::S192f => 33,
-            ParamSet::S256s => 22,
-            ParamSet::S256f => 35,
-        }
-    }
-
-    /// h: the height of the hypertree, all layers together.
-    pub fn h(&self) -> u32
-        ensures { result ≡ h (params self.now) }
-    {
-        self.hp() * self.d()
-    }
-
-    /// The bytes of a message digest that FORS signs.
-    pub fn md_len(&self) -> usize
-        ensures { result ≡ md_len (params self.now) }
-    {
-        (self.k() as usize * self.a() as usize).div_ceil(8)
-    }
-
-    /// The bytes of a message digest that choose the tree.
-    pub fn tree_len(&self) -> usize
-        ensures { result ≡ tree_len (params self.now) }
-    {
-        ((self.h() - self.hp()) as usize).div_ceil(8)
-    }
-
-    /// The bytes of a message digest that choose the leaf.
-    pub fn leaf_len(&self) -> usize
-        ensures { result ≡ leaf_len (params self.now) }
-    {
-        (self.hp() as usize).div_ceil(8)
-    }
-
-    /// m: the length of a message digest in bytes.
-    pub fn m(&self) -> usize
-        ensures { result ≡ m (params self.now) }
-    {
-        self.md_len() + self.tree_len() + self.leaf_len()
-    }
-
-    /// w: the values of a chain of a WOTS+ key.
-    pub fn w(&self) -> u32
-        ensures { result ≡ w (params self.now) }
-    {
-        1 << self.lg_w()
-    }
-
-    /// len_1: the digits of a message that a WOTS+ key signs.
-    pub fn len1(&self) -> usize
-        ensures { result ≡ len1 (params self.now) }
-    {
-        (8 * self.n()).div_ceil(self.lg_w() as usize)
-    }
-
-    /// len_2: the digits of the checksum (FIPS 205, section 5, Algorithm 1).
-    pub fn len2(&self) -> usize
-        ensures { result ≡ len2 (params self.now) }
-    {
-        digit_count(self.len1() as u32 * (self.w() - 1), self.w())
-    }
-
-    /// len: the chains of a WOTS+ key, one for each digit of the message and of the checksum.
-    #[tactic(auto, unfolding(crate::specs::Params::len))]
-    pub fn len(&self) -> usize
-        ensures { result ≡ len (params self.now) }
-    {
-        self.len1() + self.len2()
-    }
-
-    /// The length of a public key in bytes.
-    pub fn pk_len(&self) -> usize
-        ensures { result ≡ pk_len (params self.now) }
-    {
-        self.n() + self.n()
-    }
-
-    /// The length of a secret key in bytes.
-    pub fn sk_len(&self) -> usize
-        ensures { result ≡ sk_len (params self.now) }
-    {
-        4 * self.n()
-    }
-
-    /// The length of a signature in bytes.
-    pub fn sig_len(&self) -> usize
-        ensures { result ≡ sig_len (params self.now) }
-    {
-        let fors = self.k() as usize * (1 + self.a() as usize);
-        let tree = self.h() as usize + self.d() as usize * self.len();
-        (1 + fors + tree) * self.n()
-    }
-
-    /// The name of the set in the standard.
-    pub fn name(&self) -> &'static str
-        ensures { result.now ≡ name self.now }
-    {
-        match self {
-            ParamSet::S128s => "SLH-DSA-SHA2-128s",
-            ParamSet::S128f => "SLH-DSA-SHA2-128f",
-            ParamSet::S192s => "SLH-DSA-SHA2-192s",
-            ParamSet::S192f => "SLH-DSA-SHA2-192f",
-            ParamSet::S256s => "SLH-DSA-SHA2-256s",
-            ParamSet::S256f => "SLH-DSA-SHA2-256f",
-        }
-    }
-
-    /// The set of this name; `None` where the text is no name of a set. Letter case counts.
-    #[tactic(auto, unfolding(crate::specs::ParamSet::set_named))]
-    pub fn from_name(text: &str) -> Option<ParamSet>
-        ensures named { result ≡ set_named text.now }
-        ensures none { IsNone result → (set : ParamSet) → name set ≡ text.now → ⊥ }
-        ensures some { IfSome result (λ set. name set ≡ text.now) }
-    {
-        match text {
-            "SLH-DSA-SHA2-128s" => Some(ParamSet::S128s),
-            "SLH-DSA-SHA2-128f" => Some(ParamSet::S128f),
-            "SLH-DSA-SHA2-192s" => Some(ParamSet::S192s),
-            "SLH-DSA-SHA2-192f" => Some(ParamSet::S192f),
-            "SLH-DSA-SHA2-256s" => Some(ParamSet::S256s),
-            "SLH-DSA-SHA2-256f" => Some(ParamSet::S256f),
-            _ => None,
-        }
-    }
-}
-
-/// The digits that a number has in a base.
-fn digit_count(number: u32, base: u32) -> usize
-    requires base { 2 ≤ base }
-    requires small { base ≤ 256 }
-    requires some { 1 ≤ number }
-    requires few { number < 16777216 }
-    ensures { result ≡ length (digits_of base number) }
-{
-    let mut count = 1;
-    let mut capacity = base;
-    while capacity <= number {
-        count += 1;
-        capacity *= base;
-    }
-    count
+    /// SLH-DSA-SHA2-256f.
+    pub const S256f: ParamSet = ParamSet { n: 32, lg_w: 4, hp: 4, d: 17, a: 9, k: 35 };
 }

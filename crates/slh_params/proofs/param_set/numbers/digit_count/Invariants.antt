@@ -1,5 +1,5 @@
 use Rattle.std.proofs.Common.{◌≡◌, ◌≤◌, ◌-◌, ◌+◌, ◌^◌}
-use Rattle.slh_params.proofs.param_set.digit_count.Given as goal
+use Rattle.slh_params.proofs.param_set.numbers.digit_count.Given as goal
 
 abbrev pub invariant-loop-capacity : goal.invariant-loop-capacity
 invariant-loop-capacity l = record {

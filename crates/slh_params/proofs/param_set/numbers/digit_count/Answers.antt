@@ -1,6 +1,6 @@
 use Rattle.std.proofs.Common.{arith}
 use Rattle.slh_params.proofs.Count.{pow_one, pow_none, digit_count_done}
-use Rattle.slh_params.proofs.param_set.digit_count.Goals as goal
+use Rattle.slh_params.proofs.param_set.numbers.digit_count.Goals as goal
 
 pub loop-capacity-init : goal.loop-capacity-init
 loop-capacity-init c = record {

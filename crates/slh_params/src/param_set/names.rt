@@ -1,0 +1,81 @@
+//! The names of the standard's parameter sets (FIPS 205, section 11, Table 2).
+ghost use Rattle.std.specs.Prelude.{◌≡◌, ◌↔◌, IsNone, IfSome, IsTrue};
+ghost use Rattle.slh_params.specs.ParamSet.{IsStandard, is_standard, is, name, sets, set_named};
+
+use super::ParamSet;
+
+impl ParamSet {
+    /// The sets of the standard, in the order of its table.
+    pub fn all() -> [ParamSet; 6]
+        ensures { result ≡ sets }
+    {
+        [
+            ParamSet::S128s,
+            ParamSet::S128f,
+            ParamSet::S192s,
+            ParamSet::S192f,
+            ParamSet::S256s,
+            ParamSet::S256f,
+        ]
+    }
+
+    /// Whether the sets have the same numbers.
+    #[tactic(auto, unfolding(crate::specs::ParamSet::is))]
+    fn is(&self, other: &ParamSet) -> bool
+        ensures { result ≡ is self.now other.now }
+    {
+        self.n == other.n
+            && self.lg_w == other.lg_w
+            && self.hp == other.hp
+            && self.d == other.d
+            && self.a == other.a
+            && self.k == other.k
+    }
+
+    /// Whether this is one of the six sets of the standard.
+    pub fn is_fips_205(&self) -> bool
+        ensures { result ≡ is_standard self.now }
+    {
+        self.name() != "custom"
+    }
+
+    /// The name of the set in the standard, or `custom`.
+    #[tactic(auto, unfolding(crate::specs::ParamSet::name))]
+    pub fn name(&self) -> &'static str
+        ensures { result.now ≡ name self.now }
+    {
+        if self.is(&ParamSet::S128s) {
+            "SLH-DSA-SHA2-128s"
+        } else if self.is(&ParamSet::S128f) {
+            "SLH-DSA-SHA2-128f"
+        } else if self.is(&ParamSet::S192s) {
+            "SLH-DSA-SHA2-192s"
+        } else if self.is(&ParamSet::S192f) {
+            "SLH-DSA-SHA2-192f"
+        } else if self.is(&ParamSet::S256s) {
+            "SLH-DSA-SHA2-256s"
+        } else if self.is(&ParamSet::S256f) {
+            "SLH-DSA-SHA2-256f"
+        } else {
+            "custom"
+        }
+    }
+
+    /// The set of this name; `None` where the text is no name of a set. Letter case counts.
+    #[tactic(auto, unfolding(crate::specs::ParamSet::is_standard, crate::specs::ParamSet::name, crate::specs::ParamSet::is))]
+    pub fn from_name(text: &str) -> Option<ParamSet>
+        ensures named { result ≡ set_named text.now }
+        ensures none { IsNone result → (set : ParamSet) → IsStandard set → name set ≡ text.now → ⊥ }
+        ensures some { IfSome result (λ set. IsStandard set × name set ≡ text.now) }
+    {
+        match text {
+            "SLH-DSA-SHA2-128s" => Some(ParamSet::S128s),
+            "SLH-DSA-SHA2-128f" => Some(ParamSet::S128f),
+            "SLH-DSA-SHA2-192s" => Some(ParamSet::S192s),
+            "SLH-DSA-SHA2-192f" => Some(ParamSet::S192f),
+            "SLH-DSA-SHA2-256s" => Some(ParamSet::S256s),
+            "SLH-DSA-SHA2-256f" => Some(ParamSet::S256f),
+            _ => None,
+        }
+    }
+}
