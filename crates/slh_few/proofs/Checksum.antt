@@ -11,7 +11,7 @@ use Rattle.std.proofs.Math.Nat.{pow-zero, pow-le-pow_right, mul-le-mul}
 use Rattle.slh_params.specs.declared.param_set.ParamSet.{ParamSet}
 use Rattle.slh_params.specs.ParamSet.{params}
 use Rattle.slh_params.specs.Params.{Params, w, len1, len2, ceil_div}
-use Rattle.slh_params.proofs.Bounds.{valid, n_high, len_high, len1_high, len_sum_high, lg_w_low, lg_w_high, w_low, w_high}
+use Rattle.slh_params.proofs.Bounds.{n_cases, lg_w_cases, n_high, len_high, len1_high, len_sum_high, lg_w_low, lg_w_high, w_low, w_high}
 use Rattle.slh_few.specs.Wots.{checksum_shift}
 
 -- a power of a power of two
@@ -51,7 +51,7 @@ bits_high p (inr (inr e)) (inr (inl f)) = rw (e, f) (lit≤ tt)
 bits_high p (inr (inr e)) (inr (inr f)) = rw (e, f) (lit≤ tt)
 
 pub checksum_bits_high : (s : ParamSet) → len2 (params s) * (params s).lg_w ≤ 16
-checksum_bits_high s = bits_high (params s) (valid s).n (valid s).lg_w
+checksum_bits_high s = bits_high (params s) (n_cases s) (lg_w_cases s)
 
 -- the bytes, counted as a program rounds up
 whole_bytes : (x : ℕ) → div_ceil x 8 ≡ ceil_div x 8

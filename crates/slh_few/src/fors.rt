@@ -41,6 +41,7 @@ fn sign_tree(seeded_tree: &SeededForsTree, i: u32, out: &mut [u8])
 }
 
 /// Writes the secret of leaf `i`, then the leaf's path, from `start` on.
+#[tactic(auto)]
 fn put_tree(seeded_tree: &SeededForsTree, i: u32, out: &mut [u8], start: usize)
     requires leaf { i < 2 ^ (params seeded_tree.now.tree.seeds.set).a }
     requires out { start + fors_part_len (params seeded_tree.now.tree.seeds.set) ≤ length out.old }

@@ -4,8 +4,7 @@ use Rattle.std.proofs.lemmas.List.{length-replicate}
 use Rattle.slh_params.specs.Address.{Address, compressed}
 use Rattle.slh_params.specs.Bits.{to_byte}
 use Rattle.slh_params.specs.Params.{Params}
-use Rattle.slh_params.specs.ParamSet.{params}
-use Rattle.slh_params.specs.declared.param_set.ParamSet.TheVariants.{S128s, S128f, S192s, S192f, S256f}
+use Rattle.slh_params.specs.ParamSet.{params, S128s, S128f, S192s, S192f, S256f}
 use Rattle.slh_hash.specs.Hash.{tweaked}
 use Rattle.slh_hash.specs.HashFunctions.{category_function}
 use Rattle.slh_hash.proofs.Zeros.{to_byte-zero}

@@ -11,11 +11,11 @@ digit_count_is b n k h low high =
     let up : length (digits_of b n) ≤ suc k = length-digits_of-le b (suc k) n h high in
     let lt : n < b ^ length (digits_of b n) = rw (number_digits_of b n h) at (number_lt b (digits_of b n) (all_below_base_digits_of b n h)) in
     elim (cases_lt (length (digits_of b n)) (suc k)) [
-      inl l ↦
-        let m : length (digits_of b n) ≤ k = omega arith in
-        let p : b ^ length (digits_of b n) ≤ b ^ k = pow-le-pow_right {n = b} (omega arith) m in
-        absurd (omega (arith, p, lt, low))
-    | inr g ↦ omega arith
+      | inl l ↦
+          let m : length (digits_of b n) ≤ k = omega arith in
+          let p : b ^ length (digits_of b n) ≤ b ^ k = pow-le-pow_right {n = b} (omega arith) m in
+          absurd (omega (arith, p, lt, low))
+      | inr g ↦ omega arith
     ]
 
 pub pow_one : (b : ℕ) → b ≡ b ^ 1

@@ -33,17 +33,23 @@ standard_cases P a b c d e f set h = five (is set S128s || is set S128f || is se
   where
     at : (t : ParamSet) → P t → IsTrue (is set t) → P set
     at t p e = subst P (sym (is-same set t e)) p
+
     one : (x y : Bool) → (IsTrue x → P set) → (IsTrue y → P set) → IsTrue (x || y) → P set
     one true y f g h = f refl
     one false y f g h = g h
+
     two : IsTrue (is set S128s || is set S128f) → P set
     two = one _ _ (at S128s a) (at S128f b)
+
     three : IsTrue (is set S128s || is set S128f || is set S192s) → P set
     three = one _ _ two (at S192s c)
+
     four : IsTrue (is set S128s || is set S128f || is set S192s || is set S192f) → P set
     four = one _ _ three (at S192f d)
+
     most : IsTrue (is set S128s || is set S128f || is set S192s || is set S192f || is set S256s) → P set
     most = one _ _ four (at S256s e)
+
     five : (x y : Bool) → IsTrue (is set S128s || is set S128f || is set S192s || is set S192f || is set S256s || is set S256f) → P set
     five x y = one _ _ most (at S256f f)
 

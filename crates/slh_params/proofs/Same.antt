@@ -19,18 +19,25 @@ same_numbers s t en el eh ed ea ek = step6 t.valid
   where
     Same : ℕ → ℕ → ℕ → ℕ → ℕ → ℕ → Type 0
     Same n l h d a k = (v : IsValid (numbers n l h d a k)) → set_of s.n s.lg_w s.hp s.d s.a s.k s.valid ≡ set_of n l h d a k v
+
     step0 : Same s.n s.lg_w s.hp s.d s.a s.k
     step0 v = ap (set_of s.n s.lg_w s.hp s.d s.a s.k) (Bool-set _ _ s.valid v)
+
     step1 : Same t.n s.lg_w s.hp s.d s.a s.k
     step1 = subst (λ x. Same x s.lg_w s.hp s.d s.a s.k) en step0
+
     step2 : Same t.n t.lg_w s.hp s.d s.a s.k
     step2 = subst (λ x. Same t.n x s.hp s.d s.a s.k) el step1
+
     step3 : Same t.n t.lg_w t.hp s.d s.a s.k
     step3 = subst (λ x. Same t.n t.lg_w x s.d s.a s.k) eh step2
+
     step4 : Same t.n t.lg_w t.hp t.d s.a s.k
     step4 = subst (λ x. Same t.n t.lg_w t.hp x s.a s.k) ed step3
+
     step5 : Same t.n t.lg_w t.hp t.d t.a s.k
     step5 = subst (λ x. Same t.n t.lg_w t.hp t.d x s.k) ea step4
+
     step6 : Same t.n t.lg_w t.hp t.d t.a t.k
     step6 = subst (λ x. Same t.n t.lg_w t.hp t.d t.a x) ek step5
 

@@ -22,20 +22,62 @@ pub struct ParamSet {
 
 impl ParamSet {
     /// SLH-DSA-SHA2-128s.
-    pub const S128s: ParamSet = ParamSet { n: 16, lg_w: 4, hp: 9, d: 7, a: 12, k: 14 };
+    pub const S128s: ParamSet = ParamSet {
+        n: 16,
+        lg_w: 4,
+        hp: 9,
+        d: 7,
+        a: 12,
+        k: 14,
+    };
 
     /// SLH-DSA-SHA2-128f.
-    pub const S128f: ParamSet = ParamSet { n: 16, lg_w: 4, hp: 3, d: 22, a: 6, k: 33 };
+    pub const S128f: ParamSet = ParamSet {
+        n: 16,
+        lg_w: 4,
+        hp: 3,
+        d: 22,
+        a: 6,
+        k: 33,
+    };
 
     /// SLH-DSA-SHA2-192s.
-    pub const S192s: ParamSet = ParamSet { n: 24, lg_w: 4, hp: 9, d: 7, a: 14, k: 17 };
+    pub const S192s: ParamSet = ParamSet {
+        n: 24,
+        lg_w: 4,
+        hp: 9,
+        d: 7,
+        a: 14,
+        k: 17,
+    };
 
     /// SLH-DSA-SHA2-192f.
-    pub const S192f: ParamSet = ParamSet { n: 24, lg_w: 4, hp: 3, d: 22, a: 8, k: 33 };
+    pub const S192f: ParamSet = ParamSet {
+        n: 24,
+        lg_w: 4,
+        hp: 3,
+        d: 22,
+        a: 8,
+        k: 33,
+    };
 
     /// SLH-DSA-SHA2-256s.
-    pub const S256s: ParamSet = ParamSet { n: 32, lg_w: 4, hp: 8, d: 8, a: 14, k: 22 };
+    pub const S256s: ParamSet = ParamSet {
+        n: 32,
+        lg_w: 4,
+        hp: 8,
+        d: 8,
+        a: 14,
+        k: 22,
+    };
 
     /// SLH-DSA-SHA2-256f.
-    pub const S256f: ParamSet = ParamSet { n: 32, lg_w: 4, hp: 4, d: 17, a: 9, k: 35 };
+    pub const S256f: ParamSet = ParamSet {
+        n: 32,
+        lg_w: 4,
+        hp: 4,
+        d: 17,
+        a: 9,
+        k: 35,
+    };
 }

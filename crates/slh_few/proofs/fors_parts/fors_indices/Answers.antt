@@ -26,5 +26,5 @@ returns-clause-indices c = λ j l.
     let few : c.k-count.result ≤ 64 = omega (arith, c.k-count.ensures, k_high c.args.set) in
     let s : length c.base_2b.new.out ≡ c.k-count.result = ap length c.base_2b.ensures ∙ length-base_2b c.args.md.now _ _ ∙ length-take-le c.k-count.result _ few in
     let e : c.base_2b.new.out ≡ base_2b c.args.md.now p.a p.k =
-        c.base_2b.ensures ∙ rw (length-take-le c.k-count.result _ few, c.a.ensures, c.k-count.ensures) refl in
+    c.base_2b.ensures ∙ rw (length-take-le c.k-count.result _ few, c.a.ensures, c.k-count.ensures) refl in
     get_or-append c.base_2b.new.out _ 0 j (omega (arith, s, c.k-count.ensures, l)) ∙ ap (λ xs. get_or xs j 0) e
