@@ -1,5 +1,5 @@
 ghost use Rattle.std.specs.Prelude.{◌≡◌};
-ghost use Rattle.slh_c.specs.Numbers.{set_numbered, function_numbered};
+ghost use Rattle.slh_c.specs.Numbers.{at_place, set_numbered, function_numbered};
 
 use slh_core::PreHash;
 use slh_params::ParamSet;
@@ -19,8 +19,7 @@ const FUNCTIONS: [PreHash; 6] = [
 pub fn set_of(number: u32) -> Option<ParamSet>
     ensures { result ≡ set_numbered number }
 {
-    let place = number.checked_sub(1)?;
-    ParamSet::ALL.get(place as usize).copied()
+    at_place(&ParamSet::all(), number)
 }
 
 /// The pre-hash function of a number. `None` where it is no function's.
@@ -28,6 +27,13 @@ pub fn set_of(number: u32) -> Option<ParamSet>
 pub fn function_of(number: u32) -> Option<PreHash>
     ensures { result ≡ function_numbered number }
 {
-    let place = number.checked_sub(1)?;
-    FUNCTIONS.get(place as usize).copied()
+    at_place(&FUNCTIONS, number)
+}
+
+/// The item at a place of a list, counted from 1.
+fn at_place<T: Copy>(items: &[T], place: u32) -> Option<T>
+    ensures { result ≡ at_place items.now place }
+{
+    let index = place.checked_sub(1)?;
+    items.get(index as usize).copied()
 }
