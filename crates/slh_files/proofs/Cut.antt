@@ -37,7 +37,7 @@ cut_line-at line rest h =
     rw (place, below, take-append_seam line (10 ∷ rest), drop-append-add line (10 ∷ rest) 1) refl
 
 -- nothing is cut off a text with no line feed
-cut_line-none : (line : Text) → list_all no_feed line ≡ true → cut_line line ≡ None
+pub cut_line-none : (line : Text) → list_all no_feed line ≡ true → cut_line line ≡ None
 cut_line-none line h =
     let place = no_feeds line h in
     let same : ltb (length line) (length line) ≡ false = grind (arith, nat_tests) in

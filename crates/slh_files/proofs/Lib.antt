@@ -1,3 +1,4 @@
 pub mod Cut
 pub mod Decoding
+pub mod Front
 pub mod Reading

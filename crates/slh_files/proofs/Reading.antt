@@ -96,10 +96,10 @@ flat a b c d = simp append_assoc refl
 
 -- ---- from reading to the grammar
 
-abbrev digits_of : KeyKind → ParamSet × Text → Result (ParamSet × Text) FileFault
+abbrev pub digits_of : KeyKind → ParamSet × Text → Result (ParamSet × Text) FileFault
 digits_of kind s = key_digits (key_len kind (params s.0)) (last_line s.1) >>= λ digits. Ok (s.0, digits)
 
-abbrev after_first : KeyKind → Text → Result (ParamSet × Text) FileFault
+abbrev pub after_first : KeyKind → Text → Result (ParamSet × Text) FileFault
 after_first kind rest = after_set (cut_line rest) >>= digits_of kind
 
 abbrev key_of : ParamSet × Text → Key

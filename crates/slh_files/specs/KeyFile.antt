@@ -1,6 +1,6 @@
 -- The key file, version 1: the kind of the key, the name of its parameter set, and its bytes as
 -- hexadecimal digits, a line each.
-use Rattle.std.specs.Prelude.{◌≡◌, ◌==◌, ◌*◌, ◌⊎◌, ℕ, not, if◌then◌else◌, [], ◌∷◌, ◌++◌, length, Option, Some, None, Result, Ok, Err, codes}
+use Rattle.std.specs.Prelude.{◌≡◌, ◌==◌, ◌*◌, ◌<◌, ◌≤◌, ◌⊎◌, ℕ, false, not, if◌then◌else◌, [], ◌∷◌, ◌++◌, length, get_or, Option, Some, None, Result, Ok, Err, codes}
 use Rattle.std.specs.List.{list_all}
 use Rattle.std.specs.Str.{bytes_eq}
 use Rattle.std.specs.Result.{result_unwrap_or}
@@ -86,6 +86,17 @@ abbrev pub key_file : KeyKind → Text → Result Key FileFault
 key_file kind file = do
   s ← key_line kind file
   Ok (record { set = s.0; bytes = result_unwrap_or (decode_of s.1) [] })
+
+-- ---- files that are longer than any key file
+
+-- what is held of a file: at most 512 bytes, or so many and one more, which is no digit
+pub record IsKeyFront (bytes : Text) : Type 0 where
+  pub at_most : length bytes ≤ 513
+  pub last : 512 < length bytes → is_hex_digit (get_or bytes 512 0) ≡ false
+
+-- two texts that are read alike, with any bytes that follow both
+abbrev pub AreReadAlike : Text → Text → Type 0
+AreReadAlike a b = (kind : KeyKind) (more : Text) → key_file kind (a ++ more) ≡ key_file kind (b ++ more)
 
 -- what the code returned, seen by view, is what reading gives
 abbrev pub Gives : {X Y : Type 0} → (X → Y) → Result X FileFault → Result Y FileFault → Type 0

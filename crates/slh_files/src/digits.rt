@@ -9,7 +9,8 @@ pub fn are_hex_digits(digits: &[u8]) -> bool
     digits.iter().all(|byte| is_hex_digit(*byte))
 }
 
-fn is_hex_digit(byte: u8) -> bool
+/// Whether a byte is a hexadecimal digit, of either case.
+pub fn is_hex_digit(byte: u8) -> bool
     ensures { result ≡ is_hex_digit byte }
 {
     matches!(byte, b'0'..=b'9' | b'a'..=b'f' | b'A'..=b'F')

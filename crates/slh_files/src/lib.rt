@@ -6,6 +6,7 @@
 
 pub use fault::FileFault;
 pub use key_file::{read_public, read_secret};
+pub use key_front::push_key_bytes;
 pub use key_kind::KeyKind;
 pub use key_text::{write_public, write_secret, written_is_read};
 pub use slh_devices::{Sink, WriteFault};
@@ -14,6 +15,7 @@ pub use slh_vectors::{Outcome, Test, VectorFault, read_vectors, report, run_test
 mod digits;
 mod fault;
 mod key_file;
+mod key_front;
 mod key_kind;
 mod key_text;
 mod lines;

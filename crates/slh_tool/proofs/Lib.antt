@@ -1,3 +1,4 @@
+pub mod Asked
 pub mod CutLists
 pub mod Decoding
 pub mod Digits
@@ -5,5 +6,6 @@ pub mod Generation
 pub mod Hashing
 pub mod Pieces
 pub mod Refusals
+pub mod Rows
 pub mod Sets
 pub mod Words

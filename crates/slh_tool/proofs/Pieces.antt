@@ -1,5 +1,5 @@
 -- Files that are read by pieces.
-use Rattle.std.proofs.Common.{◌≡◌, ◌↔◌, ◌==◌, Bool, true, false, ℕ, ◌+◌, ◌-◌, ◌<◌, ◌≤◌, List, [], ◌++◌, length, inl, inr, take, Option, Some, None, IfSome, IsTrue, Result, Ok, Err, IfOk, refl, subst, sym, ap, ap₂, ◌∙◌, arith, length-append}
+use Rattle.std.proofs.Common.{◌≡◌, ◌↔◌, ◌==◌, Bool, true, false, ℕ, ◌+◌, ◌-◌, ◌<◌, ◌≤◌, List, [], ◌++◌, length, inl, inr, take, Option, Some, None, IfSome, IsTrue, Result, Ok, Err, IfOk, refl, subst, sym, ap, ap₂, ◌∙◌, append_assoc, arith, length-append}
 use Rattle.std.proofs.Math.Seq.{take-add, take-append-add}
 use Rattle.std.proofs.lemmas.Bool.{cases_lt}
 use Rattle.std.proofs.lemmas.List.{append-nil, length-take, length-take-le, take-append-le, take_all}
@@ -9,7 +9,13 @@ use Rattle.slh_params.specs.Params.{sig_len}
 use Rattle.slh_params.specs.ParamSet.{params}
 use Rattle.slh_devices.specs.Devices.{EndsBy, FilesState, Grew, HasPart}
 use Rattle.std.proofs.lemmas.Bool.Decides.{Decides-eqb, not_from_Decides}
-use Rattle.slh_tool.specs.Reading.{IsFile, IsFrontOfFile, file_limit}
+use Rattle.slh_files.specs.KeyFile.{AreReadAlike, IsKeyFront, key_file}
+use Rattle.slh_files.specs.declared.fault.FileFault.{FileFault}
+use Rattle.slh_files.specs.declared.key_kind.KeyKind.{KeyKind}
+use Rattle.slh_tool.specs.Faults.{of_file}
+use Rattle.slh_tool.specs.Keys.{HoldsKey, RefusesKey}
+use Rattle.slh_tool.specs.Reading.{IsFile, IsFrontOfFile, IsFrontOfKeyFile, file_limit}
+use Rattle.slh_tool.specs.declared.fault.Fault.{Fault}
 
 -- a front of a file, and then the part that follows it
 pub more_read : (known : Option (List ℕ)) (front part : List ℕ) → HasPart known 0 front → HasPart known (length front) part → HasPart known 0 (front ++ part)
@@ -116,3 +122,42 @@ pub file_whole : {T E : Type 0} (files : FilesState) (path : List ℕ) (items : 
     → IfOk r (λ bytes. IsFrontOfFile files path file_limit (items bytes)) → IfOk r (λ bytes. IsFile files path (items bytes))
 file_whole files path items (Ok bytes) read = front_whole files path (items bytes) read
 file_whole files path items (Err e) read = tt
+
+-- what is held of so many bytes of a key file that were read
+pub record HasKeptKey (files : FilesState) (path front : List ℕ) (at : ℕ) : Type 0 where
+  pub bytes : List ℕ
+  pub alike : AreReadAlike front bytes
+  pub held : IsKeyFront front
+  pub sized : length bytes ≡ at
+  pub begins : HasPart (files.bytes_at path) 0 bytes
+
+-- texts that are read alike, with one part more
+pub alike_more : (held front bytes part : List ℕ) → AreReadAlike front bytes → AreReadAlike held (front ++ part) → AreReadAlike held (bytes ++ part)
+alike_more held front bytes part old new kind more =
+    new kind more
+    ∙ ap (λ (t : List ℕ). key_file kind t) (append_assoc front part more)
+    ∙ old kind (part ++ more)
+    ∙ ap (λ (t : List ℕ). key_file kind t) (sym (append_assoc bytes part more))
+
+-- and with no part more
+pub alike_whole : (front bytes : List ℕ) → AreReadAlike front bytes → (kind : KeyKind) → key_file kind front ≡ key_file kind bytes
+alike_whole front bytes alike kind =
+    ap (λ (t : List ℕ). key_file kind t) (sym (append-nil front)) ∙ alike kind [] ∙ ap (λ (t : List ℕ). key_file kind t) (append-nil bytes)
+
+-- what is read of a front of a key file is read of the file
+pub key_held : (kind : KeyKind) (files : FilesState) (path front : List ℕ) (key : Key) → IsFrontOfKeyFile files path front → key_file kind front ≡ Ok key → HoldsKey kind files path key
+key_held kind files path front key read e = (read.whole, read.read, sym (read.alike kind) ∙ e)
+
+pub key_refused : (kind : KeyKind) (old new : FilesState) (path front : List ℕ) (e : FileFault) (fault : Fault) → IsFrontOfKeyFile old path front
+    → key_file kind front ≡ Err e → fault ≡ of_file e → RefusesKey kind old new path fault
+key_refused kind old new path front e fault read refused same = inr (read.whole, read.read, (e, sym (read.alike kind) ∙ refused, same))
+
+-- nothing was read of a key file yet
+pub none_held : (files : FilesState) (path front : List ℕ) → front ≡ [] → HasKeptKey files path front 0
+none_held files path front e = record {
+  bytes = [];
+  alike = λ kind more. rw e refl;
+  held = rw e (record { at_most = omega arith; last = λ long. absurd (omega arith) });
+  sized = refl;
+  begins = none_read _ _ refl;
+}

@@ -3,6 +3,8 @@ use Rattle.std.specs.Prelude.{◌≡◌, ⊤, ℕ, ◌+◌, ◌<◌, ◌≤◌, 
 use Rattle.slh_core.specs.PreHash.{Digest, PH}
 use Rattle.slh_core.specs.declared.pre_hash.PreHash.{PreHash}
 use Rattle.slh_devices.specs.Devices.{FilesState, Grew}
+use Rattle.slh_files.specs.KeyFile.{IsKeyFront, key_file}
+use Rattle.slh_files.specs.declared.key_kind.KeyKind.{KeyKind}
 use Rattle.slh_tool.specs.declared.fault.Fault.{Fault}
 use Rattle.slh_tool.specs.declared.fault.Fault.TheVariants.{FileTooLong, NoMemory, ReadFailed}
 
@@ -18,6 +20,13 @@ pub record IsFile (files : FilesState) (path bytes : List ℕ) : Type 0 where
 -- the first bytes of the file at this path: so many and one more, or all where it has fewer
 abbrev pub IsFrontOfFile : FilesState → List ℕ → ℕ → List ℕ → Type 0
 IsFrontOfFile files path most bytes = (whole : List ℕ) × IsFile files path whole × (bytes ≡ take (most + 1) whole)
+
+-- what is held of the key file at this path: at most 513 bytes, which are read as the whole file is
+pub record IsFrontOfKeyFile (files : FilesState) (path bytes : List ℕ) : Type 0 where
+  pub whole : List ℕ
+  pub read : IsFile files path whole
+  pub alike : (kind : KeyKind) → key_file kind bytes ≡ key_file kind whole
+  pub held : IsKeyFront bytes
 
 -- why a file is not read: memory, or it is too long, or a read of some file failed
 abbrev pub RefusesFile : FilesState → FilesState → List ℕ → Fault → Type 0

@@ -1,5 +1,5 @@
 -- What the words ask for.
-use Rattle.std.specs.Prelude.{◌≡◌, ◌≢◌, ◌⊎◌, ⊤, ℕ, List, [], Option, Some, None, if◌then◌else◌, option_map, codes}
+use Rattle.std.specs.Prelude.{◌≡◌, ◌≢◌, ⊤, ℕ, List, [], Option, Some, None, if◌then◌else◌, option_map, codes}
 use Rattle.std.specs.Option.{option_and_then, option_map_or}
 use Rattle.std.specs.Str.{bytes_eq}
 use Rattle.clap.specs.Kinds.{IsAmong}
@@ -154,10 +154,9 @@ asked_by (Some p) = asked_in p.0 p.1
 abbrev pub Asks : List Text → Asked → Type 0
 Asks words a = (fault_of slh_app words ≡ []) × (asked_by (subcommand_of slh_app words) ≡ Some a)
 
--- `clap` refuses the words for another cause than a request for help, or takes them and they ask for no command
+-- `clap` refuses the words for another cause than a request for help
 abbrev pub AreBad : List Text → Type 0
-AreBad words = ((k : ErrorKind) × IsAmong k (fault_of slh_app words) × (k ≢ DisplayHelp))
-    ⊎ ((fault_of slh_app words ≡ []) × (asked_by (subcommand_of slh_app words) ≡ None))
+AreBad words = (k : ErrorKind) × IsAmong k (fault_of slh_app words) × (k ≢ DisplayHelp)
 
 -- the words ask for help
 abbrev pub AskHelp : List Text → Type 0

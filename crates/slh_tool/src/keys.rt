@@ -4,7 +4,7 @@ ghost use Rattle.slh_tool.specs.Keys.{HoldsKey, RefusesKey};
 ghost use Rattle.slh_tool.specs.Replies.{ChecksKey, WritesPublic};
 
 use super::fault::Fault;
-use super::reading::read_file;
+use super::reading::read_key_file;
 use super::reply::Reply;
 use slh_core::{PublicKey, SecretKey, check_pair};
 use slh_devices::Files;
@@ -21,7 +21,7 @@ pub(crate) fn secret_key<A: Allocator, F: Files>(
     ensures refused { IfErr result (RefusesKey Secret (F.state files.old) (F.state files.new) path.now) }
     ensures kept { OnOk result (F.state files.new ≡ F.state files.old) }
 {
-    let bytes = read_file(alloc, files, path)?;
+    let bytes = read_key_file(alloc, files, path)?;
     Ok(read_secret(bytes.as_slice())?)
 }
 
@@ -35,7 +35,7 @@ pub(crate) fn public_key<A: Allocator, F: Files>(
     ensures refused { IfErr result (RefusesKey Public (F.state files.old) (F.state files.new) path.now) }
     ensures kept { OnOk result (F.state files.new ≡ F.state files.old) }
 {
-    let bytes = read_file(alloc, files, path)?;
+    let bytes = read_key_file(alloc, files, path)?;
     Ok(read_public(bytes.as_slice())?)
 }
 

@@ -1,11 +1,12 @@
 ghost use Rattle.std.specs.Prelude.{◌≡◌, ◌+◌, ◌-◌, ◌≤◌, ◌^◌, ◌++◌, [], length, take, IfOk, IfErr, OnOk};
 ghost use Rattle.slh_core.specs.PreHash.{PH};
 ghost use Rattle.slh_devices.specs.Devices.{CountsFailure, EndsBy, HasPart};
-ghost use Rattle.slh_tool.specs.Reading.{IsDigestOfFile, IsFile, IsFrontOfFile, RefusesFile, file_limit};
+ghost use Rattle.slh_tool.specs.Reading.{IsDigestOfFile, IsFile, IsFrontOfFile, IsFrontOfKeyFile, RefusesFile, file_limit};
 
 use super::fault::Fault;
 use slh_core::{MessageDigest, PreHash, PreHasher};
 use slh_devices::{FetchFault, Files};
+use slh_files::push_key_bytes;
 use std::alloc::{AllocError, Allocator};
 
 /// The most bytes that a file may have.
@@ -66,6 +67,32 @@ fn push_front<A: Allocator>(
 {
     let room = most - front.len();
     front.extend_from_slice(&part[..part.len().min(room)])
+}
+
+/// What the key of a key file depends on, or its first fault: the other bytes are read, but not held.
+pub(crate) fn read_key_file<A: Allocator, F: Files>(
+    alloc: A,
+    files: &mut F,
+    path: &str,
+) -> Result<Vec<u8, A>, Fault>
+    ensures done { IfOk result (λ bytes. IsFrontOfKeyFile (F.state files.old) path.now bytes.items) }
+    ensures refused { IfErr result (RefusesFile (F.state files.old) (F.state files.new) path.now) }
+    ensures kept { OnOk result (F.state files.new ≡ F.state files.old) }
+{
+    let mut front = Vec::new(alloc);
+    let mut piece = [0; PIECE];
+    let mut at = 0;
+    while at <= FILE_LIMIT {
+        let Ok(part) = next_part(files, path, at, &mut piece) else {
+            return Err(Fault::ReadFailed);
+        };
+        if part.is_empty() {
+            return Ok(front);
+        }
+        push_key_bytes(&mut front, part)?;
+        at += part.len();
+    }
+    Err(Fault::FileTooLong)
 }
 
 /// The digest of a file, of which no more than a piece is held.

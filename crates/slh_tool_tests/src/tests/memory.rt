@@ -95,12 +95,12 @@ fn refuses_each_growth_and_then_works(rt: HostRuntime) -> Result<(), Fail> {
     Ok(())
 }
 
-/// How many growths a command asks for, none of which is refused.
+/// What a command answers, and how many growths it asks for, none of which is refused.
 fn growths<R: AllocGlobal + Threads + Sync>(
     rt: &R,
     words: &[&str],
     files: &[(&str, &[u8])],
-) -> Result<u64, Fail> {
+) -> Result<(Answer, u64), Fail> {
     let alloc = Refusing::new(rt.alloc(), rt.alloc(), 0)?;
     let words = words_of(rt.alloc(), words)?;
     let mut output = Writer::new(Vec::new(rt.alloc()));
@@ -114,10 +114,12 @@ fn growths<R: AllocGlobal + Threads + Sync>(
         &mut output,
         &mut errors,
     );
-    if status == 2 {
-        return Err("the command was refused".into());
-    }
-    Ok(alloc.growths())
+    let answer = Answer {
+        status,
+        output: output.into_inner(),
+        errors: errors.into_inner(),
+    };
+    Ok((answer, alloc.growths()))
 }
 
 /// The growths of `verify` with a signature file of so many bytes.
@@ -129,7 +131,11 @@ fn growths_of_verify<R: AllocGlobal + Threads + Sync>(rt: &R, len: usize) -> Res
         ("abc", b"abc".as_slice()),
         ("sig", signature.as_slice()),
     ];
-    growths(rt, &VERIFY, &files)
+    let (answer, growths) = growths(rt, &VERIFY, &files)?;
+    if answer.status == 2 {
+        return Err("the command was refused".into());
+    }
+    Ok(growths)
 }
 
 #[test]
@@ -137,6 +143,43 @@ fn holds_no_more_of_a_signature_than_a_byte_too_many(rt: HostRuntime) -> Result<
     let least = growths_of_verify(&rt, 17089)?;
     for len in [17090, 40_000, 1_000_000] {
         assert_eq!(rt; growths_of_verify(&rt, len)?, least);
+    }
+    Ok(())
+}
+
+/// What `public` answers to a key file of so many digits and the bytes after them, and its growths.
+fn growths_of_key_file<R: AllocGlobal + Threads + Sync>(
+    rt: &R,
+    digits: usize,
+    after: &[u8],
+) -> Result<(Answer, u64), Fail> {
+    let mut file = Vec::new(rt.alloc());
+    file.extend_from_slice(b"slh-dsa-secret 1\nSLH-DSA-SHA2-128f\n")?;
+    let len = file.len().wrapping_add(digits);
+    file.resize(len, b'7')?;
+    file.extend_from_slice(after)?;
+    growths(
+        rt,
+        &["public", "--key", "secret"],
+        &[("secret", file.as_slice())],
+    )
+}
+
+#[test]
+fn holds_a_front_of_a_long_key_file(rt: HostRuntime) -> Result<(), Fail> {
+    let afters: [(&[u8], &[u8]); 4] = [
+        (b"", b"slh: 14 BadKeyLength\n"),
+        (b"\nxx", b"slh: 14 BadKeyLength\n"),
+        (b"x", b"slh: 13 BadHex\n"),
+        (b"77x7\n", b"slh: 13 BadHex\n"),
+    ];
+    for (after, errors) in afters {
+        let (_, most) = growths_of_key_file(&rt, 600, after)?;
+        for digits in [4061, 4062, 40_000, 1_000_000] {
+            let (answer, growths) = growths_of_key_file(&rt, digits, after)?;
+            assert_eq!(rt; answer.errors.as_slice(), errors);
+            assert!(rt; growths <= most);
+        }
     }
     Ok(())
 }

@@ -1,4 +1,4 @@
-use Rattle.std.proofs.Common.{◌≡◌, ◌∙◌, inl, inr, List, map, string_bytes, sym, ap, subst}
+use Rattle.std.proofs.Common.{◌≡◌, ◌∙◌, List, map, string_bytes, sym, ap, subst}
 use Rattle.clap.specs.Words.{App, Text, app_of, fault_of, is_simple, kind_of, subcommand_of}
 use Rattle.clap.specs.Faults.{is_simple_and_free}
 use Rattle.clap.specs.Kinds.{IsAmong}
@@ -6,6 +6,7 @@ use Rattle.clap.specs.declared.error.ErrorKind.{ErrorKind}
 use Rattle.clap.specs.declared.error.ErrorKind.TheVariants.{DisplayHelp}
 use Rattle.slh_arguments.specs.Command.{slh_app}
 use Rattle.slh_tool.specs.Requests.{asked_by}
+use Rattle.slh_tool.proofs.Asked.{some_asked}
 use Rattle.slh_tool.proofs.Words.{among_other, help_among, slh_app_free, slh_app_simple}
 use Rattle.slh_tool.proofs.request.parsed.Goals as goal
 
@@ -35,7 +36,8 @@ returns-in-Ok-try_get_matches_from-clause-err c =
     let parse = c.in-Ok-try_get_matches_from.ensures in
     let none = parse.kinds (ap is_simple_and_free app ∙ slh_app_free) in
     let rows = (parse.matches (ap is_simple app ∙ slh_app_simple)).1 in
-    inr (sym (ap (λ (a : App). fault_of a words) app) ∙ none, ap asked_by (sym (ap (λ (a : App). subcommand_of a words) app) ∙ sym rows) ∙ sym c.in-None.ensures)
+    absurd (some_asked words (sym (ap (λ (a : App). fault_of a words) app) ∙ none)
+    (ap asked_by (sym (ap (λ (a : App). subcommand_of a words) app) ∙ sym rows) ∙ sym c.in-None.ensures))
 
 pub returns-clause-err : goal.returns-clause-err
 returns-clause-err c =
@@ -44,4 +46,4 @@ returns-clause-err c =
     let kinds = c.in-Err.ensures.kinds (ap is_simple_and_free app ∙ slh_app_free) in
     let among = among_other _ _ kinds (λ e. c.in_default-kind.not-OutOfMemory (c.kind.ensures ∙ e)) in
     let kind : ErrorKind = kind_of c.in-Err.error in
-    inl (kind, subst (λ (a : App). IsAmong kind (fault_of a words)) app among, λ e. c.in_default-kind.not-DisplayHelp (c.kind.ensures ∙ e))
+    (kind, subst (λ (a : App). IsAmong kind (fault_of a words)) app among, λ e. c.in_default-kind.not-DisplayHelp (c.kind.ensures ∙ e))
