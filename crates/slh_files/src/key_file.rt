@@ -81,7 +81,7 @@ fn after_set(bytes: &[u8]) -> Result<(ParamSet, &[u8]), FileFault>
 fn set_named(line: &[u8]) -> Option<ParamSet>
     ensures { result ≡ set_named line.now }
 {
-    ParamSet::ALL
+    ParamSet::all()
         .iter()
         .copied()
         .find(|set| set.name().as_bytes() == line)

@@ -76,6 +76,23 @@ pub set_named_is : (text : List ℕ) (set : ParamSet) → set_named text ≡ Som
 unfolding set_named
 set_named_is text set e = found_named name text set sets e
 
+-- a set that is found is one of the standard's
+pub set_named-standard : (text : List ℕ) (set : ParamSet) → set_named text ≡ Some set → IsStandard set
+unfolding set_named is_standard is
+set_named-standard text set e =
+    six (bytes_eq (name S128s) text) (bytes_eq (name S128f) text) (bytes_eq (name S192s) text) (bytes_eq (name S192f) text) (bytes_eq (name S256s) text) (bytes_eq (name S256f) text) e
+  where
+    of : (t : ParamSet) → IsStandard t → Some t ≡ Some set → IsStandard set
+    of t standard found = let same : t ≡ set = cc in subst IsStandard same standard
+    six : (a b c d e f : Bool) → cond a (Some S128s) (cond b (Some S128f) (cond c (Some S192s) (cond d (Some S192f) (cond e (Some S256s) (cond f (Some S256f) None))))) ≡ Some set → IsStandard set
+    six true b c d e f found = of S128s refl found
+    six false true c d e f found = of S128f refl found
+    six false false true d e f found = of S192s refl found
+    six false false false true e f found = of S192f refl found
+    six false false false false true f found = of S256s refl found
+    six false false false false false true found = of S256f refl found
+    six false false false false false false found = absurd cc
+
 -- no set is found by a text that is the name of none of the standard's
 pub set_named-none : (text : List ℕ) → ((set : ParamSet) → IsStandard set → name set ≡ text → ⊥) → set_named text ≡ None
 unfolding set_named is_standard is

@@ -16,12 +16,12 @@ use Rattle.serde_json.specs.Data.{Data, null, boolean, number, string, array, ob
 use Rattle.serde_json.specs.Find.{as_array}
 use Rattle.slh_vectors.specs.Cases.{SeedsCase, KeygenCase, SignCase, VerifyCase, Case, keygen, sign, verify, views}
 use Rattle.slh_vectors.specs.Reading.{◌>>=◌, Gives, or_fault, bool_in, hex_in, bytes_in, kind_in, set_in, random_in, input_in, verify_in, seeds_in, keygen_in, sign_in, of_kind, test_in, tests_from, tests_in, json_of}
-use Rattle.slh_vectors.specs.Grammar.{HasText, HasHex, HasBytes, IsKeygen, IsSign, IsVerify, IsTest, AreTests, IsVectorFile}
+use Rattle.slh_vectors.specs.Grammar.{HasText, HasHex, HasBytes, HasSet, IsKeygen, IsSign, IsVerify, IsTest, AreTests, IsVectorFile}
 use Rattle.slh_vectors.specs.declared.fault.VectorFault.{VectorFault}
 use Rattle.slh_vectors.specs.declared.fault.VectorFault.TheVariants.{NotJson, NotAList, Bad}
 use Rattle.slh_vectors.proofs.MemberLaws.{bind_ok, some_from, guard_ok, ok_is, hex_found, bytes_found, set_found, kind_found, input_found, bool_found}
 
-verify_found : (n : ℕ) (set : ParamSet) (d : Data) (t : VerifyCase) → HasText d (codes "kind") (codes "verify") → HasText d (codes "set") (param_set.name set) → verify_in n set d ≡ Ok t → IsVerify d t
+verify_found : (n : ℕ) (set : ParamSet) (d : Data) (t : VerifyCase) → HasText d (codes "kind") (codes "verify") → HasSet d set → verify_in n set d ≡ Ok t → IsVerify d t
 unfolding verify_in
 verify_found n set d t kind name e =
     let a = bind_ok (bytes_in n members.Pk (2 * (params set).n) d) _ t e in
@@ -49,7 +49,7 @@ random_found n set d bytes e =
     let g = guard_ok (length a.0 == 0 || length a.0 == (params set).n) (Bad n members.Random) a.0 bytes a.2 in
     subst (λ (b : List ℕ). HasHex d (codes "random") b × (length b ≢ 0 → length b ≡ (params set).n)) g.1 (hex_found n members.Random d a.0 a.1, sized_or a.0 ((params set).n) g.0)
 
-sign_found : (n : ℕ) (set : ParamSet) (d : Data) (t : SignCase) → HasText d (codes "kind") (codes "sign") → HasText d (codes "set") (param_set.name set) → sign_in n set d ≡ Ok t → IsSign d t
+sign_found : (n : ℕ) (set : ParamSet) (d : Data) (t : SignCase) → HasText d (codes "kind") (codes "sign") → HasSet d set → sign_in n set d ≡ Ok t → IsSign d t
 unfolding sign_in
 sign_found n set d t kind name e =
     let a = bind_ok (bytes_in n members.Sk (4 * (params set).n) d) _ t e in
@@ -88,7 +88,7 @@ seeds_found n set d s e =
     } in
     subst (λ (x : SeedsCase). FoundSeeds set d x) (ok_is made s c.2) whole
 
-keygen_found : (n : ℕ) (set : ParamSet) (d : Data) (t : KeygenCase) → HasText d (codes "kind") (codes "keygen") → HasText d (codes "set") (param_set.name set) → keygen_in n set d ≡ Ok t → IsKeygen d t
+keygen_found : (n : ℕ) (set : ParamSet) (d : Data) (t : KeygenCase) → HasText d (codes "kind") (codes "keygen") → HasSet d set → keygen_in n set d ≡ Ok t → IsKeygen d t
 unfolding keygen_in
 keygen_found n set d t kind name e =
     let a = bind_ok (seeds_in n set d) _ t e in
@@ -107,7 +107,7 @@ keygen_found n set d t kind name e =
     } in
     subst (λ (x : KeygenCase). IsKeygen d x) (ok_is made t c.2) whole
 
-of_kind_found : (n : ℕ) (k : Kind) (set : ParamSet) (d : Data) (c : Case) → HasText d (codes "kind") (kind_name k) → HasText d (codes "set") (param_set.name set) → of_kind n k set d ≡ Ok c → IsTest d c
+of_kind_found : (n : ℕ) (k : Kind) (set : ParamSet) (d : Data) (c : Case) → HasText d (codes "kind") (kind_name k) → HasSet d set → of_kind n k set d ≡ Ok c → IsTest d c
 unfolding of_kind
 of_kind_found n kinds.Keygen set d c kind name e =
     let a = bind_ok (keygen_in n set d) (λ t. Ok (keygen t)) c e in

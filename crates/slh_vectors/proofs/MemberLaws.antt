@@ -6,7 +6,7 @@ use Rattle.std.specs.Str.{bytes_eq}
 use Rattle.slh_core.proofs.Names.{function_named_is}
 use Rattle.slh_core.specs.PreHash as pre_hash
 use Rattle.slh_core.specs.declared.pre_hash.PreHash.{PreHash}
-use Rattle.slh_params.proofs.Names.{set_named_is}
+use Rattle.slh_params.proofs.Names.{set_named_is, set_named-standard}
 use Rattle.slh_params.specs.ParamSet as param_set
 use Rattle.slh_params.specs.ParamSet.{params, set_named}
 use Rattle.slh_params.specs.declared.param_set.ParamSet.{ParamSet}
@@ -23,7 +23,7 @@ use Rattle.serde_json.specs.Data.{Data, null, boolean, number, string, array, ob
 use Rattle.serde_json.specs.Find.{get, as_str, as_bool}
 use Rattle.slh_vectors.specs.Cases.{InputCase}
 use Rattle.slh_vectors.specs.Reading.{◌>>=◌, or_fault, decoded, member_name, member_in, text_in, bool_in, hex_in, bytes_in, kind_in, set_in, form_in, context_in, input_in}
-use Rattle.slh_vectors.specs.Grammar.{HasText, HasHex, HasBytes, HasContext, HasInput}
+use Rattle.slh_vectors.specs.Grammar.{HasText, HasHex, HasBytes, HasSet, HasContext, HasInput}
 use Rattle.slh_vectors.specs.declared.fault.Member.{Member}
 use Rattle.slh_vectors.specs.declared.fault.VectorFault.{VectorFault}
 use Rattle.slh_vectors.specs.declared.fault.VectorFault.TheVariants.{Missing, Bad}
@@ -102,11 +102,12 @@ kind_named_is s k e =
       ]
     ]
 
-pub set_found : (n : ℕ) (d : Data) (set : ParamSet) → set_in n d ≡ Ok set → HasText d (codes "set") (param_set.name set)
+pub set_found : (n : ℕ) (d : Data) (set : ParamSet) → set_in n d ≡ Ok set → HasSet d set
 unfolding set_in
 set_found n d set e =
     let a = bind_ok (text_in n members.Set d) (λ s. or_fault (set_named s) (Bad n members.Set)) set e in
-    rw (set_named_is a.0 set (some_from (set_named a.0) (Bad n members.Set) set a.2)) (text_found n members.Set d a.0 a.1)
+    let named : set_named a.0 ≡ Some set = some_from (set_named a.0) (Bad n members.Set) set a.2 in
+    (set_named-standard a.0 set named, rw (set_named_is a.0 set named) (text_found n members.Set d a.0 a.1))
 
 pub kind_found : (n : ℕ) (d : Data) (k : Kind) → kind_in n d ≡ Ok k → HasText d (codes "kind") (kind_name k)
 unfolding kind_in

@@ -21,7 +21,7 @@ use Rattle.serde_json.specs.Data.{Data, boolean, Items, no_items, item}
 use Rattle.serde_json.specs.Find.{get}
 use Rattle.slh_vectors.specs.Cases.{InputCase, KeygenCase, SignCase, VerifyCase, Case, keygen, sign, verify}
 use Rattle.slh_vectors.specs.Reading.{or_fault, member_name, bool_in, bytes_in, kind_in, set_in, form_in, context_in, random_in, input_in, verify_in, seeds_in, keygen_in, sign_in, of_kind, test_in, tests_from, tests_in}
-use Rattle.slh_vectors.specs.Grammar.{HasText, HasHex, HasBytes, HasContext, HasInput, IsKeygen, IsSign, IsVerify, IsTest, AreTests, IsVectorFile}
+use Rattle.slh_vectors.specs.Grammar.{HasText, HasHex, HasBytes, HasSet, HasContext, HasInput, IsKeygen, IsSign, IsVerify, IsTest, AreTests, IsVectorFile}
 use Rattle.slh_vectors.specs.declared.fault.Member.{Member}
 use Rattle.slh_vectors.specs.declared.fault.VectorFault.TheVariants.{Bad}
 use Rattle.slh_vectors.proofs.MemberLaws.{text_again, hex_again}
@@ -32,9 +32,9 @@ bytes_again n m len d bytes h =
     let same : (length bytes == len) ≡ true = eq-eqb (length bytes) len h.sized in
     rw (hex_again n m d bytes h.hex, same) refl
 
-set_again : (n : ℕ) (d : Data) (set : ParamSet) → HasText d (codes "set") (param_set.name set) → set_in n d ≡ Ok set
+set_again : (n : ℕ) (d : Data) (set : ParamSet) → HasSet d set → set_in n d ≡ Ok set
 unfolding set_in
-set_again n d set h = rw (text_again n members.Set d (param_set.name set) h, set_named-name set) refl
+set_again n d set h = rw (text_again n members.Set d (param_set.name set) h.1, set_named-name set h.0) refl
 
 kind_again : (n : ℕ) (d : Data) (k : Kind) → HasText d (codes "kind") (kind_name k) → kind_in n d ≡ Ok k
 unfolding kind_in

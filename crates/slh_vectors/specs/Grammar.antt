@@ -5,7 +5,8 @@ use Rattle.std.specs.Str.{IsUtf8}
 use Rattle.serde_json.specs.Read.{read}
 use Rattle.serde_json.specs.Data.{Data, boolean, string, array, Items, no_items, item}
 use Rattle.serde_json.specs.Find.{get}
-use Rattle.slh_params.specs.ParamSet.{params, name}
+use Rattle.slh_params.specs.ParamSet.{IsStandard, params, name}
+use Rattle.slh_params.specs.declared.param_set.ParamSet.{ParamSet}
 use Rattle.slh_vectors.specs.Cases.{InputCase, KeygenCase, SignCase, VerifyCase, Case, keygen, sign, verify}
 use Rattle.slh_vectors.specs.Names.{form_name}
 use Rattle.slh_vectors.specs.declared.test.Interface.{Interface}
@@ -36,9 +37,13 @@ pub record HasInput (d : Data) (i : InputCase) : Type 0 where
   pub message : HasHex d (codes "message") i.message
   pub context : HasContext d i.form i.context
 
+-- the set is one of the standard's, by its name
+abbrev pub HasSet : Data → ParamSet → Type 0
+HasSet d set = IsStandard set × HasText d (codes "set") (name set)
+
 pub record IsVerify (d : Data) (t : VerifyCase) : Type 0 where
   pub kind : HasText d (codes "kind") (codes "verify")
-  pub set : HasText d (codes "set") (name t.set)
+  pub set : HasSet d t.set
   pub pk : HasBytes d (codes "pk") (2 * (params t.set).n) t.pk
   pub input : HasInput d t.input
   pub signature : HasHex d (codes "signature") t.signature
@@ -46,7 +51,7 @@ pub record IsVerify (d : Data) (t : VerifyCase) : Type 0 where
 
 pub record IsSign (d : Data) (t : SignCase) : Type 0 where
   pub kind : HasText d (codes "kind") (codes "sign")
-  pub set : HasText d (codes "set") (name t.set)
+  pub set : HasSet d t.set
   pub sk : HasBytes d (codes "sk") (4 * (params t.set).n) t.sk
   pub input : HasInput d t.input
   pub random : HasHex d (codes "random") t.random
@@ -55,7 +60,7 @@ pub record IsSign (d : Data) (t : SignCase) : Type 0 where
 
 pub record IsKeygen (d : Data) (t : KeygenCase) : Type 0 where
   pub kind : HasText d (codes "kind") (codes "keygen")
-  pub set : HasText d (codes "set") (name t.set)
+  pub set : HasSet d t.set
   pub sk_seed : HasBytes d (codes "skSeed") ((params t.set).n) t.seeds.sk_seed
   pub sk_prf : HasBytes d (codes "skPrf") ((params t.set).n) t.seeds.sk_prf
   pub pk_seed : HasBytes d (codes "pkSeed") ((params t.set).n) t.seeds.pk_seed

@@ -45,7 +45,7 @@ fn input(alloc: Global, n: u64, test: &Value) -> Result<Input, VectorFault>
 }
 
 /// The members of a keygen test after `kind` and `set`.
-#[tactic(auto, unfolding(crate::specs::Reading::keygen_in))]
+#[tactic(auto, using(slh_params::proofs::Bounds::n_high), unfolding(crate::specs::Reading::keygen_in))]
 fn keygen(alloc: Global, n: u64, set: ParamSet, test: &Value) -> Result<KeygenTest, VectorFault>
     ensures { Gives keygen_view result (keygen_in n set (view test.now)) }
 {
@@ -56,7 +56,7 @@ fn keygen(alloc: Global, n: u64, set: ParamSet, test: &Value) -> Result<KeygenTe
 }
 
 /// Those of a sign test.
-#[tactic(auto, unfolding(crate::specs::Reading::sign_in))]
+#[tactic(auto, using(slh_params::proofs::Bounds::n_high), unfolding(crate::specs::Reading::sign_in))]
 fn sign(alloc: Global, n: u64, set: ParamSet, test: &Value) -> Result<SignTest, VectorFault>
     ensures { Gives sign_view result (sign_in n set (view test.now)) }
 {
@@ -74,7 +74,7 @@ fn sign(alloc: Global, n: u64, set: ParamSet, test: &Value) -> Result<SignTest, 
 }
 
 /// Those of a verify test.
-#[tactic(auto, unfolding(crate::specs::Reading::verify_in))]
+#[tactic(auto, using(slh_params::proofs::Bounds::n_high), unfolding(crate::specs::Reading::verify_in))]
 fn verify(alloc: Global, n: u64, set: ParamSet, test: &Value) -> Result<VerifyTest, VectorFault>
     ensures { Gives verify_view result (verify_in n set (view test.now)) }
 {
