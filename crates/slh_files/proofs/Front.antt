@@ -1,5 +1,5 @@
 -- A file that is longer than any key file: which fault it has depends on its front and on the first byte after it that is no digit.
-use Rattle.std.proofs.Common.{◌≡◌, ℕ, suc, ◌+◌, ◌*◌, ◌<◌, ◌≤◌, ◌==◌, Bool, true, false, not, cond, inl, inr, [], ◌∷◌, ◌++◌, length, take, drop, get_or, Option, Some, None, Result, Ok, Err, refl, sym, ap, ◌∙◌, arith, append_assoc, append-nil, drop-cons, length-append, subst}
+use Rattle.std.proofs.Common.{◌≡◌, ℕ, suc, ◌+◌, ◌*◌, ◌<◌, ◌≤◌, ◌==◌, Bool, true, false, not, cond, inl, inr, [], ◌∷◌, ◌++◌, length, take, drop, get_or, Option, Some, None, Result, Ok, Err, refl, sym, ap, ◌∙◌, arith, append_assoc, append-nil, drop-cons, length-append, subst, codes}
 use Rattle.std.proofs.Math.Seq.{get_or-append_seam}
 use Rattle.std.proofs.lemmas.Bool.{cases_eq, cases_lt, eqb-true}
 use Rattle.std.proofs.lemmas.Bool.Decides.{nat_tests}
@@ -9,10 +9,10 @@ use Rattle.std.proofs.lemmas.Slice.Eq.{bytes_eq-Decides}
 use Rattle.std.specs.List.{cons_option, find, list_all}
 use Rattle.std.specs.Str.{bytes_eq}
 use Rattle.hex.specs.Hex.{is_hex_digit}
-use Rattle.slh_params.specs.ParamSet.{params, name, set_named}
+use Rattle.slh_params.specs.ParamSet.{is, params, name, set_named, S128s, S128f, S192s, S192f, S256s, S256f}
+use Rattle.slh_params.proofs.Bounds.{n_high}
 use Rattle.slh_params.proofs.Names.{set_named-none, set_named_is}
 use Rattle.slh_params.specs.declared.param_set.ParamSet.{ParamSet}
-use Rattle.slh_params.specs.declared.param_set.ParamSet.TheVariants.{S128s, S128f, S192s, S192f, S256s, S256f}
 use Rattle.slh_files.specs.declared.fault.FileFault.{FileFault}
 use Rattle.slh_files.specs.declared.fault.FileFault.TheVariants.{NotAKeyFile, UnknownSet, BadHex, BadKeyLength}
 use Rattle.slh_files.specs.declared.key_kind.KeyKind.{KeyKind}
@@ -79,16 +79,22 @@ kind_long kind front cut long (later line rest e) = rw (e, longer_line kind fron
 -- ---- the second line
 
 name_len : (set : ParamSet) → length (name set) ≤ 18
-name_len S128s = omega arith
-name_len S128f = omega arith
-name_len S192s = omega arith
-name_len S192f = omega arith
-name_len S256s = omega arith
-name_len S256f = omega arith
+unfolding name
+name_len set = six (is set S128s) (is set S128f) (is set S192s) (is set S192f) (is set S256s) (is set S256f)
+  where
+    six : (a b c d e f : Bool) → length (cond a (codes "SLH-DSA-SHA2-128s") (cond b (codes "SLH-DSA-SHA2-128f") (cond c (codes "SLH-DSA-SHA2-192s")
+        (cond d (codes "SLH-DSA-SHA2-192f") (cond e (codes "SLH-DSA-SHA2-256s") (cond f (codes "SLH-DSA-SHA2-256f") (codes "custom"))))))) ≤ 18
+    six true b c d e f = omega arith
+    six false true c d e f = omega arith
+    six false false true d e f = omega arith
+    six false false false true e f = omega arith
+    six false false false false true f = omega arith
+    six false false false false false true = omega arith
+    six false false false false false false = omega arith
 
 longer_name : (front line : Text) → 18 < length front → set_named (front ++ line) ≡ None
 longer_name front line long = set_named-none (front ++ line)
-    (λ set e. omega (arith, ap (λ (t : Text). length t) e, length-append front line, name_len set))
+    (λ set _ e. omega (arith, ap (λ (t : Text). length t) e, length-append front line, name_len set))
 
 set_long : (front : Text) (cut : Option (Text × Text)) → 18 < length front → CutsAfter front cut → after_set cut ≡ Err UnknownSet
 set_long front cut long (nowhere e) = rw e refl
@@ -143,18 +149,8 @@ digits_alike len front s t long e (first line rest g f) =
 -- ---- the three lines
 
 key_len_few : (kind : KeyKind) (set : ParamSet) → key_len kind (params set) ≤ 128
-key_len_few Public S128s = omega arith
-key_len_few Public S128f = omega arith
-key_len_few Public S192s = omega arith
-key_len_few Public S192f = omega arith
-key_len_few Public S256s = omega arith
-key_len_few Public S256f = omega arith
-key_len_few Secret S128s = omega arith
-key_len_few Secret S128f = omega arith
-key_len_few Secret S192s = omega arith
-key_len_few Secret S192f = omega arith
-key_len_few Secret S256s = omega arith
-key_len_few Secret S256f = omega arith
+key_len_few Public set = omega (arith, n_high set)
+key_len_few Secret set = omega (arith, n_high set)
 
 second_alike : (kind : KeyKind) (front s t : Text) → 276 < length front → goes_on s ≡ goes_on t → Feeds front
     → after_first kind (front ++ s) ≡ after_first kind (front ++ t)

@@ -9,10 +9,9 @@ use Rattle.std.specs.Str.{bytes_eq}
 use Rattle.std.specs.Result.{result_unwrap_or}
 use Rattle.hex.specs.Hex.{decode_of, encode_lower, is_hex_digit}
 use Rattle.hex.proofs.HexLemmas.{decode_of-digits, decode_of-encode_lower, decode_of-ok}
-use Rattle.slh_params.specs.ParamSet.{params, name, set_named}
-use Rattle.slh_params.proofs.Names.{set_named-name, set_named_is}
+use Rattle.slh_params.specs.ParamSet.{IsStandard, is, params, name, set_named}
+use Rattle.slh_params.proofs.Names.{standard_cases, set_named-name, set_named_is, set_named-standard}
 use Rattle.slh_params.specs.declared.param_set.ParamSet.{ParamSet}
-use Rattle.slh_params.specs.declared.param_set.ParamSet.TheVariants.{S128s, S128f, S192s, S192f, S256s, S256f}
 use Rattle.slh_core.specs.Keys.{Key}
 use Rattle.slh_files.specs.declared.fault.FileFault.{FileFault}
 use Rattle.slh_files.specs.declared.fault.FileFault.TheVariants.{NotAKeyFile, BadHex, BadKeyLength, TrailingBytes}
@@ -52,11 +51,11 @@ with_rest-ok None rest s h = cc h
 with_rest-ok (Some set) rest s h = (cc h, cc h)
 
 -- the second line was taken
-after_set-ok : (cut : Option (Text × Text)) (s : ParamSet × Text) → after_set cut ≡ Ok s → cut ≡ Some (name s.0, s.1)
-after_set-ok None s h = cc h
+after_set-ok : (cut : Option (Text × Text)) (s : ParamSet × Text) → after_set cut ≡ Ok s → (cut ≡ Some (name s.0, s.1)) × IsStandard s.0
+after_set-ok None s h = absurd cc
 after_set-ok (Some parts) s h =
     let t = with_rest-ok (set_named parts.0) parts.1 s h in
-    ap Some (ap₂ (λ (a b : Text). let q : Text × Text = (a, b) in q) (sym (set_named_is parts.0 s.0 t.0)) t.1)
+    (ap Some (ap₂ (λ (a b : Text). let q : Text × Text = (a, b) in q) (sym (set_named_is parts.0 s.0 t.0)) t.1), set_named-standard parts.0 s.0 t.0)
 
 length-zero : (xs : Text) → length xs ≡ 0 → xs ≡ []
 length-zero [] h = refl
@@ -111,7 +110,7 @@ line_read kind file s h =
     let a = bind_ok (after_kind kind (cut_line file)) (after_first kind) s h in
     let first : file ≡ first_line kind ++ 10 ∷ a.0 = cut_line-Some file (first_line kind) a.0 (after_kind-ok kind (cut_line file) a.0 a.1) in
     let b = bind_ok (after_set (cut_line a.0)) (digits_of kind) s a.2 in
-    let second : a.0 ≡ name b.0.0 ++ 10 ∷ b.0.1 = cut_line-Some a.0 (name b.0.0) b.0.1 (after_set-ok (cut_line a.0) b.0 b.1) in
+    let second : a.0 ≡ name b.0.0 ++ 10 ∷ b.0.1 = cut_line-Some a.0 (name b.0.0) b.0.1 (after_set-ok (cut_line a.0) b.0 b.1).0 in
     let len = key_len kind (params b.0.0) in
     let k = bind_ok (key_digits len (last_line b.0.1)) (λ (digits : Text). Ok (b.0.0, digits)) s b.2 in
     let d = key_digits-ok len (last_line b.0.1) k.0 k.1 in
@@ -124,6 +123,7 @@ line_read kind file s h =
       lines = first ∙ ap (λ (r : Text). first_line kind ++ 10 ∷ r) (second ∙ ap (λ (r : Text). name b.0.0 ++ 10 ∷ r) third)
           ∙ sym (flat (first_line kind) (name b.0.0) k.0 w.0);
       ends = w.1;
+      standard = (after_set-ok (cut_line a.0) b.0 b.1).1;
       spells = bytes.0;
       sized = bytes.1;
     } in
@@ -143,13 +143,9 @@ kind_no_feed : (kind : KeyKind) → list_all no_feed (first_line kind) ≡ true
 kind_no_feed Public = refl
 kind_no_feed Secret = refl
 
-name_no_feed : (set : ParamSet) → list_all no_feed (name set) ≡ true
-name_no_feed S128s = refl
-name_no_feed S128f = refl
-name_no_feed S192s = refl
-name_no_feed S192f = refl
-name_no_feed S256s = refl
-name_no_feed S256f = refl
+name_no_feed : (set : ParamSet) → IsStandard set → list_all no_feed (name set) ≡ true
+unfolding name is
+name_no_feed = standard_cases (λ set. list_all no_feed (name set) ≡ true) refl refl refl refl refl refl
 
 -- good digits are taken
 key_digits-at : (len : ℕ) (digits : Text) → list_all is_hex_digit digits ≡ true → length digits ≡ 2 * len → key_digits len (digits, []) ≡ Ok digits
@@ -168,8 +164,8 @@ file_again kind file key f =
       whole,
       cut_line-at (first_line kind) rest (kind_no_feed kind),
       same,
-      cut_line-at (name key.set) (f.digits ++ f.ending) (name_no_feed key.set),
-      set_named-name key.set,
+      cut_line-at (name key.set) (f.digits ++ f.ending) (name_no_feed key.set f.standard),
+      set_named-name key.set f.standard,
       last_line-at f.digits f.ending (digits_no_feed f.digits hex) f.ends,
       key_digits-at (key_len kind (params key.set)) f.digits hex sized,
       f.spells,
@@ -188,6 +184,7 @@ written kind key k = record {
   ending = 10 ∷ [];
   lines = sym (append_assoc (line (first_line kind) ++ line (name key.set)) (encode_lower key.bytes) (10 ∷ []));
   ends = inr refl;
+  standard = k.standard;
   spells = decode_of-encode_lower key.bytes k.bytes;
   sized = k.sized;
 }

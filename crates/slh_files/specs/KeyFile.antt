@@ -6,7 +6,7 @@ use Rattle.std.specs.Str.{bytes_eq}
 use Rattle.std.specs.Result.{result_unwrap_or}
 use Rattle.hex.specs.Hex.{IsBytes, decode_of, encode_lower, is_hex_digit}
 use Rattle.slh_params.specs.Params.{Params, pk_len, sk_len}
-use Rattle.slh_params.specs.ParamSet.{params, name, set_named}
+use Rattle.slh_params.specs.ParamSet.{IsStandard, params, name, set_named}
 use Rattle.slh_params.specs.declared.param_set.ParamSet.{ParamSet}
 use Rattle.slh_core.specs.Keys.{Key}
 use Rattle.slh_files.specs.declared.fault.FileFault.{FileFault}
@@ -25,8 +25,9 @@ abbrev pub key_len : KeyKind → Params → ℕ
 key_len Public p = pk_len p
 key_len Secret p = sk_len p
 
--- a key of this kind
+-- a key of this kind, of one of the standard's sets
 pub record IsKey (kind : KeyKind) (key : Key) : Type 0 where
+  pub standard : IsStandard key.set
   pub sized : length key.bytes ≡ key_len kind (params key.set)
   pub bytes : IsBytes key.bytes
 
@@ -40,6 +41,7 @@ pub record IsKeyFile (kind : KeyKind) (file : Text) (key : Key) : Type 0 where
   pub ending : Text
   pub lines : file ≡ line (first_line kind) ++ line (name key.set) ++ digits ++ ending
   pub ends : (ending ≡ []) ⊎ (ending ≡ 10 ∷ [])
+  pub standard : IsStandard key.set
   pub spells : decode_of digits ≡ Ok key.bytes
   pub sized : length key.bytes ≡ key_len kind (params key.set)
 

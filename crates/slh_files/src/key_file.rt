@@ -25,10 +25,10 @@ pub fn read_public(bytes: &[u8]) -> Result<PublicKey, FileFault>
     ensures first_fault { result ≡ key_file Public bytes.now }
 {
     let (set, digits) = key_line(KeyKind::Public, bytes)?;
-    let mut key = [0; 64];
-    let len = set.pk_len();
-    decode_digits(digits, &mut key[..len]);
-    Ok(PublicKey::from_bytes(set, &key[..len]).unwrap())
+    let mut buffer = [0; 64];
+    let key = &mut buffer[..set.pk_len()];
+    decode_digits(digits, key);
+    Ok(PublicKey::from_bytes(set, key).unwrap())
 }
 
 /// The secret key in a key file, with the refusals of `read_public`.
@@ -39,13 +39,14 @@ pub fn read_secret(bytes: &[u8]) -> Result<SecretKey, FileFault>
     ensures first_fault { result ≡ key_file Secret bytes.now }
 {
     let (set, digits) = key_line(KeyKind::Secret, bytes)?;
-    let mut key = [0; 128];
-    let len = set.sk_len();
-    decode_digits(digits, &mut key[..len]);
-    Ok(SecretKey::from_bytes(set, &key[..len]).unwrap())
+    let mut buffer = [0; 128];
+    let key = &mut buffer[..set.sk_len()];
+    decode_digits(digits, key);
+    Ok(SecretKey::from_bytes(set, key).unwrap())
 }
 
 /// The set that a key file of this kind names, and the digits of its key.
+#[tactic(auto, using(slh_params::proofs::Bounds::n_high))]
 fn key_line(kind: KeyKind, bytes: &[u8]) -> Result<(ParamSet, &[u8]), FileFault>
     ensures judged { Gives (λ r. (r.0, r.1.now)) result (key_line kind bytes.now) }
     ensures hex { IfOk result (λ r. list_all is_hex_digit r.1.now ≡ true) }

@@ -1,4 +1,5 @@
 ghost use Rattle.std.specs.Prelude.{◌≡◌, IfOk, IfErr, Ok, string_bytes};
+ghost use Rattle.slh_params.specs.ParamSet.{IsStandard};
 ghost use Rattle.slh_core.specs.Keys.{Key};
 ghost use Rattle.slh_files.specs.declared.fault.FileFault.TheVariants.{NoMemory};
 ghost use Rattle.slh_files.specs.declared.key_kind.KeyKind.{KeyKind};
@@ -11,16 +12,18 @@ use slh_core::{PublicKey, SecretKey};
 use slh_params::ParamSet;
 use std::alloc::{AllocError, Allocator};
 
-/// The key file of a public key.
+/// The key file of a public key of one of the standard's sets.
 pub fn write_public<A: Allocator + Clone>(alloc: A, key: &PublicKey) -> Result<String<A>, FileFault>
+    requires standard { IsStandard key.now.set }
     ensures written { IfOk result (λ text. string_bytes text ≡ key_text Public key.now) }
     ensures memory { IfErr result (λ fault. fault ≡ NoMemory) }
 {
     Ok(key_text(alloc, KeyKind::Public, key.set(), key.bytes())?)
 }
 
-/// The key file of a secret key.
+/// The key file of a secret key of one of the standard's sets.
 pub fn write_secret<A: Allocator + Clone>(alloc: A, key: &SecretKey) -> Result<String<A>, FileFault>
+    requires standard { IsStandard key.now.set }
     ensures written { IfOk result (λ text. string_bytes text ≡ key_text Secret key.now) }
     ensures memory { IfErr result (λ fault. fault ≡ NoMemory) }
 {
