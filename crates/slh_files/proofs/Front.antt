@@ -1,4 +1,4 @@
--- A file that is longer than any key file: which fault it has depends on its front and on the first byte after it that is no digit.
+-- A file longer than any key file: its fault depends on its front and on the first byte after it that is no digit.
 use Rattle.std.proofs.Common.{◌≡◌, ℕ, suc, ◌+◌, ◌*◌, ◌<◌, ◌≤◌, ◌==◌, Bool, true, false, not, cond, inl, inr, [], ◌∷◌, ◌++◌, length, take, drop, get_or, Option, Some, None, Result, Ok, Err, refl, sym, ap, ◌∙◌, arith, append_assoc, append-nil, drop-cons, length-append, subst, codes}
 use Rattle.std.proofs.Math.Seq.{get_or-append_seam}
 use Rattle.std.proofs.lemmas.Bool.{cases_eq, cases_lt, eqb-true}

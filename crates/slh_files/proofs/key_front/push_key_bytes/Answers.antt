@@ -1,3 +1,4 @@
+-- What is held after a push is read as all the bytes are: by the lemmas on a front and the byte after it.
 use Rattle.std.proofs.Common.{◌++◌, ◌∷◌, [], arith, ap, sym, ◌∙◌}
 use Rattle.slh_files.specs.KeyFile.{IsKeyFront}
 use Rattle.slh_files.specs.Lines.{Text}
