@@ -2,15 +2,12 @@
 use Rattle.std.proofs.Common.{◌≡◌, ℕ, Bool, true, false, ◌&&◌, ◌==◌, IsTrue, refl, arith, ap}
 use Rattle.std.proofs.Math.Path.{subst}
 use Rattle.std.proofs.Math.Bool.{Bool-set}
-use Rattle.slh_params.specs.Params.{Params}
+use Rattle.slh_params.specs.Params.{numbers}
 use Rattle.slh_params.specs.Valid.{IsValid}
 use Rattle.slh_params.specs.declared.param_set.ParamSet.{ParamSet}
 use Rattle.slh_params.specs.ParamSet.{is}
 
 -- the set of six numbers
-abbrev numbers : ℕ → ℕ → ℕ → ℕ → ℕ → ℕ → Params
-numbers n lg_w hp d a k = record { n = n; lg_w = lg_w; hp = hp; d = d; a = a; k = k }
-
 abbrev set_of : (n lg_w hp d a k : ℕ) → IsValid (numbers n lg_w hp d a k) → ParamSet
 set_of n lg_w hp d a k v = record { n = n; lg_w = lg_w; hp = hp; d = d; a = a; k = k; valid = v }
 
