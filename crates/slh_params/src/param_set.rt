@@ -3,6 +3,7 @@ ghost use Rattle.std.proofs.Props.{props};
 ghost use Rattle.slh_params.specs.Valid.{IsValid};
 
 mod custom;
+mod label;
 mod names;
 mod numbers;
 
