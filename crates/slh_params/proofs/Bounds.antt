@@ -24,7 +24,7 @@ one_of : (x a b c : ℕ) → IsTrue (x == a || x == b || x == c) → (x ≡ a) �
 one_of x a b c h = grind (arith, h)
 
 -- the record of a set is valid
-valid : (s : ParamSet) → IsValid (params s)
+pub valid : (s : ParamSet) → IsValid (params s)
 unfolding params
 valid s = s.valid
 

@@ -27,7 +27,7 @@ found_named name_of text y (x ∷ xs) e = both (bytes_eq (name_of x) text) refl 
     both false is h later = later h
 
 -- the name of each set of the standard
-standard_cases : (P : ParamSet → Type 0) → P S128s → P S128f → P S192s → P S192f → P S256s → P S256f → (set : ParamSet) → IsStandard set → P set
+pub standard_cases : (P : ParamSet → Type 0) → P S128s → P S128f → P S192s → P S192f → P S256s → P S256f → (set : ParamSet) → IsStandard set → P set
 unfolding is_standard
 standard_cases P a b c d e f set h = five (is set S128s || is set S128f || is set S192s || is set S192f || is set S256s) (is set S256f) h
   where

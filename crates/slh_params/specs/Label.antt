@@ -1,5 +1,5 @@
 -- One line of text for each parameter set: ours.
-use Rattle.std.specs.Prelude.{ℕ, List, ◌++◌, if◌then◌else◌, codes}
+use Rattle.std.specs.Prelude.{◌≡◌, ℕ, ◌<◌, List, ◌∷◌, ◌++◌, if◌then◌else◌, slice_index, codes}
 use Rattle.std.specs.Fmt.{decimal}
 use Rattle.slh_params.specs.declared.param_set.ParamSet.{ParamSet}
 use Rattle.slh_params.specs.Params.{Params}
@@ -14,3 +14,7 @@ listed p =
 -- the name of a set of the standard; of any other set, `custom:` and its numbers
 unfoldable pub label : ParamSet → List ℕ
 label set = if is_standard set then name set else codes "custom:" ++ listed (params set)
+
+-- the text is a separator, the number m of at most two digits, and the rest, which begins with no digit
+abbrev pub IsAtFront : List ℕ → ℕ → List ℕ → Type 0
+IsAtFront text m rest = (m < 100) × (slice_index rest 0 < 48) × ((separator : ℕ) × (text ≡ separator ∷ decimal m ++ rest))
