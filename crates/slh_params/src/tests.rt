@@ -26,23 +26,27 @@ const REFUSED: [([u32; 6], &str); 21] = [
     ([4294967295; 6], "n"),
 ];
 
+/// The member that the record is refused for, or no text.
+fn refused_member(record: &[u32; 6]) -> &'static str {
+    let [n, lg_w, hp, d, a, k] = *record;
+    match ParamSet::custom(n, lg_w, hp, d, a, k) {
+        Ok(_) => "",
+        Err(RecordFault::BadRecord { member }) => member,
+    }
+}
+
 #[test]
 fn numbers_out_of_rule_are_refused(rt: HostRuntime) {
-    for ([n, lg_w, hp, d, a, k], member) in &REFUSED {
-        let fault = RecordFault::BadRecord { member };
-        assert_eq!(rt;
-            ParamSet::custom(*n, *lg_w, *hp, *d, *a, *k).err(),
-            Some(fault),
-            "{member}"
-        );
-        assert_eq!(rt; fault.number(), 5);
-        assert_eq!(rt; fault.name(), "BadRecord");
+    for (record, member) in &REFUSED {
+        assert_eq!(rt; refused_member(record), *member);
     }
 }
 
 #[test]
 fn a_refusal_is_told(rt: HostRuntime) -> Result<(), Fail> {
     let fault = RecordFault::BadRecord { member: "lg_w" };
+    assert_eq!(rt; fault.number(), 5);
+    assert_eq!(rt; fault.name(), "BadRecord");
     let text = fault.to_string(rt.alloc())?;
     assert_eq!(rt;
         text.as_str(),
