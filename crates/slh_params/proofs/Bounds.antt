@@ -1,12 +1,12 @@
 -- What holds of the numbers of every valid record: the bounds that lengths, counts and indices keep.
-use Rattle.std.proofs.Common.{◌≡◌, ℕ, zero, suc, ◌+◌, ◌-◌, ◌*◌, ◌/◌, ◌^◌, ◌<◌, ◌≤◌, ◌⊎◌, inl, inr, Bool, true, false, ◌&&◌, ◌||◌, ◌==◌, nat_le, IsTrue, length, refl, lit<, lit≤, arith, ap, sym}
+use Rattle.std.proofs.Common.{◌≡◌, ℕ, zero, suc, ◌+◌, ◌-◌, ◌*◌, ◌^◌, ◌<◌, ◌≤◌, ◌⊎◌, inl, inr, Bool, true, false, ◌&&◌, ◌||◌, ◌==◌, nat_le, IsTrue, refl, lit≤, arith, ap, sym}
 use Rattle.std.proofs.Math.Nat.{mul-le-mul, mul-le-mul_right, add_assoc, pow-le-pow_right}
 use Rattle.std.proofs.lemmas.Nat.{pow_pos}
 use native.Mathlib.Numerals.{unary_clauses}
 use Rattle.slh_params.specs.declared.param_set.ParamSet.{ParamSet}
 use Rattle.slh_params.specs.ParamSet.{params}
-use Rattle.slh_params.specs.Params.{Params, h, m, w, md_len, tree_len, leaf_len, len, len1, len2, sig_len, pk_len, sk_len}
-use Rattle.slh_params.specs.Valid.{IsValid, n_fits, lg_w_fits, hp_fits, d_fits, a_fits, k_fits}
+use Rattle.slh_params.specs.Params.{Params, h, m, w, md_len, tree_len, leaf_len, len, len1, len2, sig_len}
+use Rattle.slh_params.specs.Valid.{IsValid, n_fits, lg_w_fits, hp_fits, d_fits, a_fits}
 
 -- what the parts of a test say
 and_left : (b c : Bool) → IsTrue (b && c) → IsTrue b
@@ -24,7 +24,7 @@ one_of : (x a b c : ℕ) → IsTrue (x == a || x == b || x == c) → (x ≡ a) �
 one_of x a b c h = grind (arith, h)
 
 -- the record of a set is valid
-valid : (s : ParamSet) → IsValid (params s)
+pub valid : (s : ParamSet) → IsValid (params s)
 unfolding params
 valid s = s.valid
 

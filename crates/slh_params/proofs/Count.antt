@@ -1,5 +1,5 @@
 -- How many digits a number has (FIPS 205, section 5, Algorithm 1).
-use Rattle.std.proofs.Common.{◌≡◌, ℕ, zero, suc, ◌-◌, ◌^◌, ◌<◌, ◌≤◌, length, refl, arith, sym, lit<, inl, inr}
+use Rattle.std.proofs.Common.{◌≡◌, ℕ, zero, suc, ◌-◌, ◌^◌, ◌<◌, ◌≤◌, length, arith, sym, inl, inr}
 use Rattle.std.specs.Int.Digits.{digits_of}
 use Rattle.std.proofs.lemmas.Int.Digits.{length-digits_of-le, number_lt, all_below_base_digits_of, number_digits_of}
 use Rattle.std.proofs.lemmas.Bool.{cases_lt}

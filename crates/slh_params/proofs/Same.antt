@@ -2,15 +2,12 @@
 use Rattle.std.proofs.Common.{◌≡◌, ℕ, Bool, true, false, ◌&&◌, ◌==◌, IsTrue, refl, arith, ap}
 use Rattle.std.proofs.Math.Path.{subst}
 use Rattle.std.proofs.Math.Bool.{Bool-set}
-use Rattle.slh_params.specs.Params.{Params}
+use Rattle.slh_params.specs.Params.{Params, numbers}
 use Rattle.slh_params.specs.Valid.{IsValid}
 use Rattle.slh_params.specs.declared.param_set.ParamSet.{ParamSet}
-use Rattle.slh_params.specs.ParamSet.{is}
+use Rattle.slh_params.specs.ParamSet.{is, params}
 
 -- the set of six numbers
-abbrev numbers : ℕ → ℕ → ℕ → ℕ → ℕ → ℕ → Params
-numbers n lg_w hp d a k = record { n = n; lg_w = lg_w; hp = hp; d = d; a = a; k = k }
-
 abbrev set_of : (n lg_w hp d a k : ℕ) → IsValid (numbers n lg_w hp d a k) → ParamSet
 set_of n lg_w hp d a k v = record { n = n; lg_w = lg_w; hp = hp; d = d; a = a; k = k; valid = v }
 
@@ -68,3 +65,10 @@ eqb-self x = grind arith
 pub same-is : (s : ParamSet) → IsTrue (is s s)
 unfolding is
 same-is s = rw (eqb-self s.n, eqb-self s.lg_w, eqb-self s.hp, eqb-self s.d, eqb-self s.a, eqb-self s.k) refl
+
+-- sets with the same record
+pub params_same : (s t : ParamSet) → params s ≡ params t → s ≡ t
+unfolding params
+params_same s t e =
+    same_numbers s t (ap (λ (p : Params). p.n) e) (ap (λ (p : Params). p.lg_w) e) (ap (λ (p : Params). p.hp) e)
+    (ap (λ (p : Params). p.d) e) (ap (λ (p : Params). p.a) e) (ap (λ (p : Params). p.k) e)

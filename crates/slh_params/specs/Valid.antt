@@ -1,5 +1,5 @@
 -- Which parameter records are valid: ours. The bounds keep every length below a machine word and every tree within 64 bits of index.
-use Rattle.std.specs.Prelude.{ℕ, ◌-◌, ◌*◌, ◌==◌, ◌&&◌, ◌||◌, nat_le, Bool, IsTrue}
+use Rattle.std.specs.Prelude.{ℕ, ◌-◌, ◌*◌, ◌==◌, ◌&&◌, ◌||◌, nat_le, Bool, cond, IsTrue, List, Option, Some, None, codes}
 use Rattle.slh_params.specs.Params.{Params}
 
 -- the bounds of each member
@@ -24,3 +24,9 @@ k_fits p = nat_le 1 p.k && nat_le p.k 64
 -- the record is valid
 abbrev pub IsValid : Params → Type 0
 IsValid p = IsTrue (n_fits p && lg_w_fits p && hp_fits p && d_fits p && a_fits p && k_fits p)
+
+-- the name of the first member that is out of rule
+unfoldable pub first_bad : Params → Option (List ℕ)
+first_bad p =
+    cond (n_fits p) (cond (lg_w_fits p) (cond (hp_fits p) (cond (d_fits p) (cond (a_fits p) (cond (k_fits p) None
+    (Some (codes "k"))) (Some (codes "a"))) (Some (codes "d"))) (Some (codes "hp"))) (Some (codes "lg_w"))) (Some (codes "n"))

@@ -2,8 +2,12 @@
 ghost use Rattle.std.proofs.Props.{props};
 ghost use Rattle.slh_params.specs.Valid.{IsValid};
 
+mod custom;
+mod label;
 mod names;
 mod numbers;
+
+pub use custom::RecordFault;
 
 /// A parameter set of SLH-DSA with SHA-2: six numbers from which all others follow.
 ///

@@ -1,5 +1,5 @@
 -- The constants have the numbers of the table.
-use Rattle.std.proofs.Common.{◌≡◌, List, [], ◌∷◌, refl}
+use Rattle.std.proofs.Common.{◌≡◌, [], ◌∷◌, refl}
 use Rattle.slh_params.specs.declared.param_set.ParamSet.{ParamSet}
 use Rattle.slh_params.specs.ParamSet.{is}
 use Rattle.slh_params.proofs.Same.{is-same}

@@ -1,7 +1,7 @@
 -- Each text stands for the constant of that name, and no other text for any.
-use Rattle.std.proofs.Common.{◌≡◌, List, ℕ, Some, None, refl, sym, ap, ◌∙◌, codes}
+use Rattle.std.proofs.Common.{◌≡◌, List, ℕ, Some, refl, sym, ap, ◌∙◌, codes}
 use Rattle.slh_params.specs.declared.param_set.ParamSet.{ParamSet}
-use Rattle.slh_params.specs.ParamSet.{is, name, set_named, IsStandard, S128s, S128f, S192s, S192f, S256s, S256f}
+use Rattle.slh_params.specs.ParamSet.{is, name, set_named, S128s, S128f, S192s, S192f, S256s, S256f}
 use Rattle.slh_params.proofs.Same.{is-same}
 use Rattle.slh_params.proofs.Names.{set_named-none, standard-named}
 use Rattle.slh_params.proofs.param_set.ParamSet.from_name.Goals as goal

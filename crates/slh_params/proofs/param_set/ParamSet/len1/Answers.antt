@@ -1,8 +1,8 @@
 -- Each width of a digit divides 8 or 16, so that rounding is by a number that is known.
-use Rattle.std.proofs.Common.{◌≡◌, ℕ, ◌*◌, ◌+◌, ◌-◌, ◌/◌, ◌⊎◌, inl, inr, arith}
+use Rattle.std.proofs.Common.{◌≡◌, ℕ, ◌*◌, ◌⊎◌, inl, inr, arith}
 use Rattle.std.specs.Int.{div_ceil}
 use Rattle.slh_params.specs.ParamSet.{params}
-use Rattle.slh_params.specs.Params.{len1, ceil_div}
+use Rattle.slh_params.specs.Params.{ceil_div}
 use Rattle.slh_params.proofs.Bounds.{lg_w_cases}
 use Rattle.slh_params.proofs.param_set.ParamSet.len1.Goals as goal
 
