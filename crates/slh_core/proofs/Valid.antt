@@ -6,7 +6,7 @@ use Rattle.std.proofs.Math.Nat.{mod-lt}
 use Rattle.slh_params.specs.Bits.{to_int}
 use Rattle.slh_params.specs.Params.{Params, h, md_len, tree_len, leaf_len, sig_len}
 use Rattle.slh_params.specs.ParamSet.{params}
-use Rattle.slh_params.proofs.Table.{n_small}
+use Rattle.slh_params.proofs.Bounds.{n_high}
 use Rattle.slh_hash.specs.Keyed.{PRF_msg}
 use Rattle.slh_hash.proofs.Lengths.{length-PRF_msg}
 use Rattle.slh_few.specs.Fors.{fors_part, fors_part_len, fors_sig}
@@ -80,6 +80,6 @@ signature_valid sk msg opt_rand gen =
     let r : List ℕ = PRF_msg p (sk_prf sk) opt_rand msg in
     let digest : List ℕ = digest_of (public_of sk) r msg in
     let rest : List ℕ = signature_of_digest sk digest in
-    let n : length r ≡ p.n = length-PRF_msg p (sk_prf sk) opt_rand msg (n_small sk.set) in
+    let n : length r ≡ p.n = length-PRF_msg p (sk_prf sk) opt_rand msg (n_high sk.set) in
     let len : length (r ++ rest) ≡ sig_len p = length-append r rest ∙ omega (arith, n, length-rest sk digest, parts_of_sig p) in
     valid (public_of sk) msg r rest (r ++ rest) refl n len (parts_root sk digest gen)

@@ -7,7 +7,7 @@ ghost use Rattle.slh_core.specs.Cut.{idx_tree, idx_leaf};
 use slh_params::{ParamSet, to_int};
 
 /// The most bytes that a message digest has in any set.
-pub const MOST_DIGEST_LEN: usize = 49;
+pub const MOST_DIGEST_LEN: usize = 122;
 
 /// The key pair that signs a message digest: a tree of layer 0 and a leaf of it.
 #[derive(Clone, Copy)]
@@ -29,7 +29,7 @@ fn low_bits(x: u64, count: u32) -> u64
 
 /// The key pair that a message digest of m bytes names: what follows its first `md_len` bytes, which FORS
 /// signs (FIPS 205, Algorithm 19, lines 7 to 10).
-#[tactic(auto, unfolding(crate::specs::Cut::idx_tree, crate::specs::Cut::idx_leaf))]
+#[tactic(auto, using(slh_params::proofs::Bounds::digest_bounds), unfolding(crate::specs::Cut::idx_tree, crate::specs::Cut::idx_leaf))]
 pub fn cut_digest(set: ParamSet, digest: &[u8]) -> Cut
     requires { length digest.now ≡ m (params set) }
     ensures few { length digest.now ≤ MOST_DIGEST_LEN }

@@ -9,7 +9,7 @@ use slh_params::{Node, ParamSet};
 use slh_tree::root;
 
 /// The root of the one tree of the top layer.
-#[tactic(auto, unfolding(crate::specs::Keys::top_root))]
+#[tactic(auto, using(slh_params::proofs::Bounds::layer_bounds), unfolding(crate::specs::Keys::top_root))]
 fn top_root(seeds: &Seeds) -> Node
     ensures value { result.items ≡ top_root (params seeds.now.set) seeds.now.sk_seed.now seeds.now.pk_seed.now }
     ensures len { length result.items ≡ (params seeds.now.set).n }

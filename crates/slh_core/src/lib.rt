@@ -1,6 +1,6 @@
 //! SLH-DSA (FIPS 205) with SHA-2 in one thread and without memory: keys, message digests, pre-hashing,
 //! signing and verifying.
-#![tactic(auto)]
+#![tactic(auto, using(slh_params::proofs::Bounds::n_high))]
 
 pub use cut::{Cut, cut_digest};
 pub use fault::{KeyFault, KeygenFault, SignFault};

@@ -195,3 +195,9 @@ sig_len_is s = ap (λ x. x * (params s).n) (sym (add_assoc (1 + (params s).k * (
 
 -- the bounds of all
 pub ruleset bounds = (n_low, n_high, hp_low, hp_high, d_low, d_high, a_low, a_high, k_low, k_high, h_high, hp_at_most_h, md_len_high, tree_len_high, leaf_len_high, m_high, lg_w_low, lg_w_high, w_low, w_high, len1_low, len1_high, len_high, sig_len_high)
+
+-- those of a message digest and what it is cut into
+pub ruleset digest_bounds = (m_high, tree_len_high, leaf_len_high, hp_at_most_h, h_below_top_high, hp_high)
+
+-- those of the layers
+pub ruleset layer_bounds = (d_low, d_high)

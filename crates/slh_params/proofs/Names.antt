@@ -14,6 +14,11 @@ false_of : (b : Bool) (P : Type 0) → Decides b P → (P → ⊥) → b ≡ fal
 false_of true P d other = absurd (other (d.0 refl))
 false_of false P d other = refl
 
+-- nothing is found by a text that is the name of nothing
+pub none_found : {A : Type 0} (name_of : A → List ℕ) (text : List ℕ) → ((x : A) → name_of x ≡ text → ⊥) → (xs : List A) → find (λ x. bytes_eq (name_of x) text) xs ≡ None
+none_found name_of text other [] = refl
+none_found name_of text other (x ∷ xs) = rw (false_of (bytes_eq (name_of x) text) (name_of x ≡ text) (bytes_eq-Decides (name_of x) text) (other x)) (none_found name_of text other xs)
+
 -- what is found has the name
 pub found_named : {A : Type 0} (name_of : A → List ℕ) (text : List ℕ) (y : A) (xs : List A) → find (λ x. bytes_eq (name_of x) text) xs ≡ Some y → name_of y ≡ text
 found_named name_of text y [] e = absurd cc
