@@ -49,6 +49,7 @@ fn put_fors(trees: &SigningTrees, joined: &[JoinedTree], out: &mut [u8])
 
 /// Writes the hypertree signature: of each layer the WOTS+ signature of the root below it, at layer 0 of `pk_fors`, and
 /// the path of the leaf that signs (Algorithm 12).
+#[tactic(auto, using(slh_params::proofs::Bounds::d_high))]
 fn put_layers(
     trees: &SigningTrees,
     pk_fors: &Node,

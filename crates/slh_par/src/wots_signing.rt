@@ -66,6 +66,7 @@ impl<'w, 's> Work for LayerSigning<'w, 's> {
         self.trees.seeds.set.d()
     }
 
+    #[tactic(auto, using(slh_params::proofs::Bounds::d_high))]
     fn run(&self, i: u32) -> Result<WotsSig, NoMemory> {
         Ok(self.sign(i as u8))
     }

@@ -79,6 +79,7 @@ impl<'a> SigningTrees<'a> {
     }
 
     /// What is made of the leaves from `lo` to `hi`, `hi` left out, of the XMSS tree of a layer.
+    #[tactic(auto, using(slh_params::proofs::Bounds::hp_low, slh_params::proofs::Bounds::hp_high))]
     fn hashed_xmss(&self, layer: u8, lo: u32, hi: u32) -> HashedRange
         requires layer { layer < (params self.now.seeds.set).d }
         requires some { lo < hi }
@@ -95,6 +96,7 @@ impl<'a> SigningTrees<'a> {
     }
 
     /// What is made of the leaves from `lo` to `hi`, `hi` left out, of a FORS tree.
+    #[tactic(auto, using(slh_params::proofs::Bounds::a_low, slh_params::proofs::Bounds::a_high))]
     fn hashed_fors(&self, number: u32, lo: u32, hi: u32) -> HashedRange
         requires tree { number < (params self.now.seeds.set).k }
         requires some { lo < hi }
@@ -119,6 +121,7 @@ impl<'a> SigningTrees<'a> {
 
     /// The place at a layer: the tree there, and the leaf of it whose key signs (FIPS 205, Algorithm 12, lines 7 and
     /// 8).
+    #[tactic(auto, using(slh_params::proofs::Bounds::d_high))]
     pub fn layer_place(&self, layer: u8) -> Place
         requires { layer < (params self.now.seeds.set).d }
         ensures place { result ≡ layer_place (params self.now.seeds.set) self.now.idx_tree self.now.idx_leaf layer }
@@ -128,6 +131,7 @@ impl<'a> SigningTrees<'a> {
     }
 
     /// The leaf of FORS tree `number` that the digest asks for (FIPS 205, Algorithm 16, line 2).
+    #[tactic(auto, using(slh_params::proofs::Bounds::k_high))]
     pub fn fors_index(&self, number: u32) -> u32
         requires { number < (params self.now.seeds.set).k }
         ensures value { result ≡ fors_index (params self.now.seeds.set) self.now.md.now number }

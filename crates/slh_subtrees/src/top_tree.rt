@@ -42,6 +42,7 @@ impl<'w, 's> Work for TopRanges<'w, 's> {
 }
 
 /// The cover of the leaves from `lo` to `hi`, `hi` left out.
+#[tactic(auto, using(slh_params::proofs::Bounds::bounds))]
 fn top_range(seeds: &Seeds<'_>, lo: u32, hi: u32) -> Cover
     requires some { lo < hi }
     requires within { hi ≤ 2 ^ (params seeds.now.set).hp }
@@ -56,6 +57,7 @@ fn top_range(seeds: &Seeds<'_>, lo: u32, hi: u32) -> Cover
 }
 
 /// The root of the tree, from the covers of its ranges.
+#[tactic(auto, using(slh_params::proofs::Bounds::bounds))]
 pub(crate) fn gathered_top(seeds: &Seeds<'_>, cutting: &Cutting, covers: &[Cover]) -> Node
     requires set { cutting.now.set ≡ seeds.now.set }
     requires count { length covers.now ≡ length (key_generation_jobs cutting.now) }

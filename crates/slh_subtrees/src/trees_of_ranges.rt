@@ -34,6 +34,7 @@ pub(crate) fn apart<A: Allocator + Clone>(
 }
 
 /// Tree number `c` of a signature.
+#[tactic(auto, using(slh_params::proofs::Bounds::d_high))]
 fn tree_numbered(set: ParamSet, c: u32) -> JobTree
     requires { c < (params set).d + (params set).k }
     ensures value { result ≡ numbered (params set) c }
@@ -92,6 +93,7 @@ fn tree_of_ranges(
 }
 
 /// All trees, from the covers and the records of all their ranges.
+#[tactic(auto, using(slh_params::proofs::Bounds::d_high, slh_params::proofs::Bounds::k_high))]
 pub(crate) fn trees_of_ranges<A: Allocator>(
     alloc: A,
     trees: &SigningTrees<'_>,

@@ -1,5 +1,6 @@
 //! The key of these tests, and what it signs.
 ghost use Rattle.std.specs.Prelude.{◌≡◌};
+ghost use Rattle.slh_params.specs.ParamSet.{S128f};
 
 use slh_few::Seeds;
 use slh_params::ParamSet;
@@ -9,7 +10,7 @@ pub const SET: ParamSet = ParamSet::S128f;
 
 /// The seeds.
 pub fn seeds() -> Seeds<'static>
-    ensures { result.set ≡ SET }
+    ensures { result.set ≡ S128f }
 {
     Seeds {
         set: SET,

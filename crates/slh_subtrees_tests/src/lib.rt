@@ -1,5 +1,5 @@
 //! Tests of the trees of a signature by several threads: they are those that one thread makes, and their refusals.
-#![tactic(auto)]
+#![tactic(auto, unfolding(slh_params::specs::ParamSet::params))]
 
 pub mod key;
 #[cfg(test)]

@@ -46,7 +46,7 @@ fn trees_of_a_signature(rt: HostRuntime) -> Result<(), Fail> {
     let indices = fors_indices(SET, &MD);
     for (number, xmss, fors) in rows() {
         let workers = Workers::new(number).ok_or("workers")?;
-        let cutting = Cutting::new(SET, xmss, fors)?;
+        let cutting = Cutting::new(seeds.set, xmss, fors)?;
         let joined = join_trees(&rt, rt.alloc(), &trees, workers, &cutting, &NoGate)?;
         assert_eq!(rt; joined.len(), 55);
         for layer in 0u8..22 {
@@ -76,7 +76,7 @@ fn top_tree_of_a_key(rt: HostRuntime) -> Result<(), Fail> {
     let expected = root(&XmssTree::new(&seeds, 21, 0));
     for (number, xmss, fors) in rows() {
         let workers = Workers::new(number).ok_or("workers")?;
-        let cutting = Cutting::new(SET, xmss, fors)?;
+        let cutting = Cutting::new(seeds.set, xmss, fors)?;
         let top = join_top_tree(&rt, rt.alloc(), &seeds, workers, &cutting, &NoGate)?;
         assert_eq!(rt; top.as_slice(), expected.as_slice(), "{number} workers");
     }

@@ -1,5 +1,5 @@
 // Refusals: each growth of memory, and a gate that stops.
-use crate::key::{IDX_LEAF, IDX_TREE, MD, SET, seeds};
+use crate::key::{IDX_LEAF, IDX_TREE, MD, seeds};
 use refusing_allocator::Refusing;
 use slh_cutting::{Cuts, Cutting};
 use slh_subtrees::{SigningTrees, join_top_tree, join_trees};
@@ -29,7 +29,7 @@ impl Gate for StopAt {
 fn each_growth_refused(rt: HostRuntime) -> Result<(), Fail> {
     let seeds = seeds();
     let trees = SigningTrees::new(&seeds, IDX_TREE, IDX_LEAF, &MD);
-    let cutting = Cutting::new(SET, Cuts::Levels(0), Cuts::Levels(0))?;
+    let cutting = Cutting::new(seeds.set, Cuts::Levels(0), Cuts::Levels(0))?;
     let workers = Workers::new(2).ok_or("workers")?;
     let mut refusals = 0u64;
     for nth in 1..MANY {
@@ -53,7 +53,7 @@ fn each_growth_refused(rt: HostRuntime) -> Result<(), Fail> {
 fn stopped_by_the_gate(rt: HostRuntime) -> Result<(), Fail> {
     let seeds = seeds();
     let trees = SigningTrees::new(&seeds, IDX_TREE, IDX_LEAF, &MD);
-    let cutting = Cutting::new(SET, Cuts::Levels(0), Cuts::Levels(0))?;
+    let cutting = Cutting::new(seeds.set, Cuts::Levels(0), Cuts::Levels(0))?;
     let gate = StopAt { job: 0 };
     for number in [1u8, 2] {
         let workers = Workers::new(number).ok_or("workers")?;

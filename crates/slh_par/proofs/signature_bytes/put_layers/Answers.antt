@@ -1,7 +1,7 @@
 -- After each layer the first parts of the hypertree signature are written.
 use Rattle.std.proofs.Common.{◌≡◌, ℕ, ◌+◌, ◌*◌, ◌<◌, ◌++◌, List, length, take, refl, ap, sym, subst, ◌∙◌, arith}
 use Rattle.arrayvec.specs.ArrayVec.{ArrayVec}
-use Rattle.slh_params.proofs.Table.{n_small}
+use Rattle.slh_params.proofs.Bounds.{n_high}
 use Rattle.slh_few.specs.Xmss.{xmss_sig_len}
 use Rattle.slh_few.specs.Hypertree.{layer_place, layer_sig, ht_sig}
 use Rattle.slh_few.proofs.Ends.{end_to_end-none, writes-more, part_fits, written_all}
@@ -30,7 +30,7 @@ pub put_layer_part-requires-clause-wots : goal.put_layer_part-requires-clause-wo
 put_layer_part-requires-clause-wots c =
     let s = c.args.trees.now.seeds in
     ap length (wots_there (goal.at.put_layer_part-requires-clause-wots c).After-as_slice)
-    ∙ length-wots_sig (params_of c.args.trees.now) s.sk_seed.now s.pk_seed.now _ _ (n_small s.set)
+    ∙ length-wots_sig (params_of c.args.trees.now) s.sk_seed.now s.pk_seed.now _ _ (n_high s.set)
 
 pub put_layer_part-requires-clause-joined : goal.put_layer_part-requires-clause-joined
 put_layer_part-requires-clause-joined c =
