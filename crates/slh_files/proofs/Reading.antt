@@ -137,6 +137,10 @@ file_read kind file key h =
     let same : key_of a.0 ≡ key = cc a.2 in
     subst (IsKeyFile kind file) same (line_read kind file a.0 a.1)
 
+-- a key that was read is of one of the standard's sets
+pub key_file-standard : (kind : KeyKind) (file : Text) (key : Key) → key_file kind file ≡ Ok key → IsStandard key.set
+key_file-standard kind file key h = (file_read kind file key h).standard
+
 -- ---- from the grammar to reading
 
 kind_no_feed : (kind : KeyKind) → list_all no_feed (first_line kind) ≡ true

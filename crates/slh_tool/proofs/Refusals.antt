@@ -1,17 +1,23 @@
 -- Refusals after a key was read.
-use Rattle.std.proofs.Common.{◌≡◌, ◌⊎◌, ◌<◌, length, Result, Ok, Err, IfErr, IsErrAnd, inr, subst, sym}
+use Rattle.std.proofs.Common.{◌≡◌, ◌⊎◌, ◌<◌, ◌≤◌, length, Option, OnOk, Result, Some, Ok, Err, IfOk, IfErr, IsErrAnd, inl, inr, subst, sym}
 use Rattle.clap.specs.Words.{Text}
 use Rattle.slh_core.specs.Keys.{Key}
-use Rattle.slh_devices.specs.Devices.{FilesState}
+use Rattle.slh_devices.specs.Devices.{FilesState, SourceState}
 use Rattle.slh_files.specs.declared.key_kind.KeyKind.TheVariants.{Public, Secret}
 use Rattle.slh_params.specs.declared.param_set.ParamSet.{ParamSet}
-use Rattle.slh_tool.specs.Cuts.{HasCutting}
-use Rattle.slh_tool.specs.Keys.{HoldsKey}
-use Rattle.slh_tool.specs.Reading.{IsFile}
-use Rattle.slh_tool.specs.Replies.{HasSignForm, RefusesSign, RefusesSigning, RefusesVerify, RefusesVerifying}
-use Rattle.slh_tool.specs.Requests.{SignOptions, VerifyOptions}
+use Rattle.slh_params.specs.ParamSet.{set_named}
+use Rattle.slh_core.specs.Messages.{message_in_form, form_with}
+use Rattle.slh_core.specs.declared.pre_hash.PreHash.{PreHash}
+use Rattle.slh_cutting.specs.CutTrees.{CutTrees}
+use Rattle.slh_tool.specs.Options.{HasForm, random_of, signature_of}
+use Rattle.slh_tool.specs.Cuts.{HasCutting, IsCutting, RefusesCutting}
+use Rattle.slh_tool.specs.Keys.{HoldsKey, RefusesSeedsOf}
+use Rattle.slh_tool.specs.Reading.{IsFile, RefusesFile}
+use Rattle.slh_tool.specs.Replies.{HasSignForm, RefusesKeygen, RefusesSign, RefusesSigning, RefusesVerify, RefusesVerifying, SignsMessage, SignsWith}
+use Rattle.slh_tool.specs.Requests.{KeygenOptions, SignOptions, VerifyOptions}
+use Rattle.slh_tool.specs.Seeds.{RefusesSeeds}
 use Rattle.slh_tool.specs.declared.fault.Fault.{Fault}
-use Rattle.slh_tool.specs.declared.fault.Fault.TheVariants.{ContextTooLong, NoMemory}
+use Rattle.slh_tool.specs.declared.fault.Fault.TheVariants.{BadCutting, BadHex, BadKeyLength, BadOption, BadSeeds, BadWords, Bad, ContextTooLong, FileTooLong, Missing, NoMemory, NotAList, NotJson, NotAKeyFile, ReadFailed, TrailingBytes, UnknownSet, WriteFailed}
 
 -- `sign` is refused with a key that was read
 pub sign_refused : {T : Type 0} (options : SignOptions) (old mid new : FilesState) (key : Key) (r : Result T Fault) → HoldsKey Secret old options.key key
@@ -30,6 +36,100 @@ message_refused options set context message old new (Err e) form cut read h = in
 pub verify_refused : (options : VerifyOptions) (old mid new : FilesState) (key : Key) (e : Fault) → HoldsKey Public old options.key key
     → mid ≡ old → RefusesVerifying options mid new e → RefusesVerify options old new e
 verify_refused options old mid new key e held kept h = inr (key, held, subst (λ (s : FilesState). RefusesVerifying options s new e) kept h)
+
+-- no seeds of a named set were read
+pub seeds_refused : (name : Text) (set : ParamSet) (old new : SourceState) (e : Fault) → set_named name ≡ Some set → RefusesSeeds set old new e → RefusesSeedsOf name old new e
+seeds_refused name set old new NoMemory named h = absurd h
+seeds_refused name set old new ContextTooLong named h = absurd h
+seeds_refused name set old new BadCutting named h = absurd h
+seeds_refused name set old new NotAKeyFile named h = absurd h
+seeds_refused name set old new UnknownSet named h = absurd h
+seeds_refused name set old new BadHex named h = absurd h
+seeds_refused name set old new BadKeyLength named h = absurd h
+seeds_refused name set old new TrailingBytes named h = absurd h
+seeds_refused name set old new NotJson named h = absurd h
+seeds_refused name set old new NotAList named h = absurd h
+seeds_refused name set old new (Missing test member) named h = absurd h
+seeds_refused name set old new (Bad test member) named h = absurd h
+seeds_refused name set old new BadWords named h = absurd h
+seeds_refused name set old new ReadFailed named h = (set, named, h)
+seeds_refused name set old new WriteFailed named h = absurd h
+seeds_refused name set old new BadSeeds named h = (set, named, h)
+seeds_refused name set old new BadOption named h = absurd h
+seeds_refused name set old new FileTooLong named h = absurd h
+
+-- `keygen` is refused for the cutting, or for the seeds
+pub cutting_refused : (options : KeygenOptions) (set : ParamSet) (old new : SourceState) (e : Fault) → set_named options.set ≡ Some set
+    → RefusesCutting options.work set e → RefusesKeygen options old new e
+cutting_refused options set old new NoMemory named h = absurd h
+cutting_refused options set old new ContextTooLong named h = absurd h
+cutting_refused options set old new BadCutting named h = (set, named, inl h)
+cutting_refused options set old new NotAKeyFile named h = absurd h
+cutting_refused options set old new UnknownSet named h = absurd h
+cutting_refused options set old new BadHex named h = absurd h
+cutting_refused options set old new BadKeyLength named h = absurd h
+cutting_refused options set old new TrailingBytes named h = absurd h
+cutting_refused options set old new NotJson named h = absurd h
+cutting_refused options set old new NotAList named h = absurd h
+cutting_refused options set old new (Missing test member) named h = absurd h
+cutting_refused options set old new (Bad test member) named h = absurd h
+cutting_refused options set old new BadWords named h = absurd h
+cutting_refused options set old new ReadFailed named h = absurd h
+cutting_refused options set old new WriteFailed named h = absurd h
+cutting_refused options set old new BadSeeds named h = absurd h
+cutting_refused options set old new BadOption named h = (set, named, inl h)
+cutting_refused options set old new FileTooLong named h = absurd h
+
+pub keygen_refused : (options : KeygenOptions) (set : ParamSet) (old new : SourceState) (e : Fault) → set_named options.set ≡ Some set
+    → HasCutting options.work set → RefusesSeeds set old new e → RefusesKeygen options old new e
+keygen_refused options set old new NoMemory named cut h = absurd h
+keygen_refused options set old new ContextTooLong named cut h = absurd h
+keygen_refused options set old new BadCutting named cut h = absurd h
+keygen_refused options set old new NotAKeyFile named cut h = absurd h
+keygen_refused options set old new UnknownSet named cut h = absurd h
+keygen_refused options set old new BadHex named cut h = absurd h
+keygen_refused options set old new BadKeyLength named cut h = absurd h
+keygen_refused options set old new TrailingBytes named cut h = absurd h
+keygen_refused options set old new NotJson named cut h = absurd h
+keygen_refused options set old new NotAList named cut h = absurd h
+keygen_refused options set old new (Missing test member) named cut h = absurd h
+keygen_refused options set old new (Bad test member) named cut h = absurd h
+keygen_refused options set old new BadWords named cut h = absurd h
+keygen_refused options set old new ReadFailed named cut h = (set, named, inr (cut, h))
+keygen_refused options set old new WriteFailed named cut h = absurd h
+keygen_refused options set old new BadSeeds named cut h = (set, named, inr (cut, h))
+keygen_refused options set old new BadOption named cut h = absurd h
+keygen_refused options set old new FileTooLong named cut h = absurd h
+
+-- the message file of `sign` is not read
+pub file_refused : (options : SignOptions) (set : ParamSet) (context : Text) (old new : FilesState) (e : Fault)
+    → HasSignForm options set context → HasCutting options.work set → RefusesFile old new options.message e → RefusesSigning options set old new e
+file_refused options set context old new e form cut h = inr (context, form, inr (cut, inl h))
+
+-- what is signed with a key that was read
+pub signed_with : {T : Type 0} (bytes : T → Text) (options : SignOptions) (old mid : FilesState) (key : Key) (r : Result T Fault) → HoldsKey Secret old options.key key
+    → mid ≡ old → IfOk r (λ x. SignsWith options mid key (bytes x)) → IfOk r (λ x. SignsMessage options old (bytes x))
+signed_with bytes options old mid key (Ok x) held kept h = (key, held, subst (λ (s : FilesState). SignsWith options s key (bytes x)) kept h)
+signed_with bytes options old mid key (Err e) held kept h = tt
+
+pub made : {T : Type 0} (bytes : T → Text) (options : SignOptions) (files : FilesState) (key : Key) (context : Text) (prehash : Option PreHash) (random : Option Text)
+    (message : Text) (cutting : CutTrees) (r : Result T Fault) → HasForm options.form context prehash → random_of key.set options.random ≡ Some random
+    → IsCutting options.work key.set cutting → IsFile files options.message message → OnOk r (length context ≤ 255)
+    → IfOk r (λ x. bytes x ≡ signature_of key (message_in_form (form_with prehash) context message) random) → IfOk r (λ x. SignsWith options files key (bytes x))
+made bytes options files key context prehash random message cutting (Ok x) form randomizer cut read short signed = record {
+  context = context;
+  prehash = prehash;
+  random = random;
+  message = message;
+  cutting = cutting;
+  form = form;
+  randomizer = randomizer;
+  cut = cut;
+  read = read;
+  short = short;
+  signed = signed;
+}
+made bytes options files key context prehash random message cutting (Err e) form randomizer cut read short signed = tt
 
 -- the fault that `?` hands on
 pub handed_on : {T : Type 0} (P : Fault → Type 0) (r : Result T Fault) (e : Fault) → IsErrAnd r (λ f. f ≡ e) → P e → IfErr r P

@@ -22,5 +22,5 @@ pub(crate) fn all_sets<A: Allocator + Clone>(alloc: A) -> Result<String<A>, Faul
     ensures done { IfOk result (λ s. ShowsSets None (string_bytes s)) }
     ensures refused { IfErr result (RefusesSets None) }
 {
-    Ok(set_lines(alloc, &ParamSet::ALL)?)
+    Ok(set_lines(alloc, &ParamSet::all())?)
 }
