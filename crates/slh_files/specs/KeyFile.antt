@@ -1,5 +1,5 @@
--- The key file, version 1: the kind of the key, the name of its parameter set, and its bytes as
--- hexadecimal digits, a line each.
+-- The key file, version 1: the kind of the key, the name of its parameter set, one of the standard's six, and its bytes
+-- as hexadecimal digits, a line each.
 use Rattle.std.specs.Prelude.{◌≡◌, ◌==◌, ◌*◌, ◌<◌, ◌≤◌, ◌⊎◌, ℕ, false, not, if◌then◌else◌, [], ◌∷◌, ◌++◌, length, get_or, Option, Some, None, Result, Ok, Err, codes}
 use Rattle.std.specs.List.{list_all}
 use Rattle.std.specs.Str.{bytes_eq}

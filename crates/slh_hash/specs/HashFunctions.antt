@@ -1,4 +1,4 @@
--- The hash functions that FIPS 205 uses with the SHA-2 sets (section 11.2).
+-- The hash functions that FIPS 205 uses with the SHA-2 sets (section 11.2), here by n for every record.
 use Rattle.std.specs.Prelude.{◌≡◌, ℕ, ◌≤◌, List, length, if◌then◌else◌, ◌==◌}
 use Rattle.sha2.specs.Sha256.{sha256}
 use Rattle.sha2.specs.Sha512.{sha512}

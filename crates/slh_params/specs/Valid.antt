@@ -1,4 +1,5 @@
--- Which parameter records are valid: ours. The bounds keep every length below a machine word and every tree within 64 bits of index.
+-- Which parameter records are valid: ours. The bounds have the standard's six sets, and keep the index of a tree within
+-- 64 bits. They say nothing of security.
 use Rattle.std.specs.Prelude.{ℕ, ◌-◌, ◌*◌, ◌==◌, ◌&&◌, ◌||◌, nat_le, Bool, cond, IsTrue, List, Option, Some, None, codes}
 use Rattle.slh_params.specs.Params.{Params}
 
