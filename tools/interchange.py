@@ -80,7 +80,7 @@ def verify_passes(test):
 
 passes = {"keygen": keygen_passes, "sign": sign_passes, "verify": verify_passes}
 counts = {"passed": 0, "failed": 0, "passed over": 0}
-for path in sorted(vectors.glob("*.json")):
+for path in sorted(set(vectors.glob("*.json")) - {vectors / "records.json"}):
     tests = json.loads(path.read_text())
     if not isinstance(tests, list):
         continue

@@ -104,7 +104,7 @@ PASSES = {"keygen": keygen_passes, "sign": sign_passes, "verify": verify_passes}
 
 def main():
     tests = []
-    for path in sorted(vectors.glob("*.json")):
+    for path in sorted(set(vectors.glob("*.json")) - {vectors / "records.json"}):
         tests += [(path.name, number, test) for number, test in enumerate(json.loads(path.read_text()), 1)]
     if verify_only:
         tests = [it for it in tests if it[2]["kind"] == "verify" and it[2]["form"] != "internal"]

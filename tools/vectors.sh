@@ -41,6 +41,8 @@ one_failed() {
 "$program" params >"$work/report" 2>"$work/errors"
 
 for file in "$vectors"/*.json; do
+    # Its rows are of free records, which no vector file names: slh_conformance has them.
+    [ "${file##*/}" != records.json ] || continue
     name=$(basename "$file")
     tests=$(grep -c '"kind":' "$file")
     run "$file"
