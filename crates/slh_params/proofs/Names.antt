@@ -84,6 +84,7 @@ set_named-standard text set e =
   where
     of : (t : ParamSet) → IsStandard t → Some t ≡ Some set → IsStandard set
     of t standard found = let same : t ≡ set = cc in subst IsStandard same standard
+
     six : (a b c d e f : Bool) → cond a (Some S128s) (cond b (Some S128f) (cond c (Some S192s) (cond d (Some S192f) (cond e (Some S256s) (cond f (Some S256f) None))))) ≡ Some set → IsStandard set
     six true b c d e f found = of S128s refl found
     six false true c d e f found = of S128f refl found
