@@ -19,7 +19,7 @@ fn is_valid(form: Form, ctx: &[u8], sig: &[u8], pk: &PublicKey) -> bool {
 fn contexts_of_up_to_255_bytes(rt: HostRuntime) -> Result<(), Fail> {
     let alloc = rt.alloc();
     let sk = key(SET);
-    let cutting = whole_trees()?;
+    let cutting = whole_trees(SET)?;
     let longest = [7; 255];
     for form in FORMS {
         for (ctx, other) in [(b"".as_slice(), longest.as_slice()), (&longest, b"")] {
@@ -40,7 +40,7 @@ fn contexts_of_up_to_255_bytes(rt: HostRuntime) -> Result<(), Fail> {
 #[test]
 fn context_of_256_bytes_is_refused(rt: HostRuntime) -> Result<(), Fail> {
     let sk = key(SET);
-    let cutting = whole_trees()?;
+    let cutting = whole_trees(SET)?;
     for form in FORMS {
         let mut out = unwritten(rt.alloc(), SET)?;
         let two = workers(2)?;

@@ -46,7 +46,7 @@ fn refuse_signing<R: Abort + Threads + Sync>(
     number: u8,
 ) -> Result<(), Fail> {
     let sk = key(SET);
-    let cutting = whole_trees()?;
+    let cutting = whole_trees(SET)?;
     let expected = form.abc(alloc, &sk)?;
     let mut refusals = 0u64;
     for nth in 1..MANY {
