@@ -44,6 +44,9 @@ pub fn sign_message_par<R: Threads + Sync>(
     sharing: Sharing,
     buffer: &mut [u8; MOST_BYTES],
 ) -> bool {
+    let Some(length) = sig_len(sk.set()) else {
+        return false;
+    };
     let (xmss, fors) = (Cuts::Levels(sharing.xmss), Cuts::Levels(sharing.fors));
     let Ok(cutting) = Cutting::new(sk.set(), xmss, fors) else {
         return false;
@@ -58,7 +61,7 @@ pub fn sign_message_par<R: Threads + Sync>(
         sharing.workers,
         &cutting,
         &NoGate,
-        &mut buffer[..sig_len(sk.set())],
+        &mut buffer[..length],
     )
     .is_ok()
 }
@@ -71,13 +74,16 @@ pub fn verify_many<R: Threads + Sync>(
     sharing: Sharing,
     buffer: &[u8; MOST_BYTES],
 ) -> bool {
+    let Some(length) = sig_len(sk.set()) else {
+        return false;
+    };
     let pk = sk.public();
     let item = VerifyItem {
         pk: &pk,
         msg: MESSAGE,
         ctx: b"",
         prehash: None,
-        sig: &buffer[..sig_len(sk.set())],
+        sig: &buffer[..length],
     };
     verify_all(rt, alloc, &[item; ITEMS], sharing.workers).is_ok_and(|answers| answers
         .iter()

@@ -11,7 +11,7 @@
 //! A fourth word is the number of workers, 1 where there is none, and a fifth the levels by which the XMSS trees and
 //! the FORS trees are cut. Where there is no fifth word, they are cut so that each worker gets many jobs. Where no run
 //! ends as it should, as with more levels than the trees have, it prints over 2^63 seconds.
-#![tactic(auto)]
+#![tactic(auto, using(slh_params::proofs::Bounds::bounds))]
 
 mod by_workers;
 mod one_thread;

@@ -1,25 +1,29 @@
 //! The tasks of one thread.
 
-ghost use Rattle.std.specs.Prelude.{◌≡◌, ◌≤◌, length};
-ghost use Rattle.slh_params.specs.Params.{sig_len, sk_len};
+ghost use Rattle.std.specs.Prelude.{◌≡◌, ◌≤◌, IfSome};
+ghost use Rattle.slh_params.specs.Params.{sig_len};
 ghost use Rattle.slh_params.specs.ParamSet.{params};
 
 use slh_core::{Randomizer, SecretKey, keygen_internal, sign, verify};
 use slh_params::ParamSet;
 
-/// No set has longer signatures. So many bytes are hashed in one run.
+/// No set of the standard has longer signatures. So many bytes are hashed in one run.
 pub const MOST_BYTES: usize = 65536;
 
 /// The message that is signed.
 pub const MESSAGE: &[u8] = b"abc";
 
-/// The length of a signature.
-#[tactic(auto, using(slh_params::proofs::Table::sig_len_small))]
-pub fn sig_len(set: ParamSet) -> usize
-    ensures value { result ≡ sig_len (params set) }
-    ensures fits { result ≤ MOST_BYTES }
+/// The length of a signature, where a buffer has room for it.
+pub fn sig_len(set: ParamSet) -> Option<usize>
+    ensures value { IfSome result (λ length. length ≡ sig_len (params set)) }
+    ensures fits { IfSome result (λ length. length ≤ MOST_BYTES) }
 {
-    set.sig_len()
+    let length = set.sig_len();
+    if length <= MOST_BYTES {
+        Some(length)
+    } else {
+        None
+    }
 }
 
 /// The seeds 00, 01, 02, .., of which a set takes the first 3n bytes.
@@ -40,11 +44,17 @@ pub fn key(set: ParamSet) -> SecretKey {
 
 /// Signs the message into the front of the buffer; its context is not too long.
 pub fn sign_message(sk: &SecretKey, buffer: &mut [u8; MOST_BYTES]) -> bool {
-    let out = &mut buffer[..sig_len(sk.set())];
+    let Some(length) = sig_len(sk.set()) else {
+        return false;
+    };
+    let out = &mut buffer[..length];
     sign(MESSAGE, b"", sk, Randomizer::Deterministic, out).is_ok()
 }
 
 /// Whether the front of the buffer is a signature of the message.
 pub fn verify_message(sk: &SecretKey, buffer: &[u8; MOST_BYTES]) -> bool {
-    verify(MESSAGE, b"", &buffer[..sig_len(sk.set())], &sk.public())
+    let Some(length) = sig_len(sk.set()) else {
+        return false;
+    };
+    verify(MESSAGE, b"", &buffer[..length], &sk.public())
 }

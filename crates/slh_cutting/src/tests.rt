@@ -2,7 +2,6 @@
 use super::*;
 use Cuts::{Levels, Points};
 use slh_params::ParamSet;
-use slh_params::ParamSet::{S128f, S128s, S256f};
 use std::process::Abort;
 use std::test::Fail;
 
@@ -38,7 +37,7 @@ fn has_jobs(rt: &impl Abort, cutting: &Cutting, example: &Example<'_>) {
 fn jobs_of_levels(rt: HostRuntime) -> Result<(), Fail> {
     let examples = [
         Example {
-            set: S128f,
+            set: ParamSet::S128f,
             xmss: Levels(1),
             fors: Levels(1),
             sign_jobs: 110,
@@ -51,7 +50,7 @@ fn jobs_of_levels(rt: HostRuntime) -> Result<(), Fail> {
             ],
         },
         Example {
-            set: S128f,
+            set: ParamSet::S128f,
             xmss: Levels(0),
             fors: Levels(0),
             sign_jobs: 55,
@@ -59,7 +58,7 @@ fn jobs_of_levels(rt: HostRuntime) -> Result<(), Fail> {
             jobs: &[(54, JobTree::Fors(32), 0, 64)],
         },
         Example {
-            set: S128f,
+            set: ParamSet::S128f,
             xmss: Levels(3),
             fors: Levels(0),
             sign_jobs: 209,
@@ -67,7 +66,7 @@ fn jobs_of_levels(rt: HostRuntime) -> Result<(), Fail> {
             jobs: &[(175, JobTree::Xmss(21), 7, 8)],
         },
         Example {
-            set: S256f,
+            set: ParamSet::S256f,
             xmss: Levels(2),
             fors: Levels(1),
             sign_jobs: 138,
@@ -91,7 +90,7 @@ fn jobs_of_points(rt: HostRuntime) -> Result<(), Fail> {
     let (_, all_but_last) = many.split_last().ok_or("no points")?;
     let examples = [
         Example {
-            set: S128f,
+            set: ParamSet::S128f,
             xmss: Points(&[1, 2, 3, 4, 5, 6, 7]),
             fors: Points(&[31, 33]),
             sign_jobs: 275,
@@ -103,7 +102,7 @@ fn jobs_of_points(rt: HostRuntime) -> Result<(), Fail> {
             ],
         },
         Example {
-            set: S128s,
+            set: ParamSet::S128s,
             xmss: Points(all_but_last),
             fors: Levels(0),
             sign_jobs: 1806,
@@ -111,7 +110,7 @@ fn jobs_of_points(rt: HostRuntime) -> Result<(), Fail> {
             jobs: &[(255, JobTree::Xmss(0), 255, 512)],
         },
         Example {
-            set: S128f,
+            set: ParamSet::S128f,
             xmss: Points(&[]),
             fors: Points(&[]),
             sign_jobs: 55,
@@ -119,7 +118,7 @@ fn jobs_of_points(rt: HostRuntime) -> Result<(), Fail> {
             jobs: &[(0, JobTree::Xmss(0), 0, 8)],
         },
         Example {
-            set: S128f,
+            set: ParamSet::S128f,
             xmss: Points(&[7]),
             fors: Points(&[63]),
             sign_jobs: 110,
@@ -148,14 +147,20 @@ fn bad_cuts_are_refused(rt: HostRuntime) {
     let many = rising();
     let whole = Levels(0);
     let rows = [
-        (S128f, Points(&[3, 3]), whole, CutTree::Xmss, 1),
-        (S128f, Points(&[0]), whole, CutTree::Xmss, 0),
-        (S128f, Points(&[8]), whole, CutTree::Xmss, 0),
-        (S128f, whole, Points(&[64]), CutTree::Fors, 0),
-        (S128f, Points(&[8]), Points(&[64]), CutTree::Xmss, 0),
-        (S128f, Levels(4), whole, CutTree::Xmss, 4),
-        (S128s, Levels(9), whole, CutTree::Xmss, 9),
-        (S128s, Points(&many), whole, CutTree::Xmss, 255),
+        (ParamSet::S128f, Points(&[3, 3]), whole, CutTree::Xmss, 1),
+        (ParamSet::S128f, Points(&[0]), whole, CutTree::Xmss, 0),
+        (ParamSet::S128f, Points(&[8]), whole, CutTree::Xmss, 0),
+        (ParamSet::S128f, whole, Points(&[64]), CutTree::Fors, 0),
+        (
+            ParamSet::S128f,
+            Points(&[8]),
+            Points(&[64]),
+            CutTree::Xmss,
+            0,
+        ),
+        (ParamSet::S128f, Levels(4), whole, CutTree::Xmss, 4),
+        (ParamSet::S128s, Levels(9), whole, CutTree::Xmss, 9),
+        (ParamSet::S128s, Points(&many), whole, CutTree::Xmss, 255),
     ];
     for (set, xmss, fors, tree, place) in &rows {
         let fault = CutFault::BadCutting {
@@ -169,8 +174,9 @@ fn bad_cuts_are_refused(rt: HostRuntime) {
 }
 
 #[test]
+#[tactic(auto, unfolding(slh_params::specs::ParamSet::params))]
 fn jobs_of_one_tree(rt: HostRuntime) -> Result<(), Fail> {
-    let cutting = Cutting::new(S128f, Points(&[3]), Levels(1))?;
+    let cutting = Cutting::new(ParamSet::S128f, Points(&[3]), Levels(1))?;
     assert_eq!(rt; cutting.fors_ranges(), 2);
     assert_eq!(rt; cutting.first_job(JobTree::Xmss(21)), 42);
     assert_eq!(rt; cutting.first_job(JobTree::Fors(32)), 108);

@@ -1,5 +1,5 @@
 //! Callers of the library, each proved, to copy from: docs/CALLING.md shows them.
-#![tactic(auto)]
+#![tactic(auto, using(slh_params::proofs::Bounds::bounds))]
 
 mod key;
 mod letter;

@@ -36,17 +36,17 @@ const OF_ABC: &str = "7c4622720e758897ec5f2089049bb5e5d98fc2e88bfdacf4fad3a1e20f
 const OF_EMPTY: &str = "8f99272708b347baa34e384b3188cc225d0d8c8a20bbd91e7f5bd9370da4c81b";
 
 /// The secret key that these hexadecimal digits spell.
-fn key(alloc: Global, digits: &str) -> Result<SecretKey, Fail>
-    ensures { IfOk result (λ sk. sk.set ≡ SET) }
+fn key(alloc: Global, set: ParamSet, digits: &str) -> Result<SecretKey, Fail>
+    ensures { IfOk result (λ sk. sk.set ≡ set) }
 {
-    Ok(SecretKey::from_bytes(SET, &hex::decode(alloc, digits)?)?)
+    Ok(SecretKey::from_bytes(set, &hex::decode(alloc, digits)?)?)
 }
 
-/// Room for a signature.
-fn room(alloc: Global) -> Result<Vec<u8>, Fail>
-    ensures { IfOk result (λ sig. length sig.items ≡ sig_len (params SET)) }
+/// Room for a signature by the key.
+fn room(alloc: Global, sk: &SecretKey) -> Result<Vec<u8>, Fail>
+    ensures { IfOk result (λ sig. length sig.items ≡ sig_len (params sk.now.set)) }
 {
-    Ok(vec![in alloc; 0; SET.sig_len()]?)
+    Ok(vec![in alloc; 0; sk.set().sig_len()]?)
 }
 
 /// The SHA-256 of the bytes, in hexadecimal digits.
@@ -78,8 +78,8 @@ fn key_from_a_generator(rt: HostRuntime) -> Result<(), Fail> {
 
 #[test]
 fn letters(rt: HostRuntime) -> Result<(), Fail> {
-    let sk = key(rt.alloc(), KEY)?;
-    let mut sig = room(rt.alloc())?;
+    let sk = key(rt.alloc(), SET, KEY)?;
+    let mut sig = room(rt.alloc(), &sk)?;
     let refused = sign_letter(&sk, &[7; 256], b"\xda", &mut sig).err();
     assert_eq!(rt; refused.map(|fault| fault.name()), Some("ContextTooLong"));
     sign_letter(&sk, b"\xf6", b"\xda", &mut sig)?;
@@ -96,8 +96,8 @@ fn letters(rt: HostRuntime) -> Result<(), Fail> {
 
 #[test]
 fn packages(rt: HostRuntime) -> Result<(), Fail> {
-    let sk = key(rt.alloc(), KEY)?;
-    let mut sig = room(rt.alloc())?;
+    let sk = key(rt.alloc(), SET, KEY)?;
+    let mut sig = room(rt.alloc(), &sk)?;
     sign_package(&sk, PreHash::Sha256, b"\x67", b"\xdb\x48", &mut sig);
     assert_eq!(rt;
         sha256_hex(rt.alloc(), &sig)?.as_str(),
@@ -112,18 +112,18 @@ fn packages(rt: HostRuntime) -> Result<(), Fail> {
 
 #[test]
 fn threads_and_a_stop_flag(rt: HostRuntime) -> Result<(), Fail> {
-    let sk = key(rt.alloc(), COUNTING_KEY)?;
+    let sk = key(rt.alloc(), SET, COUNTING_KEY)?;
     let three = workers(3)?;
-    let mut sig = room(rt.alloc())?;
+    let mut sig = room(rt.alloc(), &sk)?;
     let flag = StopFlag::new();
     sign_by_threads(&rt, rt.alloc(), &sk, b"abc", three, &mut sig)?;
     assert_eq!(rt; sha256_hex(rt.alloc(), &sig)?.as_str(), OF_ABC);
-    let mut sig = room(rt.alloc())?;
+    let mut sig = room(rt.alloc(), &sk)?;
     sign_unless_stopped(&rt, rt.alloc(), &sk, b"abc", three, &flag, &mut sig)?;
     assert_eq!(rt; sha256_hex(rt.alloc(), &sig)?.as_str(), OF_ABC);
 
     flag.raise();
-    let mut sig = room(rt.alloc())?;
+    let mut sig = room(rt.alloc(), &sk)?;
     let stopped = sign_unless_stopped(&rt, rt.alloc(), &sk, b"abc", three, &flag, &mut sig);
     assert_eq!(rt; stopped.err(), Some(ParFault::Stopped));
     assert!(rt; sig.iter().all(|&byte| byte == 0));
@@ -132,12 +132,12 @@ fn threads_and_a_stop_flag(rt: HostRuntime) -> Result<(), Fail> {
 
 #[test]
 fn two_signatures_at_once(rt: HostRuntime) -> Result<(), Fail> {
-    let sk = key(rt.alloc(), COUNTING_KEY)?;
+    let sk = key(rt.alloc(), SET, COUNTING_KEY)?;
     let pk = sk.public();
-    let mut of_abc = room(rt.alloc())?;
+    let mut of_abc = room(rt.alloc(), &sk)?;
     sign_letter(&sk, b"", b"abc", &mut of_abc)?;
     assert_eq!(rt; sha256_hex(rt.alloc(), &of_abc)?.as_str(), OF_ABC);
-    let mut of_empty = room(rt.alloc())?;
+    let mut of_empty = room(rt.alloc(), &sk)?;
     sign_letter(&sk, b"", b"", &mut of_empty)?;
     assert_eq!(rt; sha256_hex(rt.alloc(), &of_empty)?.as_str(), OF_EMPTY);
     let abc = Signed {

@@ -19,11 +19,11 @@ fn is_valid(form: Form, ctx: &[u8], sig: &[u8], pk: &PublicKey) -> bool {
 fn contexts_of_up_to_255_bytes(rt: HostRuntime) -> Result<(), Fail> {
     let alloc = rt.alloc();
     let sk = key(SET);
-    let cutting = whole_trees()?;
+    let cutting = whole_trees(sk.set())?;
     let longest = [7; 255];
     for form in FORMS {
         for (ctx, other) in [(b"".as_slice(), longest.as_slice()), (&longest, b"")] {
-            let mut sig = unwritten(alloc, SET)?;
+            let mut sig = unwritten(alloc, sk.set())?;
             let two = workers(2)?;
             form.sign_par(
                 &rt, alloc, b"abc", ctx, &sk, two, &cutting, &NoGate, &mut sig,
@@ -40,9 +40,9 @@ fn contexts_of_up_to_255_bytes(rt: HostRuntime) -> Result<(), Fail> {
 #[test]
 fn context_of_256_bytes_is_refused(rt: HostRuntime) -> Result<(), Fail> {
     let sk = key(SET);
-    let cutting = whole_trees()?;
+    let cutting = whole_trees(sk.set())?;
     for form in FORMS {
-        let mut out = unwritten(rt.alloc(), SET)?;
+        let mut out = unwritten(rt.alloc(), sk.set())?;
         let two = workers(2)?;
         let outcome = form.sign_par(
             &rt,

@@ -39,7 +39,7 @@ fn signatures_are_those_of_one_thread(rt: HostRuntime) -> Result<(), Fail> {
     for form in FORMS {
         let expected = form.abc(rt.alloc(), &sk)?;
         for (xmss, fors) in rows() {
-            let cutting = Cutting::new(SET, xmss, fors)?;
+            let cutting = Cutting::new(sk.set(), xmss, fors)?;
             for number in [1u8, 2, 64] {
                 let sig = form.abc_par(&rt, rt.alloc(), &sk, workers(number)?, &cutting, &NoGate)?;
                 assert!(rt;

@@ -71,11 +71,11 @@ pub fn workers(number: u8) -> Result<Workers, Fail>
     Ok(Workers::new(number).ok_or("no such number of workers")?)
 }
 
-/// Trees of the set 128f with one range each: 22 XMSS trees and 33 FORS trees, so the jobs of a signature are 0 to 54.
-pub fn whole_trees() -> Result<Cutting, Fail>
-    ensures { IfOk result (λ cutting. cutting.set ≡ SET) }
+/// Trees with one range each. Those of 128f are 22 XMSS trees and 33 FORS trees, so the jobs of a signature are 0 to 54.
+pub fn whole_trees(set: ParamSet) -> Result<Cutting, Fail>
+    ensures { IfOk result (λ cutting. cutting.set ≡ set) }
 {
-    Ok(Cutting::new(SET, Cuts::Levels(0), Cuts::Levels(0))?)
+    Ok(Cutting::new(set, Cuts::Levels(0), Cuts::Levels(0))?)
 }
 
 /// Room for a signature.

@@ -46,12 +46,12 @@ fn refuse_signing<R: Abort + Threads + Sync>(
     number: u8,
 ) -> Result<(), Fail> {
     let sk = key(SET);
-    let cutting = whole_trees()?;
+    let cutting = whole_trees(sk.set())?;
     let expected = form.abc(alloc, &sk)?;
     let mut refusals = 0u64;
     for nth in 1..MANY {
         let refusing = Refusing::new(alloc, alloc, nth)?;
-        let mut out = unwritten(alloc, SET)?;
+        let mut out = unwritten(alloc, sk.set())?;
         let some = workers(number)?;
         let given = refusing.clone()?;
         let outcome = form.sign_par(

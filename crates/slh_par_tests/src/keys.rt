@@ -17,7 +17,7 @@ fn altered_root_gives_the_bytes_of_one_thread_which_do_not_verify(
     let sk = SecretKey::from_bytes(SET, &bytes)?;
     assert!(rt; !check_pair(&sk));
     let expected = Form::Pure.abc(rt.alloc(), &sk)?;
-    let cutting = Cutting::new(SET, Cuts::Levels(1), Cuts::Levels(1))?;
+    let cutting = Cutting::new(sk.set(), Cuts::Levels(1), Cuts::Levels(1))?;
     for number in [1u8, 3, 64] {
         let sig = Form::Pure.abc_par(&rt, rt.alloc(), &sk, workers(number)?, &cutting, &NoGate)?;
         assert!(rt; sig.as_slice() == expected.as_slice(), "{number} workers");

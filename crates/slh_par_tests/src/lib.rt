@@ -1,9 +1,11 @@
 //! Tests of key generation, signing and verifying by several threads: the bytes are those of one thread and of other
 //! implementations, whatever the workers, the cutting and the gate; and each refusal.
-#![tactic(auto)]
+#![tactic(auto, using(slh_params::proofs::Bounds::bounds))]
 
 #[cfg(test)]
 mod contexts;
+#[cfg(test)]
+mod custom_sets;
 #[cfg(test)]
 mod cuttings;
 #[cfg(test)]

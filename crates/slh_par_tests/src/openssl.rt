@@ -10,8 +10,9 @@ use std::test::Fail;
 /// "abc" by its digest under SHA-256, deterministically and under the empty context.
 #[test]
 fn pre_hash_form(rt: HostRuntime) -> Result<(), Fail> {
-    let cutting = Cutting::new(SET, Cuts::Levels(1), Cuts::Levels(1))?;
-    let sig = Form::PreHash.abc_par(&rt, rt.alloc(), &key(SET), workers(3)?, &cutting, &NoGate)?;
+    let sk = key(SET);
+    let cutting = Cutting::new(sk.set(), Cuts::Levels(1), Cuts::Levels(1))?;
+    let sig = Form::PreHash.abc_par(&rt, rt.alloc(), &sk, workers(3)?, &cutting, &NoGate)?;
     assert_eq!(rt;
         sha256_hex(rt.alloc(), &sig)?.as_str(),
         "86971bec9e418cf2c9a0ec809fd767f504604a0f6eef43ae7bb15f070c44ff50"
@@ -23,8 +24,9 @@ fn pre_hash_form(rt: HostRuntime) -> Result<(), Fail> {
 #[test]
 fn given_randomizer(rt: HostRuntime) -> Result<(), Fail> {
     let sk = key(SET);
-    let cutting = Cutting::new(SET, Cuts::Levels(1), Cuts::Levels(1))?;
-    let mut sig = unwritten(rt.alloc(), SET)?;
+    assert_eq!(rt; sk.set().n(), 16);
+    let cutting = Cutting::new(sk.set(), Cuts::Levels(1), Cuts::Levels(1))?;
+    let mut sig = unwritten(rt.alloc(), sk.set())?;
     let three = workers(3)?;
     sign_par(
         &rt,

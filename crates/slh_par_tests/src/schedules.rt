@@ -18,7 +18,7 @@ fn sign_by_two<R: Abort + Threads + Sync, W: Watch>(
     gate: &W,
 ) -> Result<(), Fail> {
     let sk = key(SET);
-    let sig = form.abc_par(rt, alloc, &sk, workers(2)?, &whole_trees()?, gate)?;
+    let sig = form.abc_par(rt, alloc, &sk, workers(2)?, &whole_trees(sk.set())?, gate)?;
     assert!(rt; !gate.gave_up(), "{form:?}");
     let expected = form.abc(alloc, &sk)?;
     assert!(rt; sig.as_slice() == expected.as_slice(), "{form:?}");

@@ -11,7 +11,7 @@ use std::test::Fail;
 fn a_gate_stops_key_generation(rt: HostRuntime) -> Result<(), Fail> {
     for number in [1u8, 2] {
         let gate = StopAt { job: 0 };
-        let outcome = key_par(&rt, rt.alloc(), workers(number)?, &whole_trees()?, &gate);
+        let outcome = key_par(&rt, rt.alloc(), workers(number)?, &whole_trees(SET)?, &gate);
         assert_eq!(rt; outcome.err(), Some(ParFault::Stopped), "{number} workers");
     }
     Ok(())
@@ -20,11 +20,11 @@ fn a_gate_stops_key_generation(rt: HostRuntime) -> Result<(), Fail> {
 #[test]
 fn a_gate_stops_signing_at_job_5(rt: HostRuntime) -> Result<(), Fail> {
     let sk = key(SET);
-    let cutting = whole_trees()?;
+    let cutting = whole_trees(sk.set())?;
     let gate = StopAt { job: 5 };
     for form in FORMS {
         for number in [1u8, 2] {
-            let mut out = unwritten(rt.alloc(), SET)?;
+            let mut out = unwritten(rt.alloc(), sk.set())?;
             let some = workers(number)?;
             let outcome = form.sign_par(
                 &rt,
@@ -51,7 +51,7 @@ fn a_gate_stops_signing_at_job_5(rt: HostRuntime) -> Result<(), Fail> {
 #[test]
 fn a_gate_that_waits_for_job_55_of_55_stops_nothing(rt: HostRuntime) -> Result<(), Fail> {
     let sk = key(SET);
-    let cutting = whole_trees()?;
+    let cutting = whole_trees(sk.set())?;
     let gate = StopAt { job: 55 };
     for form in FORMS {
         let expected = form.abc(rt.alloc(), &sk)?;

@@ -34,13 +34,14 @@ fn outcome_of(alloc: Global, members: &[(Member, &str)]) -> Result<Outcome, Fail
 }
 
 /// The signature of "abc" with the empty context, as a JSON text.
+#[tactic(auto, unfolding(slh_params::specs::ParamSet::params))]
 fn signature(alloc: Global, randomizer: Option<[u8; 16]>) -> Result<String, Fail> {
     let (mut sk_seed, mut sk_prf, mut pk_seed) = ([0; 16], [0; 16], [0; 16]);
     hex::decode_to_slice(&SK_SEED[1..33], &mut sk_seed)?;
     hex::decode_to_slice(&SK_PRF[1..33], &mut sk_prf)?;
     hex::decode_to_slice(&PK_SEED[1..33], &mut pk_seed)?;
     let key = keygen_internal(ParamSet::S128f, &sk_seed, &sk_prf, &pk_seed);
-    let mut bytes = vec![in alloc; 0; ParamSet::S128f.sig_len()]?;
+    let mut bytes = vec![in alloc; 0; key.set().sig_len()]?;
     match randomizer {
         Some(random) => sign(b"abc", b"", &key, Randomizer::Given(&random), &mut bytes)?,
         None => sign(b"abc", b"", &key, Randomizer::Deterministic, &mut bytes)?,
