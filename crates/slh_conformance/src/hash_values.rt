@@ -1,7 +1,5 @@
 //! Known values of the hash functions, of RFC 4231 and of a reference that is not this project's.
 
-use slh_params::ParamSet;
-
 /// Key, text, HMAC-SHA-256 and HMAC-SHA-512: the seven cases of RFC 4231, then keys around the lengths of a block.
 pub(crate) const HMAC: [(&str, &str, &str, &str); 19] = [
     (
@@ -174,7 +172,7 @@ pub(crate) const MGF1: [(&str, &str, &str); 11] = [
 /// What the hash functions of a set give under the seeds 00, 01, .. in order: SK.seed, SK.prf, PK.seed.
 /// The nodes are the bytes 80, 81, .. and a0, a1, ..; for the messages these are opt_rand and R.
 pub(crate) struct Values {
-    pub(crate) set: ParamSet,
+    pub(crate) set: &'static str,
     pub(crate) pk_root: &'static str,
     pub(crate) f: &'static str,
     pub(crate) h: &'static str,
@@ -190,7 +188,7 @@ pub(crate) struct Values {
 
 pub(crate) const VALUES: [Values; 6] = [
     Values {
-        set: ParamSet::S128s,
+        set: "SLH-DSA-SHA2-128s",
         pk_root: "990ce6298792b128846a8e4a3a68954c",
         f: "f2af7aea92ba33f77e82f7ca322cfcce",
         h: "266bf39ac73509f2b75f6df23befd4f6",
@@ -204,7 +202,7 @@ pub(crate) const VALUES: [Values; 6] = [
         h_msg_abc: "21ac0c32ffa9e97b619b26100cc1aae45c470ced4f3c5eaeaa40cfd43c5a",
     },
     Values {
-        set: ParamSet::S128f,
+        set: "SLH-DSA-SHA2-128f",
         pk_root: "3b56e816847f000386aeec2e2bb9e1b5",
         f: "f2af7aea92ba33f77e82f7ca322cfcce",
         h: "266bf39ac73509f2b75f6df23befd4f6",
@@ -218,7 +216,7 @@ pub(crate) const VALUES: [Values; 6] = [
         h_msg_abc: "9e41fa5a4ee0a47e1a0cc77d22e006f67ac928319dfcad865e0a9e60755e13cee80f",
     },
     Values {
-        set: ParamSet::S192s,
+        set: "SLH-DSA-SHA2-192s",
         pk_root: "b6f282ce116ff59bce2d9fc4a67c6031dabdce326c34f541",
         f: "fef46c6afee8cd322211ce5c3db6e0fd5759fdb4b40eb80f",
         h: "1bd77b24547554bbb2bb5e13f607286c800b221c36918945",
@@ -232,7 +230,7 @@ pub(crate) const VALUES: [Values; 6] = [
         h_msg_abc: "fcd7b88baf8cdaa91e7c6da0550ceeb908f8c804a3e57eb4fcacd5071a5c18947435b4a7a16988",
     },
     Values {
-        set: ParamSet::S192f,
+        set: "SLH-DSA-SHA2-192f",
         pk_root: "9236ccebbb3a90ac2452dd89de49dab1340ec02419a2870e",
         f: "fef46c6afee8cd322211ce5c3db6e0fd5759fdb4b40eb80f",
         h: "1bd77b24547554bbb2bb5e13f607286c800b221c36918945",
@@ -246,7 +244,7 @@ pub(crate) const VALUES: [Values; 6] = [
         h_msg_abc: "05e8f59a6611a6dbc63aea562010d3494bca0cafe0341c11f3d43edaafc65ebbf610c1712097277e8c81",
     },
     Values {
-        set: ParamSet::S256s,
+        set: "SLH-DSA-SHA2-256s",
         pk_root: "da7163e601352515bc0f06f9f4f44be71a5a65ee9dca5575cf4a7b6d4a87d6e2",
         f: "8f371fe8e3003b11e0874369b59cf5acadf18e97420fd7655c775091111dd2fb",
         h: "431233ae0d44be447f543ca5e93740f17c84b29962c85306e1dfc55e77f6cb66",
@@ -260,7 +258,7 @@ pub(crate) const VALUES: [Values; 6] = [
         h_msg_abc: "3e9dfb58d326a1dc1986be8e8d12274c93deb6d62eed15fa0e9d6ae409a4d0d43674878263605c1ebfe71b22b9f3f9",
     },
     Values {
-        set: ParamSet::S256f,
+        set: "SLH-DSA-SHA2-256f",
         pk_root: "42cffe64ddbd6731063752684df77c8b58c225dc6b491208916b654ea1393176",
         f: "8f371fe8e3003b11e0874369b59cf5acadf18e97420fd7655c775091111dd2fb",
         h: "431233ae0d44be447f543ca5e93740f17c84b29962c85306e1dfc55e77f6cb66",

@@ -1,5 +1,5 @@
 //! Tests that cross crates: worked examples, and values that other implementations made.
-#![tactic(auto)]
+#![tactic(auto, using(slh_params::proofs::Bounds::n_high))]
 
 #[cfg(test)]
 mod contexts;

@@ -57,7 +57,7 @@ fn numbers_of_the_sets(rt: HostRuntime) -> Result<(), Fail> {
         assert_eq!(rt; parts.as_slice(), &expected[6..11], "{name}");
         assert_eq!(rt; lengths.as_slice(), &expected[11..], "{name}");
     }
-    for (set, (name, _)) in ParamSet::ALL.iter().zip(&NUMBERS) {
+    for (set, (name, _)) in ParamSet::all().iter().zip(&NUMBERS) {
         assert_eq!(rt; set.name(), *name);
     }
     for text in [

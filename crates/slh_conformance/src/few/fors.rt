@@ -1,22 +1,23 @@
 //! FORS.
 
 use super::fors_values::{FORS, ForsValues};
-use super::{MOST_BYTES, fors_sig_len, is_digest, is_hex, low_tree, md_len, public, seeds};
-use crate::fixtures::counting;
+use super::{MOST_BYTES, fors_sig_len, is_digest, is_hex, low_tree, public, seeds};
+use crate::fixtures::{counting, set_of};
 use slh_few::{ForsTree, fors_pk_from_sig, fors_sign};
 use slh_hash::{f, h, prf};
 use slh_params::{Adrs, AdrsType, ParamSet};
 use slh_tree::{Tree, root};
 use std::process::Abort;
+use std::test::Fail;
 
-#[tactic(auto, using(slh_params::proofs::Table::n_small))]
-fn check_signature(rt: &impl Abort, want: &ForsValues) {
+fn check_signature(rt: &impl Abort, set: ParamSet, want: &ForsValues) {
     let all = counting(0);
-    let seeds = seeds(want.set, &all);
-    let tree = low_tree(want.set);
-    let md = &all[..md_len(want.set)];
+    let seeds = seeds(set, &all);
+    let tree = low_tree(set);
+    assert!(rt; set.md_len() <= all.len());
+    let md = &all[..set.md_len()];
     let mut buffer = [0; MOST_BYTES];
-    let out = &mut buffer[..fors_sig_len(want.set)];
+    let out = &mut buffer[..fors_sig_len(set)];
     fors_sign(&seeds, tree, 1, md, out);
     assert!(rt; is_digest(want.signature, out));
     assert!(rt;
@@ -25,16 +26,16 @@ fn check_signature(rt: &impl Abort, want: &ForsValues) {
             &fors_pk_from_sig(&public(&seeds), tree, 1, md, out)
         )
     );
-    let n = want.set.n();
+    let n = set.n();
     assert!(rt; n < out.len());
     assert!(rt; is_hex(want.secret, &out[..n]));
 }
 
-fn check_roots(rt: &impl Abort, want: &ForsValues) {
+fn check_roots(rt: &impl Abort, set: ParamSet, want: &ForsValues) {
     let all = counting(0);
-    let seeds = seeds(want.set, &all);
-    let tree = low_tree(want.set);
-    let last = want.set.k();
+    let seeds = seeds(set, &all);
+    let tree = low_tree(set);
+    let last = set.k();
     assert!(rt; 0 < last);
     assert!(rt; is_hex(want.roots[0], &root(&ForsTree::new(&seeds, tree, 1, 0))));
     assert!(rt;
@@ -46,11 +47,13 @@ fn check_roots(rt: &impl Abort, want: &ForsValues) {
 }
 
 #[test]
-fn known_values(rt: HostRuntime) {
+fn known_values(rt: HostRuntime) -> Result<(), Fail> {
     for want in &FORS {
-        check_signature(&rt, want);
-        check_roots(&rt, want);
+        let set = set_of(want.set)?;
+        check_signature(&rt, set, want);
+        check_roots(&rt, set, want);
     }
+    Ok(())
 }
 
 /// The nodes of tree 13 are numbered on from those of the trees before it.

@@ -1,11 +1,9 @@
 //! Known values of FORS, of a reference that is not this project's.
 
-use slh_params::ParamSet;
-
 /// The values of one key, at leaf 1 of the tree that `low_tree` gives, for the digest 00, 01, 02, ..
 /// Texts are bytes as hexadecimal digits.
 pub(super) struct ForsValues {
-    pub(super) set: ParamSet,
+    pub(super) set: &'static str,
     /// The secret that the digest asks for of the first tree.
     pub(super) secret: &'static str,
     /// The roots of the first and the last tree.
@@ -17,7 +15,7 @@ pub(super) struct ForsValues {
 
 pub(super) const FORS: [ForsValues; 6] = [
     ForsValues {
-        set: ParamSet::S128s,
+        set: "SLH-DSA-SHA2-128s",
         secret: "8d740569d67158deb2978620540aff7b",
         roots: [
             "52de05dfc76b1313f6b8d3976aac8ec6",
@@ -27,7 +25,7 @@ pub(super) const FORS: [ForsValues; 6] = [
         pk: "3478864b2ad359d2d2e9347afb7b9134",
     },
     ForsValues {
-        set: ParamSet::S128f,
+        set: "SLH-DSA-SHA2-128f",
         secret: "67fd2cbbec2b124a2f0bb7541a37ff26",
         roots: [
             "60d949b43e79a8d85588d3ad18d01dda",
@@ -37,7 +35,7 @@ pub(super) const FORS: [ForsValues; 6] = [
         pk: "c722a8c318828e660188a570d2c1aca5",
     },
     ForsValues {
-        set: ParamSet::S192s,
+        set: "SLH-DSA-SHA2-192s",
         secret: "72efb14394ddbf8c7ce5be7519799d5cfd15672de4e9a3f0",
         roots: [
             "7ad87e9e1c20a7c8accc8227e5def7c061be1c46e8b3daba",
@@ -47,7 +45,7 @@ pub(super) const FORS: [ForsValues; 6] = [
         pk: "4a906a5c7f13b82372d3d90517fc29c5bc6c5b7d135e808a",
     },
     ForsValues {
-        set: ParamSet::S192f,
+        set: "SLH-DSA-SHA2-192f",
         secret: "e4afb624b6bbe041e2c75ec244f2c32f7bebed62ec3f45c6",
         roots: [
             "710682ac1e4094110e891ee753c4d0c920e6321ab988677b",
@@ -57,7 +55,7 @@ pub(super) const FORS: [ForsValues; 6] = [
         pk: "2e412942813bd92cc848ec0fbb975fd869937fb75f71a3e8",
     },
     ForsValues {
-        set: ParamSet::S256s,
+        set: "SLH-DSA-SHA2-256s",
         secret: "991db72eec88d73735b25b7c388ee2d62f94d8b0db5aff1de4ed143c8f7ea15e",
         roots: [
             "0a82439a1f89f70bb3540ac1570b0c01122df1aa20aa260d6e08d1576c623ebc",
@@ -67,7 +65,7 @@ pub(super) const FORS: [ForsValues; 6] = [
         pk: "de88c68b73b216f5d0fde91ba9093e45c4d06afd0c6c1d74af623efbcbf2c4a0",
     },
     ForsValues {
-        set: ParamSet::S256f,
+        set: "SLH-DSA-SHA2-256f",
         secret: "54f375df263e9a9404bdc5d6151cc33bd7a2e659157e25122dfd265e608c4624",
         roots: [
             "9f8e9e353c82614fce9eb7004b527d8d3a961469ba491b1d86602c2e4daae940",

@@ -1,11 +1,12 @@
 //! WOTS+.
 
 use super::wots_values::{WOTS, WotsValues};
-use super::{MOST_BYTES, is_digest, is_hex, public, seeds, wots_sig_len};
-use crate::fixtures::{counting, node_from};
-use slh_few::{Place, Seeds, chain, wots_pk, wots_pk_from_sig, wots_sign};
+use super::{MOST_BYTES, is_digest, is_hex, public, seeds};
+use crate::fixtures::{counting, node_from, set_of};
+use slh_few::{Place, Seeds, chain, wots_pk, wots_pk_from_sig, wots_sig_len, wots_sign};
 use slh_params::ParamSet;
 use std::process::Abort;
+use std::test::Fail;
 
 /// The signature of the first n bytes, and the key that it gives.
 fn check_signature(
@@ -27,7 +28,6 @@ fn check_signature(
 
 /// The digits of 00 00 .. are 0 but for those of the checksum, whose last is 0 too: there the
 /// signature is the secrets.
-#[tactic(auto, using(slh_params::proofs::Table::n_small))]
 fn check_secrets(rt: &impl Abort, seeds: &Seeds, at: Place, secrets: &[&str; 2]) {
     let mut buffer = [0; MOST_BYTES];
     let out = &mut buffer[..wots_sig_len(seeds.set)];
@@ -38,12 +38,16 @@ fn check_secrets(rt: &impl Abort, seeds: &Seeds, at: Place, secrets: &[&str; 2])
     assert!(rt; is_hex(secrets[1], &out[out.len() - n..]));
 }
 
-#[tactic(auto, using(slh_few::proofs::Sets::last_step))]
+#[tactic(auto, using(slh_params::proofs::Bounds::w_low))]
 fn check_chain(rt: &impl Abort, seeds: &Seeds, at: Place, text: &str) {
     let public = public(seeds);
     let x1 = node_from(seeds.set, &counting(0x80));
     assert!(rt; is_hex(text, &chain(&public, at, 0, &x1, 1, 2)));
-    assert_eq!(rt; chain(&public, at, 0, &x1, 15, 0).as_slice(), x1.as_slice());
+    let last = seeds.set.w() - 1;
+    assert_eq!(rt;
+        chain(&public, at, 0, &x1, last, 0).as_slice(),
+        x1.as_slice()
+    );
 }
 
 /// The values of a place under one of its sets.
@@ -65,10 +69,11 @@ fn check_values(rt: &impl Abort, set: ParamSet, want: &WotsValues) {
 }
 
 #[test]
-fn known_values(rt: HostRuntime) {
+fn known_values(rt: HostRuntime) -> Result<(), Fail> {
     for want in &WOTS {
-        for set in want.sets {
-            check_values(&rt, *set, want);
+        for label in want.sets {
+            check_values(&rt, set_of(*label)?, want);
         }
     }
+    Ok(())
 }

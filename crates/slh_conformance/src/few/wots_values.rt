@@ -1,11 +1,9 @@
 //! Known values of WOTS+, of a reference that is not this project's.
 
-use slh_params::ParamSet;
-
 /// The values at one place under each of the sets, which have the same n. Texts are bytes as
 /// hexadecimal digits; X1 is the bytes 80, 81, ..
 pub(super) struct WotsValues {
-    pub(super) sets: &'static [ParamSet],
+    pub(super) sets: &'static [&'static str],
     pub(super) layer: u8,
     pub(super) tree: u64,
     pub(super) pair: u32,
@@ -20,7 +18,7 @@ pub(super) struct WotsValues {
 
 pub(super) const WOTS: [WotsValues; 15] = [
     WotsValues {
-        sets: &[ParamSet::S128s, ParamSet::S128f],
+        sets: &["SLH-DSA-SHA2-128s", "SLH-DSA-SHA2-128f"],
         layer: 0,
         tree: 0x0,
         pair: 0,
@@ -37,7 +35,7 @@ pub(super) const WOTS: [WotsValues; 15] = [
         ],
     },
     WotsValues {
-        sets: &[ParamSet::S128s],
+        sets: &["SLH-DSA-SHA2-128s"],
         layer: 6,
         tree: 0x0,
         pair: 1,
@@ -54,7 +52,7 @@ pub(super) const WOTS: [WotsValues; 15] = [
         ],
     },
     WotsValues {
-        sets: &[ParamSet::S128s],
+        sets: &["SLH-DSA-SHA2-128s"],
         layer: 0,
         tree: 0x1a1b1c1d1e1f20,
         pair: 1,
@@ -71,7 +69,7 @@ pub(super) const WOTS: [WotsValues; 15] = [
         ],
     },
     WotsValues {
-        sets: &[ParamSet::S128f],
+        sets: &["SLH-DSA-SHA2-128f"],
         layer: 21,
         tree: 0x0,
         pair: 1,
@@ -88,7 +86,7 @@ pub(super) const WOTS: [WotsValues; 15] = [
         ],
     },
     WotsValues {
-        sets: &[ParamSet::S128f],
+        sets: &["SLH-DSA-SHA2-128f"],
         layer: 0,
         tree: 0x191a1b1c1d1e1f20,
         pair: 1,
@@ -105,7 +103,7 @@ pub(super) const WOTS: [WotsValues; 15] = [
         ],
     },
     WotsValues {
-        sets: &[ParamSet::S192s, ParamSet::S192f],
+        sets: &["SLH-DSA-SHA2-192s", "SLH-DSA-SHA2-192f"],
         layer: 0,
         tree: 0x0,
         pair: 0,
@@ -122,7 +120,7 @@ pub(super) const WOTS: [WotsValues; 15] = [
         ],
     },
     WotsValues {
-        sets: &[ParamSet::S192s],
+        sets: &["SLH-DSA-SHA2-192s"],
         layer: 6,
         tree: 0x0,
         pair: 1,
@@ -139,7 +137,7 @@ pub(super) const WOTS: [WotsValues; 15] = [
         ],
     },
     WotsValues {
-        sets: &[ParamSet::S192s],
+        sets: &["SLH-DSA-SHA2-192s"],
         layer: 0,
         tree: 0x1a1b1c1d1e1f20,
         pair: 1,
@@ -156,7 +154,7 @@ pub(super) const WOTS: [WotsValues; 15] = [
         ],
     },
     WotsValues {
-        sets: &[ParamSet::S192f],
+        sets: &["SLH-DSA-SHA2-192f"],
         layer: 21,
         tree: 0x0,
         pair: 1,
@@ -173,7 +171,7 @@ pub(super) const WOTS: [WotsValues; 15] = [
         ],
     },
     WotsValues {
-        sets: &[ParamSet::S192f],
+        sets: &["SLH-DSA-SHA2-192f"],
         layer: 0,
         tree: 0x191a1b1c1d1e1f20,
         pair: 1,
@@ -190,7 +188,7 @@ pub(super) const WOTS: [WotsValues; 15] = [
         ],
     },
     WotsValues {
-        sets: &[ParamSet::S256s, ParamSet::S256f],
+        sets: &["SLH-DSA-SHA2-256s", "SLH-DSA-SHA2-256f"],
         layer: 0,
         tree: 0x0,
         pair: 0,
@@ -207,7 +205,7 @@ pub(super) const WOTS: [WotsValues; 15] = [
         ],
     },
     WotsValues {
-        sets: &[ParamSet::S256s],
+        sets: &["SLH-DSA-SHA2-256s"],
         layer: 7,
         tree: 0x0,
         pair: 1,
@@ -224,7 +222,7 @@ pub(super) const WOTS: [WotsValues; 15] = [
         ],
     },
     WotsValues {
-        sets: &[ParamSet::S256s],
+        sets: &["SLH-DSA-SHA2-256s"],
         layer: 0,
         tree: 0x1a1b1c1d1e1f20,
         pair: 1,
@@ -241,7 +239,7 @@ pub(super) const WOTS: [WotsValues; 15] = [
         ],
     },
     WotsValues {
-        sets: &[ParamSet::S256f],
+        sets: &["SLH-DSA-SHA2-256f"],
         layer: 16,
         tree: 0x0,
         pair: 1,
@@ -258,7 +256,7 @@ pub(super) const WOTS: [WotsValues; 15] = [
         ],
     },
     WotsValues {
-        sets: &[ParamSet::S256f],
+        sets: &["SLH-DSA-SHA2-256f"],
         layer: 0,
         tree: 0x191a1b1c1d1e1f20,
         pair: 1,
