@@ -42,6 +42,8 @@ one_failed() {
 
 for file in "$vectors"/*.json; do
     name=$(basename "$file")
+    # Its format is another; the tests of the library have its values.
+    [ "$name" = records.json ] && continue
     tests=$(grep -c '"kind":' "$file")
     run "$file"
     as_wanted=no

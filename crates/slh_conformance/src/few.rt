@@ -1,6 +1,5 @@
 //! WOTS+, XMSS, the hypertree and FORS, under the seeds 00, 01, 02, ..: SK.seed, SK.prf, PK.seed.
-ghost use Rattle.std.specs.Prelude.{◌≡◌, ◌+◌, ◌-◌, ◌*◌, ◌%◌, ◌^◌, ◌≤◌, ◌<◌, length};
-ghost use Rattle.slh_few.specs.Fors.{fors_part_len};
+ghost use Rattle.std.specs.Prelude.{◌≡◌, ◌-◌, ◌*◌, ◌%◌, ◌^◌, ◌≤◌, ◌<◌};
 ghost use Rattle.slh_few.specs.Xmss.{xmss_sig_len};
 ghost use Rattle.slh_params.specs.Params.{h};
 ghost use Rattle.slh_params.specs.ParamSet.{params};
@@ -18,9 +17,6 @@ mod wots;
 mod wots_values;
 mod xmss;
 mod xmss_values;
-
-/// Room for each part of a signature, under any parameter set.
-const MOST_BYTES: usize = 301600;
 
 fn seeds<'a>(set: ParamSet, bytes: &'a [u8; 96]) -> Seeds<'a>
     ensures { result.set ≡ set }
@@ -56,30 +52,27 @@ fn is_digest(text: &str, bytes: &[u8]) -> bool {
     is_hex(text, &Sha256::digest(bytes))
 }
 
-#[tactic(auto, using(crate::proofs::Lengths::ht_fits))]
 fn ht_sig_len(set: ParamSet) -> usize
-    ensures value { result ≡ (params set).d * xmss_sig_len (params set) }
-    ensures fits { result ≤ MOST_BYTES }
+    ensures { result ≡ (params set).d * xmss_sig_len (params set) }
 {
     set.d() as usize * xmss_sig_len(set)
 }
 
-#[tactic(auto, using(crate::proofs::Lengths::fors_fits))]
-fn fors_sig_len(set: ParamSet) -> usize
-    ensures value { result ≡ (params set).k * fors_part_len (params set) }
-    ensures fits { result ≤ MOST_BYTES }
+/// The tree of layer 0 whose index has the last bits of 191a1b1c1d1e1f20, in hexadecimal digits.
+#[tactic(auto, using(slh_params::proofs::Bounds::digest_bounds))]
+fn low_tree(set: ParamSet) -> u64
+    ensures { result < 2 ^ (h (params set) - (params set).hp) }
 {
-    set.k() as usize * ((1 + set.a() as usize) * set.n())
+    low_bits(0x191a_1b1c_1d1e_1f20, set.h() - set.hp())
 }
 
-/// The tree of layer 0 whose index has the last bits of 191a1b1c1d1e1f20, in hexadecimal digits.
-#[tactic(auto, using(slh_params::proofs::Bounds::h_below_top_high, slh_params::proofs::Bounds::hp_at_most_h))]
-fn low_tree(set: ParamSet) -> u64
-    ensures value { result ≡ 1808788007904223008 % 2 ^ (h (params set) - (params set).hp) }
-    ensures range { result < 2 ^ (h (params set) - (params set).hp) }
+/// `x` modulo 2 ^ `count`.
+fn low_bits(x: u64, count: u32) -> u64
+    requires { count ≤ 64 }
+    ensures { result ≡ x % 2 ^ count }
 {
-    match 1u64.checked_shl(set.h() - set.hp()) {
-        Some(bound) => 0x191a_1b1c_1d1e_1f20 % bound,
-        None => 0x191a_1b1c_1d1e_1f20,
+    match 1u64.checked_shl(count) {
+        Some(bound) => x % bound,
+        None => x,
     }
 }

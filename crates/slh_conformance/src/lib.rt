@@ -26,4 +26,6 @@ mod params;
 #[cfg(test)]
 mod pre_hash;
 #[cfg(test)]
+mod records;
+#[cfg(test)]
 mod signatures;

@@ -10,17 +10,19 @@ use std::test::Fail;
 
 /// The digits of a message are its groups of lg_w bits, and then those of its checksum.
 fn check_digits(rt: &impl Abort, set: ParamSet, text: &str, checksum: &[u32]) {
+    let (n, lg_w) = (set.n(), set.lg_w());
     let mut bytes = [0; 32];
-    let bytes = &mut bytes[..set.n()];
-    assert!(rt; hex::decode_to_slice(text, bytes).is_ok());
+    assert!(rt; hex::decode_to_slice(text, &mut bytes[..n]).is_ok());
+    let (message, all) = (set.len1(), set.len());
+    assert!(rt; message <= 128 && message <= all && all <= 133);
     let mut out = [0; 133];
-    let out = &mut out[..set.len()];
-    digits(set, &node_of(bytes), out);
+    digits(set, &node_of(&bytes[..n]), &mut out[..all]);
+    assert!(rt; 1 <= lg_w && lg_w <= 16);
+    assert!(rt; lg_w as usize * message <= 8 * n);
     let mut groups = [0; 128];
-    let groups = &mut groups[..set.len1()];
-    base_2b(bytes, set.lg_w(), groups);
-    assert_eq!(rt; &out[..set.len1()], &*groups, "{text}");
-    assert_eq!(rt; &out[set.len1()..], checksum, "{text}");
+    base_2b(&bytes[..n], lg_w, &mut groups[..message]);
+    assert_eq!(rt; &out[..message], &groups[..message], "{text}");
+    assert_eq!(rt; &out[message..all], checksum, "{text}");
 }
 
 #[test]
@@ -33,6 +35,7 @@ fn digits_of_known_messages(rt: HostRuntime) -> Result<(), Fail> {
 }
 
 /// The tree and the leaf of each layer above those of layer 0.
+#[tactic(auto, using(slh_params::proofs::Bounds::hp_high))]
 fn check_places(rt: &impl Abort, set: ParamSet, layers: &[(u64, u32)]) {
     assert_eq!(rt; layers.len(), set.d() as usize);
     assert!(rt; layers.len() < 256);
