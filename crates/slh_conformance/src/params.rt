@@ -72,6 +72,28 @@ fn numbers_of_the_sets(rt: HostRuntime) -> Result<(), Fail> {
     Ok(())
 }
 
+/// n, lg_w, len.
+const CHAINS: [(u32, u32, usize); 9] = [
+    (16, 2, 68),
+    (24, 2, 101),
+    (32, 2, 133),
+    (16, 4, 35),
+    (24, 4, 51),
+    (32, 4, 67),
+    (16, 8, 18),
+    (24, 8, 26),
+    (32, 8, 34),
+];
+
+#[test]
+fn chains_of_each_digit_length(rt: HostRuntime) -> Result<(), Fail> {
+    for (n, lg_w, len) in &CHAINS {
+        let set = ParamSet::custom(*n, *lg_w, 1, 1, 1, 1)?;
+        assert_eq!(rt; set.len(), *len, "{n} and {lg_w}");
+    }
+    Ok(())
+}
+
 /// Bytes, bits of a group, groups.
 const GROUPS: [(&str, u32, &[u32]); 13] = [
     ("1234ab", 4, &[1, 2, 3, 4, 10, 11]),

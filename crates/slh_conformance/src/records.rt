@@ -5,7 +5,8 @@ mod values;
 
 use crate::fixtures::{bytes_of, sha256_hex};
 use slh_core::{
-    Form, PreHash, Randomizer, SecretKey, keygen_internal, sign_internal, verify_internal,
+    Form, PreHash, Randomizer, SecretKey, check_pair, keygen_internal, sign_internal,
+    verify_internal,
 };
 use slh_params::ParamSet;
 use std::alloc::Global;
@@ -122,6 +123,7 @@ fn check_record(rt: &impl Abort, alloc: Global, record: &Record) -> Result<(), F
     let set = ParamSet::custom(n, lg_w, hp, d, a, k)?;
     check_numbers(rt, set, record);
     let sk = record_key(rt, alloc, set, record)?;
+    assert!(rt; check_pair(&sk), "{}", record.label);
     let [pure, given, pre_hashed, internal] = &record.signatures;
     check_form(rt, alloc, &sk, Form::Pure, b"", pure)?;
     check_form(rt, alloc, &sk, Form::Pure, b"hello", given)?;

@@ -13,7 +13,7 @@ pub(super) struct ForsValues {
     pub(super) pk: &'static str,
 }
 
-pub(super) const FORS: [ForsValues; 6] = [
+pub(super) const FORS: [ForsValues; 9] = [
     ForsValues {
         set: "SLH-DSA-SHA2-128s",
         secret: "8d740569d67158deb2978620540aff7b",
@@ -73,5 +73,35 @@ pub(super) const FORS: [ForsValues; 6] = [
         ],
         signature: "322781642d4152ab3ec15bccd16cf5fdc6990d6d8c5b064ad904eb66955430ed",
         pk: "eeb932d2e47acca6caeb45a3d6729f601ae4dd933174aa107bc6229a820e8978",
+    },
+    ForsValues {
+        set: "custom:16,2,1,1,1,1",
+        secret: "d7a6dad07636fb9244ac86e785731d4d",
+        roots: [
+            "9d831c3056917c47b09dee3697c8e354",
+            "9d831c3056917c47b09dee3697c8e354",
+        ],
+        signature: "dc916bd9f0875837558a65fe3d2eebbb32dc5d025d4abd7af1f7064645190453",
+        pk: "2ba6adaf2b2833d5c3683a967746873e",
+    },
+    ForsValues {
+        set: "custom:24,2,1,65,1,8",
+        secret: "e4afb624b6bbe041e2c75ec244f2c32f7bebed62ec3f45c6",
+        roots: [
+            "83f7f2f8623ffd4f593f8119ed48ef8ef0e33bba2c5e9eb5",
+            "b41aa92188c49c9ef4ab46e5637e28137c783b4444e27a31",
+        ],
+        signature: "4429f98a27291b8d6794437677a27da2074de92c55906b4452530bce6f24528e",
+        pk: "d229faa918a52c54ff81e0a64b04dc156a3e160b1e218a9a",
+    },
+    ForsValues {
+        set: "custom:32,8,5,13,3,5",
+        secret: "82832df51ef3dbd0ac33b5d445864d457748cbd71d33251f3fd68432afb24812",
+        roots: [
+            "c6a2eefafa86907ad0664d59526723484c0b4de3134ee2d75a8b38742d9d4f84",
+            "f5f57403b84d82fa76329ce92f599354b44821be94e275e2028c34f4ec3b57e0",
+        ],
+        signature: "9710950d21712c1fd4ed60663a243e995ff9ab67408d594098f33e4eca7b651f",
+        pk: "7ca363395b68e785f30b04ed29afa42489c771a0478ba7cf519002050f9e45e8",
     },
 ];

@@ -11,7 +11,7 @@ pub(super) struct XmssValues {
     pub(super) signature: &'static str,
 }
 
-pub(super) const XMSS: [XmssValues; 12] = [
+pub(super) const XMSS: [XmssValues; 17] = [
     XmssValues {
         set: "SLH-DSA-SHA2-128s",
         layer: 6,
@@ -108,10 +108,50 @@ pub(super) const XMSS: [XmssValues; 12] = [
         path_of_leaf_1: "796e2c057eb927e42388fc9ca254330a72474a0c85d0299d473438e43b940a3d841cfb2e8846a3c8fc6db2a9326cf26023d0db4866722cff86e07aee2cc382801cc01f906dfea7d6ad1ecb3abbd9e41766b0d44c015d9897cf2f66129186feff361eeb7b2e3da55ce2647c9029495473d47e89085d7d6c0b9b86f7bd82b82a5d",
         signature: "5bed8ab591bfa298c389ebb50bd52b5cd6e7ecfc8b2cb2ea7e3a70516de3f828",
     },
+    XmssValues {
+        set: "custom:16,2,1,1,1,1",
+        layer: 0,
+        tree: 0x0,
+        root: "c78aff1ba23da84b03babc04712d216b",
+        path_of_leaf_1: "8c8bbb97b4a234726ef2f1907c6bbef6",
+        signature: "a6321f55f037daea4dae8a5eddee82c9a63954242e01d0712aca018332ee8252",
+    },
+    XmssValues {
+        set: "custom:24,2,1,65,1,8",
+        layer: 64,
+        tree: 0x0,
+        root: "403d93a2099c832e927c4fb3dfe8d92dc9ec4810987fbdc3",
+        path_of_leaf_1: "ddb4490701e2a7906fd21e0988c755dfb506308a57da0a54",
+        signature: "030a94fa047422f04ef59cfe16f51c973734917d1df8fb80620cd9d119f3863c",
+    },
+    XmssValues {
+        set: "custom:24,2,1,65,1,8",
+        layer: 0,
+        tree: 0x191a1b1c1d1e1f20,
+        root: "1df94d089e10be6721e350de662019e8cd822eb87cd6486a",
+        path_of_leaf_1: "55ca3a3ef87c6ac40d3bc54ec14d841171a8345686d15cca",
+        signature: "3dd597b23ef8499ec931e518434dde7547c4c308f85fa0d220baa378488c7aa2",
+    },
+    XmssValues {
+        set: "custom:32,8,5,13,3,5",
+        layer: 12,
+        tree: 0x0,
+        root: "592641792f582a6796c2911d0afce04962dae6debce963cd2aa84bc90530f7db",
+        path_of_leaf_1: "0181f31226878b1dc904337112c727d1711afb92ee01d2ea3f2e3ee574de3782de43fce6a2762a9e83ed8269d107375dbd34a8e424b67cb12eb95335617bdc20496717e2d1d51a98a17edd7ca261fa353143e54da2437de139fa3f8ddd1b949f53136059dcdb07590f40716bfbd48d0f0bc7b9a66fd89d7ed20bd1ba80aef2cb5df6638e61c3bc608c95b598dc9c42547955db7ad7b283a4f0fc9761339f685e",
+        signature: "3b43d9c65f94bb865fc03fbf7d22da8d9c13a037c7afa1351c20e128530ecee3",
+    },
+    XmssValues {
+        set: "custom:32,8,5,13,3,5",
+        layer: 0,
+        tree: 0x91a1b1c1d1e1f20,
+        root: "3bc899f456a9263541c7ac18422742acbf4faa527a1a763d5c971d9df114faf5",
+        path_of_leaf_1: "4b9f414957418292eea3db229845339252c420f51961bce95fe44b114ff1391d20933c4c63d9852fe2b0723f5ec9d6326c3a2ef3ba224fcb10be1b9503a23e6b77308af3d9d82b0b85fe63cbedd4f0b829b604a63cc622bc10c19ab3736deffd4b0db3430bf88f855b7a351893fc32326b1f3913e6edab870f485f8f015159bc779d3ad77ab52c632b758e4c040e3052e7dd0868de2be1800effc74dc26d6079",
+        signature: "228b2798907829cc7c2b3efdd995e5b84c054983bea7398d31e9104cf4e5dd8a",
+    },
 ];
 
 /// SHA-256 of the hypertree signature of the message 00 00 .. by leaf 1 of the tree that `low_tree` gives.
-pub(super) const HYPERTREE: [(&str, &str); 6] = [
+pub(super) const HYPERTREE: [(&str, &str); 9] = [
     (
         "SLH-DSA-SHA2-128s",
         "3b2124dd47d3b91d4ca9e6d1bbbf4043b53228d45e54442807eadbf67384c5ed",
@@ -135,5 +175,17 @@ pub(super) const HYPERTREE: [(&str, &str); 6] = [
     (
         "SLH-DSA-SHA2-256f",
         "e4f80a6a850c3d3837a8da9fa0641f1c7bbd109003ecab5e14b4536627cf4ae2",
+    ),
+    (
+        "custom:16,2,1,1,1,1",
+        "a6321f55f037daea4dae8a5eddee82c9a63954242e01d0712aca018332ee8252",
+    ),
+    (
+        "custom:24,2,1,65,1,8",
+        "293ad69de57bb9a3fa7601cd6d1b52a23fb5a0e35e44dba8317bfbbb3a0528bb",
+    ),
+    (
+        "custom:32,8,5,13,3,5",
+        "29710720604fbfa4f1fd3af487110c6ec0a9e3389a29c7a59d9b5c84c301d631",
     ),
 ];
