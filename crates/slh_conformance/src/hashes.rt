@@ -167,7 +167,6 @@ fn tweakable_values(rt: HostRuntime) -> Result<(), Fail> {
 }
 
 #[test]
-#[tactic(auto, using(slh_params::proofs::Bounds::m_high))]
 fn message_values(rt: HostRuntime) -> Result<(), Fail> {
     for values in &VALUES {
         let set = set_of(values.set)?;
@@ -182,7 +181,9 @@ fn message_values(rt: HostRuntime) -> Result<(), Fail> {
             let node = prf_msg(set, sk_prf.as_slice(), opt_rand.as_slice(), &[message]);
             assert_eq!(rt; hex_of(rt.alloc(), node.as_slice())?.as_str(), randomizer);
             let mut room = [0; 122];
-            let out = &mut room[..set.m()];
+            let m = set.m();
+            assert!(rt; m <= 122);
+            let out = &mut room[..m];
             h_msg(
                 set,
                 r.as_slice(),
