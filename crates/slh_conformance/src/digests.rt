@@ -1,8 +1,9 @@
 //! Cuts of message digests.
-use crate::fixtures::counting;
+use crate::fixtures::{counting, set_of};
 use slh_core::cut_digest;
 use slh_few::layer_place;
 use slh_params::{ParamSet, base_2b};
+use std::test::Fail;
 
 /// Bytes that name no key pair by their pattern: the message digests below are their front.
 const ANY: [u8; 49] = [
@@ -54,11 +55,13 @@ fn key_pairs(rt: HostRuntime) {
         ),
     ] {
         let name = set.name();
-        let cut = cut_digest(set, &[0xff; 49][..set.m()]);
+        let m = set.m();
+        assert!(rt; m <= 49);
+        let cut = cut_digest(set, &[0xff; 49][..m]);
         assert_eq!(rt; (cut.idx_tree, cut.idx_leaf), ones, "{name}");
-        let cut = cut_digest(set, &counting(0)[..set.m()]);
+        let cut = cut_digest(set, &counting(0)[..m]);
         assert_eq!(rt; (cut.idx_tree, cut.idx_leaf), up, "{name}");
-        let cut = cut_digest(set, &ANY[..set.m()]);
+        let cut = cut_digest(set, &ANY[..m]);
         assert_eq!(rt; (cut.idx_tree, cut.idx_leaf), any, "{name}");
     }
 }
@@ -66,9 +69,12 @@ fn key_pairs(rt: HostRuntime) {
 /// What the digest ff, ff, .. of 256f asks for in each layer, and in each FORS tree.
 #[test]
 fn last_of_256f(rt: HostRuntime) {
-    let cut = cut_digest(ParamSet::S256f, &[0xff; 49]);
+    let set = ParamSet::S256f;
+    let m = set.m();
+    assert!(rt; m <= 49);
+    let cut = cut_digest(set, &[0xff; 49][..m]);
     for layer in 0..17 {
-        let at = layer_place(ParamSet::S256f, cut.idx_tree, cut.idx_leaf, layer);
+        let at = layer_place(set, cut.idx_tree, cut.idx_leaf, layer);
         let tree = u64::MAX.checked_shr(4 * layer as u32).unwrap_or(0);
         assert_eq!(rt; (at.tree, at.pair), (tree, 15), "layer {layer}");
     }
@@ -83,7 +89,9 @@ fn last_of_256f(rt: HostRuntime) {
 fn places_of_128(rt: HostRuntime) {
     let set = ParamSet::S128f;
     let digest = counting(0);
-    let cut = cut_digest(set, &digest[..set.m()]);
+    let m = set.m();
+    assert!(rt; m <= digest.len());
+    let cut = cut_digest(set, &digest[..m]);
     let at = layer_place(set, cut.idx_tree, cut.idx_leaf, 1);
     assert_eq!(rt; (at.tree, at.pair), (0x0323436383a3c3e4, 0));
     let mut indices = [0; 8];
@@ -92,4 +100,23 @@ fn places_of_128(rt: HostRuntime) {
     let mut indices = [0; 14];
     base_2b(&[0xff; 21], 12, &mut indices);
     assert_eq!(rt; indices, [4095; 14]);
+}
+
+/// The digests ff, ff, .. of a record of one layer, and of one of 65 layers.
+#[test]
+fn places_of_records(rt: HostRuntime) -> Result<(), Fail> {
+    let low = set_of("custom:16,2,1,1,1,1")?;
+    assert!(rt; low.m() == 2);
+    let cut = cut_digest(low, &[0xff; 2]);
+    assert_eq!(rt; (cut.idx_tree, cut.idx_leaf), (0, 1));
+    let mut indices = [0; 1];
+    base_2b(&[0xff], 1, &mut indices);
+    assert_eq!(rt; indices, [1]);
+    let high = set_of("custom:24,2,1,65,1,8")?;
+    assert!(rt; high.m() == 10);
+    let cut = cut_digest(high, &[0xff; 10]);
+    assert_eq!(rt; (cut.idx_tree, cut.idx_leaf), (u64::MAX, 1));
+    let at = layer_place(high, cut.idx_tree, cut.idx_leaf, 64);
+    assert_eq!(rt; (at.tree, at.pair), (0, 1));
+    Ok(())
 }

@@ -1,12 +1,11 @@
 //! WOTS+, XMSS, the hypertree and FORS, under the seeds 00, 01, 02, ..: SK.seed, SK.prf, PK.seed.
-ghost use Rattle.std.specs.Prelude.{◌≡◌, ◌+◌, ◌-◌, ◌*◌, ◌^◌, ◌≤◌, ◌<◌, length};
-ghost use Rattle.slh_few.specs.Fors.{fors_part_len};
+ghost use Rattle.std.specs.Prelude.{◌≡◌, ◌-◌, ◌*◌, ◌%◌, ◌^◌, ◌≤◌, ◌<◌};
 ghost use Rattle.slh_few.specs.Xmss.{xmss_sig_len};
-ghost use Rattle.slh_params.specs.Params.{h, len, md_len};
+ghost use Rattle.slh_params.specs.Params.{h};
 ghost use Rattle.slh_params.specs.ParamSet.{params};
 
 use sha2::{Digest, Sha256};
-use slh_few::{Public, Seeds};
+use slh_few::{Public, Seeds, xmss_sig_len};
 use slh_params::ParamSet;
 
 mod digit_values;
@@ -19,10 +18,6 @@ mod wots_values;
 mod xmss;
 mod xmss_values;
 
-/// Room for each part of a signature.
-const MOST_BYTES: usize = 40000;
-
-#[tactic(auto, using(slh_params::proofs::Table::n_small))]
 fn seeds<'a>(set: ParamSet, bytes: &'a [u8; 96]) -> Seeds<'a>
     ensures { result.set ≡ set }
 {
@@ -57,48 +52,27 @@ fn is_digest(text: &str, bytes: &[u8]) -> bool {
     is_hex(text, &Sha256::digest(bytes))
 }
 
-fn wots_sig_len(set: ParamSet) -> usize
-    ensures value { result ≡ len (params set) * (params set).n }
-    ensures fits { result ≤ MOST_BYTES }
-{
-    set.len() * set.n()
-}
-
-fn xmss_sig_len(set: ParamSet) -> usize
-    ensures value { result ≡ xmss_sig_len (params set) }
-    ensures fits { result ≤ MOST_BYTES }
-{
-    (set.len() + set.hp() as usize) * set.n()
-}
-
 fn ht_sig_len(set: ParamSet) -> usize
-    ensures value { result ≡ (params set).d * xmss_sig_len (params set) }
-    ensures fits { result ≤ MOST_BYTES }
+    ensures { result ≡ (params set).d * xmss_sig_len (params set) }
 {
     set.d() as usize * xmss_sig_len(set)
 }
 
-fn fors_sig_len(set: ParamSet) -> usize
-    ensures value { result ≡ (params set).k * fors_part_len (params set) }
-    ensures fits { result ≤ MOST_BYTES }
-{
-    set.k() as usize * ((1 + set.a() as usize) * set.n())
-}
-
-fn md_len(set: ParamSet) -> usize
-    ensures value { result ≡ md_len (params set) }
-    ensures fits { result ≤ 96 }
-{
-    set.md_len()
-}
-
-/// A tree of layer 0.
+/// The tree of layer 0 whose index has the last bits of 191a1b1c1d1e1f20, in hexadecimal digits.
+#[tactic(auto, using(slh_params::proofs::Bounds::digest_bounds))]
 fn low_tree(set: ParamSet) -> u64
     ensures { result < 2 ^ (h (params set) - (params set).hp) }
 {
-    if set.h() - set.hp() < 63 {
-        0x001a_1b1c_1d1e_1f20
-    } else {
-        0x191a_1b1c_1d1e_1f20
+    low_bits(0x191a_1b1c_1d1e_1f20, set.h() - set.hp())
+}
+
+/// `x` modulo 2 ^ `count`.
+fn low_bits(x: u64, count: u32) -> u64
+    requires { count ≤ 64 }
+    ensures { result ≡ x % 2 ^ count }
+{
+    match 1u64.checked_shl(count) {
+        Some(bound) => x % bound,
+        None => x,
     }
 }

@@ -22,6 +22,11 @@ pub(crate) fn counting(first: u8) -> [u8; 96] {
     bytes
 }
 
+/// The set of this label.
+pub(crate) fn set_of(label: &str) -> Result<ParamSet, Fail> {
+    Ok(ParamSet::from_label(label.as_bytes()).ok_or("no label of a set")?)
+}
+
 /// The key whose seeds are the bytes from `first` on.
 pub(crate) fn key_from(set: ParamSet, first: u8) -> SecretKey
     ensures { result.set ≡ set }
@@ -82,7 +87,6 @@ pub(crate) fn hash_signature(
 }
 
 /// The first n of the bytes.
-#[tactic(auto, using(slh_params::proofs::Table::n_small))]
 pub(crate) fn node_from(set: ParamSet, bytes: &[u8; 96]) -> Node
     ensures { length result.items ≡ (params set).n }
 {

@@ -1,7 +1,5 @@
 //! Known values of the hash functions, of RFC 4231 and of a reference that is not this project's.
 
-use slh_params::ParamSet;
-
 /// Key, text, HMAC-SHA-256 and HMAC-SHA-512: the seven cases of RFC 4231, then keys around the lengths of a block.
 pub(crate) const HMAC: [(&str, &str, &str, &str); 19] = [
     (
@@ -174,7 +172,7 @@ pub(crate) const MGF1: [(&str, &str, &str); 11] = [
 /// What the hash functions of a set give under the seeds 00, 01, .. in order: SK.seed, SK.prf, PK.seed.
 /// The nodes are the bytes 80, 81, .. and a0, a1, ..; for the messages these are opt_rand and R.
 pub(crate) struct Values {
-    pub(crate) set: ParamSet,
+    pub(crate) set: &'static str,
     pub(crate) pk_root: &'static str,
     pub(crate) f: &'static str,
     pub(crate) h: &'static str,
@@ -188,9 +186,9 @@ pub(crate) struct Values {
     pub(crate) h_msg_abc: &'static str,
 }
 
-pub(crate) const VALUES: [Values; 6] = [
+pub(crate) const VALUES: [Values; 9] = [
     Values {
-        set: ParamSet::S128s,
+        set: "SLH-DSA-SHA2-128s",
         pk_root: "990ce6298792b128846a8e4a3a68954c",
         f: "f2af7aea92ba33f77e82f7ca322cfcce",
         h: "266bf39ac73509f2b75f6df23befd4f6",
@@ -204,7 +202,7 @@ pub(crate) const VALUES: [Values; 6] = [
         h_msg_abc: "21ac0c32ffa9e97b619b26100cc1aae45c470ced4f3c5eaeaa40cfd43c5a",
     },
     Values {
-        set: ParamSet::S128f,
+        set: "SLH-DSA-SHA2-128f",
         pk_root: "3b56e816847f000386aeec2e2bb9e1b5",
         f: "f2af7aea92ba33f77e82f7ca322cfcce",
         h: "266bf39ac73509f2b75f6df23befd4f6",
@@ -218,7 +216,7 @@ pub(crate) const VALUES: [Values; 6] = [
         h_msg_abc: "9e41fa5a4ee0a47e1a0cc77d22e006f67ac928319dfcad865e0a9e60755e13cee80f",
     },
     Values {
-        set: ParamSet::S192s,
+        set: "SLH-DSA-SHA2-192s",
         pk_root: "b6f282ce116ff59bce2d9fc4a67c6031dabdce326c34f541",
         f: "fef46c6afee8cd322211ce5c3db6e0fd5759fdb4b40eb80f",
         h: "1bd77b24547554bbb2bb5e13f607286c800b221c36918945",
@@ -232,7 +230,7 @@ pub(crate) const VALUES: [Values; 6] = [
         h_msg_abc: "fcd7b88baf8cdaa91e7c6da0550ceeb908f8c804a3e57eb4fcacd5071a5c18947435b4a7a16988",
     },
     Values {
-        set: ParamSet::S192f,
+        set: "SLH-DSA-SHA2-192f",
         pk_root: "9236ccebbb3a90ac2452dd89de49dab1340ec02419a2870e",
         f: "fef46c6afee8cd322211ce5c3db6e0fd5759fdb4b40eb80f",
         h: "1bd77b24547554bbb2bb5e13f607286c800b221c36918945",
@@ -246,7 +244,7 @@ pub(crate) const VALUES: [Values; 6] = [
         h_msg_abc: "05e8f59a6611a6dbc63aea562010d3494bca0cafe0341c11f3d43edaafc65ebbf610c1712097277e8c81",
     },
     Values {
-        set: ParamSet::S256s,
+        set: "SLH-DSA-SHA2-256s",
         pk_root: "da7163e601352515bc0f06f9f4f44be71a5a65ee9dca5575cf4a7b6d4a87d6e2",
         f: "8f371fe8e3003b11e0874369b59cf5acadf18e97420fd7655c775091111dd2fb",
         h: "431233ae0d44be447f543ca5e93740f17c84b29962c85306e1dfc55e77f6cb66",
@@ -260,7 +258,7 @@ pub(crate) const VALUES: [Values; 6] = [
         h_msg_abc: "3e9dfb58d326a1dc1986be8e8d12274c93deb6d62eed15fa0e9d6ae409a4d0d43674878263605c1ebfe71b22b9f3f9",
     },
     Values {
-        set: ParamSet::S256f,
+        set: "SLH-DSA-SHA2-256f",
         pk_root: "42cffe64ddbd6731063752684df77c8b58c225dc6b491208916b654ea1393176",
         f: "8f371fe8e3003b11e0874369b59cf5acadf18e97420fd7655c775091111dd2fb",
         h: "431233ae0d44be447f543ca5e93740f17c84b29962c85306e1dfc55e77f6cb66",
@@ -272,5 +270,47 @@ pub(crate) const VALUES: [Values; 6] = [
         prf_msg_abc: "4663dfb28a33ed652c1ca23e92f06e5be03bce0583f7dc63077a5512e07a7802",
         h_msg_empty: "4304a16490ebbeda2db71b56ae73704ab7155f8d96eb6c3da95fe589b4d5f09e3a5fb40606a867b7f96c920fb1d0eeb9dd",
         h_msg_abc: "ba32d0a8023b1e8edfa1efe692652f04334d55d539316094f88a46a2b1a3a5b8e9cbc60eba2887dc00afe6c2487ba971c6",
+    },
+    Values {
+        set: "custom:16,2,1,1,1,1",
+        pk_root: "c78aff1ba23da84b03babc04712d216b",
+        f: "f2af7aea92ba33f77e82f7ca322cfcce",
+        h: "266bf39ac73509f2b75f6df23befd4f6",
+        t_1: "c06481ceb24c925c1d320e5fcbc66383",
+        t_len: "e6e401863e0f893d75737371a55c8b3d",
+        t_k: "c06481ceb24c925c1d320e5fcbc66383",
+        prf: "c392f36d190c6a292fc4ff1bb51702dd",
+        prf_msg_empty: "7bf198da76081b62b0d16991d952612c",
+        prf_msg_abc: "60d73bb6d0e174de01edf4993243aa32",
+        h_msg_empty: "20d7",
+        h_msg_abc: "7b4b",
+    },
+    Values {
+        set: "custom:24,2,1,65,1,8",
+        pk_root: "403d93a2099c832e927c4fb3dfe8d92dc9ec4810987fbdc3",
+        f: "fef46c6afee8cd322211ce5c3db6e0fd5759fdb4b40eb80f",
+        h: "1bd77b24547554bbb2bb5e13f607286c800b221c36918945",
+        t_1: "2142cdc6d2df097f016e3991486b683e449965f93a5a8041",
+        t_len: "b0d8c128ff9df93850c35bbeccc52d5a2cb43417b0e7613a",
+        t_k: "b8fa8956f83302ddf47e940a0140e3affd9f22b70764d68d",
+        prf: "257773689bd32ad6d0d9d28da6130437769eb1b51c046b2b",
+        prf_msg_empty: "b963517d1160207baa0c5a6818f1548ceeca44e6dd3531ba",
+        prf_msg_abc: "0bfa718701243bc24d50b6d7ac414ba597b1d96263745f2f",
+        h_msg_empty: "0cf26ec0bcc2c3e85b43",
+        h_msg_abc: "baf3fa42d028f948d55f",
+    },
+    Values {
+        set: "custom:32,8,5,13,3,5",
+        pk_root: "592641792f582a6796c2911d0afce04962dae6debce963cd2aa84bc90530f7db",
+        f: "8f371fe8e3003b11e0874369b59cf5acadf18e97420fd7655c775091111dd2fb",
+        h: "431233ae0d44be447f543ca5e93740f17c84b29962c85306e1dfc55e77f6cb66",
+        t_1: "a776803ada3a7f9b9e71e67b653d2ff98a57dae3ed511fe8310c6f04c28a6a3b",
+        t_len: "fddc1cc8e4e7652f7e61ec72df9455380bc850ec8b9afdad4c1bff243a4aead6",
+        t_k: "7095c55a0c8ab45746c332c426be5f980a50850bc9e84f7de4f43b9a68279984",
+        prf: "3f8cb00428f4f962e18545e75bd9fd54d084f34eb084c34b4c7a6ac0b5f5563e",
+        prf_msg_empty: "bf6a53ed23de2ecbcf71941c80cea0ba54ab2a1bdfc79b873bb2eb0f0112b011",
+        prf_msg_abc: "4663dfb28a33ed652c1ca23e92f06e5be03bce0583f7dc63077a5512e07a7802",
+        h_msg_empty: "2ca751397e54bbf7a05b31",
+        h_msg_abc: "e65489ec8f0409165072a6",
     },
 ];

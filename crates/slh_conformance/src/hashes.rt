@@ -1,6 +1,6 @@
 //! HMAC, MGF1 and the tweakable and message hashes against values of other implementations.
 
-use crate::fixtures::{bytes_of, counting, hex_of, node_from};
+use crate::fixtures::{bytes_of, counting, hex_of, node_from, set_of};
 use crate::hash_values::{HMAC, MGF1, VALUES};
 use sha2::{Digest, Sha256, Sha512};
 use slh_hash::{
@@ -147,7 +147,7 @@ fn tweakable_values(rt: HostRuntime) -> Result<(), Fail> {
     adrs.set_chain(4);
     adrs.set_hash(5);
     for values in &VALUES {
-        let set = values.set;
+        let set = set_of(values.set)?;
         let [sk_seed, _, pk_seed] = seeds(set);
         let pk_seed = pk_seed.as_slice();
         let x1 = node_from(set, &counting(0x80));
@@ -169,7 +169,7 @@ fn tweakable_values(rt: HostRuntime) -> Result<(), Fail> {
 #[test]
 fn message_values(rt: HostRuntime) -> Result<(), Fail> {
     for values in &VALUES {
-        let set = values.set;
+        let set = set_of(values.set)?;
         let [_, sk_prf, pk_seed] = seeds(set);
         let opt_rand = node_from(set, &counting(0x80));
         let r = node_from(set, &counting(0xa0));
@@ -180,8 +180,10 @@ fn message_values(rt: HostRuntime) -> Result<(), Fail> {
         ] {
             let node = prf_msg(set, sk_prf.as_slice(), opt_rand.as_slice(), &[message]);
             assert_eq!(rt; hex_of(rt.alloc(), node.as_slice())?.as_str(), randomizer);
-            let mut room = [0; 49];
-            let out = &mut room[..set.m()];
+            let mut room = [0; 122];
+            let m = set.m();
+            assert!(rt; m <= 122);
+            let out = &mut room[..m];
             h_msg(
                 set,
                 r.as_slice(),

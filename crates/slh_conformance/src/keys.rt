@@ -85,11 +85,17 @@ fn random_number_generator(rt: HostRuntime) -> Result<(), Fail> {
     };
     let sk = keygen(ParamSet::S128f, &mut source)?;
     let mut rng = Pcg32::new(42, 54);
-    let mut seeds = [0; 48];
-    for seed in seeds.chunks_exact_mut(16) {
-        rng.fill_bytes(seed);
-    }
-    let expected = keygen_internal(ParamSet::S128f, &seeds[..16], &seeds[16..32], &seeds[32..]);
+    let n = ParamSet::S128f.n();
+    let mut seeds = [0; 96];
+    rng.fill_bytes(&mut seeds[..n]);
+    rng.fill_bytes(&mut seeds[n..2 * n]);
+    rng.fill_bytes(&mut seeds[2 * n..3 * n]);
+    let expected = keygen_internal(
+        ParamSet::S128f,
+        &seeds[..n],
+        &seeds[n..2 * n],
+        &seeds[2 * n..3 * n],
+    );
     same_key(&rt, &sk, &expected);
     Ok(())
 }

@@ -1,5 +1,5 @@
 //! Tests that cross crates: worked examples, and values that other implementations made.
-#![tactic(auto)]
+#![tactic(auto, using(slh_params::proofs::Bounds::n_high))]
 
 #[cfg(test)]
 mod contexts;
@@ -25,5 +25,7 @@ mod keys;
 mod params;
 #[cfg(test)]
 mod pre_hash;
+#[cfg(test)]
+mod records;
 #[cfg(test)]
 mod signatures;

@@ -57,7 +57,7 @@ fn numbers_of_the_sets(rt: HostRuntime) -> Result<(), Fail> {
         assert_eq!(rt; parts.as_slice(), &expected[6..11], "{name}");
         assert_eq!(rt; lengths.as_slice(), &expected[11..], "{name}");
     }
-    for (set, (name, _)) in ParamSet::ALL.iter().zip(&NUMBERS) {
+    for (set, (name, _)) in ParamSet::all().iter().zip(&NUMBERS) {
         assert_eq!(rt; set.name(), *name);
     }
     for text in [
@@ -68,6 +68,28 @@ fn numbers_of_the_sets(rt: HostRuntime) -> Result<(), Fail> {
         "SLH-DSA-SHAKE-128s",
     ] {
         assert_eq!(rt; ParamSet::from_name(text), None, "{text}");
+    }
+    Ok(())
+}
+
+/// n, lg_w, len.
+const CHAINS: [(u32, u32, usize); 9] = [
+    (16, 2, 68),
+    (24, 2, 101),
+    (32, 2, 133),
+    (16, 4, 35),
+    (24, 4, 51),
+    (32, 4, 67),
+    (16, 8, 18),
+    (24, 8, 26),
+    (32, 8, 34),
+];
+
+#[test]
+fn chains_of_each_digit_length(rt: HostRuntime) -> Result<(), Fail> {
+    for (n, lg_w, len) in &CHAINS {
+        let set = ParamSet::custom(*n, *lg_w, 1, 1, 1, 1)?;
+        assert_eq!(rt; set.len(), *len, "{n} and {lg_w}");
     }
     Ok(())
 }

@@ -1,40 +1,48 @@
 //! FORS.
 
 use super::fors_values::{FORS, ForsValues};
-use super::{MOST_BYTES, fors_sig_len, is_digest, is_hex, low_tree, md_len, public, seeds};
-use crate::fixtures::counting;
+use super::{is_digest, is_hex, low_tree, public, seeds};
+use crate::fixtures::{counting, set_of};
+use slh_core::signing_steps::fors_sig_len;
 use slh_few::{ForsTree, fors_pk_from_sig, fors_sign};
 use slh_hash::{f, h, prf};
 use slh_params::{Adrs, AdrsType, ParamSet};
 use slh_tree::{Tree, root};
+use std::alloc::Global;
 use std::process::Abort;
+use std::test::Fail;
 
-#[tactic(auto, using(slh_params::proofs::Table::n_small))]
-fn check_signature(rt: &impl Abort, want: &ForsValues) {
+fn check_signature(
+    rt: &impl Abort,
+    alloc: Global,
+    set: ParamSet,
+    want: &ForsValues,
+) -> Result<(), Fail> {
     let all = counting(0);
-    let seeds = seeds(want.set, &all);
-    let tree = low_tree(want.set);
-    let md = &all[..md_len(want.set)];
-    let mut buffer = [0; MOST_BYTES];
-    let out = &mut buffer[..fors_sig_len(want.set)];
-    fors_sign(&seeds, tree, 1, md, out);
-    assert!(rt; is_digest(want.signature, out));
+    let seeds = seeds(set, &all);
+    let tree = low_tree(set);
+    assert!(rt; set.md_len() <= all.len());
+    let md = &all[..set.md_len()];
+    let mut out = vec![in alloc; 0; fors_sig_len(set)]?;
+    fors_sign(&seeds, tree, 1, md, &mut out);
+    assert!(rt; is_digest(want.signature, &out));
     assert!(rt;
         is_hex(
             want.pk,
-            &fors_pk_from_sig(&public(&seeds), tree, 1, md, out)
+            &fors_pk_from_sig(&public(&seeds), tree, 1, md, &out)
         )
     );
-    let n = want.set.n();
+    let n = set.n();
     assert!(rt; n < out.len());
     assert!(rt; is_hex(want.secret, &out[..n]));
+    Ok(())
 }
 
-fn check_roots(rt: &impl Abort, want: &ForsValues) {
+fn check_roots(rt: &impl Abort, set: ParamSet, want: &ForsValues) {
     let all = counting(0);
-    let seeds = seeds(want.set, &all);
-    let tree = low_tree(want.set);
-    let last = want.set.k();
+    let seeds = seeds(set, &all);
+    let tree = low_tree(set);
+    let last = set.k();
     assert!(rt; 0 < last);
     assert!(rt; is_hex(want.roots[0], &root(&ForsTree::new(&seeds, tree, 1, 0))));
     assert!(rt;
@@ -46,11 +54,13 @@ fn check_roots(rt: &impl Abort, want: &ForsValues) {
 }
 
 #[test]
-fn known_values(rt: HostRuntime) {
+fn known_values(rt: HostRuntime) -> Result<(), Fail> {
     for want in &FORS {
-        check_signature(&rt, want);
-        check_roots(&rt, want);
+        let set = set_of(want.set)?;
+        check_signature(&rt, rt.alloc(), set, want)?;
+        check_roots(&rt, set, want);
     }
+    Ok(())
 }
 
 /// The nodes of tree 13 are numbered on from those of the trees before it.
@@ -58,6 +68,7 @@ fn known_values(rt: HostRuntime) {
 fn indices_through_all_trees(rt: HostRuntime) {
     let all = counting(0);
     let set = ParamSet::S128s;
+    assert!(rt; set.k() == 14 && set.a() == 12);
     let seeds = seeds(set, &all);
     let tree = ForsTree::new(&seeds, 7, 3, 13);
     let mut adrs = Adrs::zero();

@@ -2,35 +2,40 @@
 
 use super::digit_values::DIGITS;
 use super::place_values::PLACES;
+use crate::fixtures::set_of;
 use slh_few::{digits, layer_place};
-use slh_params::{ParamSet, node_of};
+use slh_params::{ParamSet, base_2b, node_of};
 use std::process::Abort;
+use std::test::Fail;
 
-/// The digits of a message are its hexadecimal digits, and then those of its checksum.
-fn check_digits(rt: &impl Abort, set: ParamSet, text: &str, checksum: &[u32; 3]) {
+/// The digits of a message are its groups of lg_w bits, and then those of its checksum.
+fn check_digits(rt: &impl Abort, set: ParamSet, text: &str, checksum: &[u32]) {
+    let (n, lg_w) = (set.n(), set.lg_w());
     let mut bytes = [0; 32];
-    let n = set.n();
-    assert!(rt; n <= 32);
     assert!(rt; hex::decode_to_slice(text, &mut bytes[..n]).is_ok());
-    let mut out = [0; 67];
-    let count = set.len();
-    assert!(rt; count <= 67);
-    digits(set, &node_of(&bytes[..n]), &mut out[..count]);
-    assert_eq!(rt; count, 2 * n + 3);
-    for (digit, letter) in out[..2 * n].iter().zip(text.chars()) {
-        assert_eq!(rt; Some(*digit), letter.to_digit(16), "{text}");
-    }
-    assert_eq!(rt; &out[2 * n..count], checksum.as_slice(), "{text}");
+    let (message, all) = (set.len1(), set.len());
+    assert!(rt; message <= 128 && message <= all && all <= 133);
+    let mut out = [0; 133];
+    digits(set, &node_of(&bytes[..n]), &mut out[..all]);
+    assert!(rt; 1 <= lg_w && lg_w <= 16);
+    assert!(rt; lg_w as usize * message <= 8 * n);
+    let mut groups = [0; 128];
+    base_2b(&bytes[..n], lg_w, &mut groups[..message]);
+    assert_eq!(rt; &out[..message], &groups[..message], "{text}");
+    assert_eq!(rt; &out[message..all], checksum, "{text}");
 }
 
 #[test]
-fn digits_of_known_messages(rt: HostRuntime) {
-    for (set, text, checksum) in &DIGITS {
-        check_digits(&rt, *set, *text, checksum);
+fn digits_of_known_messages(rt: HostRuntime) -> Result<(), Fail> {
+    for (n, lg_w, text, checksum) in &DIGITS {
+        let set = ParamSet::custom(*n, *lg_w, 1, 1, 1, 1)?;
+        check_digits(&rt, set, *text, *checksum);
     }
+    Ok(())
 }
 
 /// The tree and the leaf of each layer above those of layer 0.
+#[tactic(auto, using(slh_params::proofs::Bounds::hp_high))]
 fn check_places(rt: &impl Abort, set: ParamSet, layers: &[(u64, u32)]) {
     assert_eq!(rt; layers.len(), set.d() as usize);
     assert!(rt; layers.len() < 256);
@@ -46,10 +51,11 @@ fn check_places(rt: &impl Abort, set: ParamSet, layers: &[(u64, u32)]) {
 }
 
 #[test]
-fn places_of_known_leaves(rt: HostRuntime) {
+fn places_of_known_leaves(rt: HostRuntime) -> Result<(), Fail> {
     for (sets, layers) in &PLACES {
-        for set in *sets {
-            check_places(&rt, *set, *layers);
+        for label in *sets {
+            check_places(&rt, set_of(*label)?, *layers);
         }
     }
+    Ok(())
 }

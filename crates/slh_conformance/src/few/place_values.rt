@@ -1,12 +1,10 @@
 //! Known places, of a reference that is not this project's.
 
-use slh_params::ParamSet;
-
 /// For a tree and a leaf of layer 0 the tree and the leaf of each layer from there up, under each
 /// of the sets.
-pub(super) const PLACES: [(&[ParamSet], &[(u64, u32)]); 16] = [
+pub(super) const PLACES: [(&[&str], &[(u64, u32)]); 16] = [
     (
-        &[ParamSet::S128s, ParamSet::S192s],
+        &["SLH-DSA-SHA2-128s", "SLH-DSA-SHA2-192s"],
         &[
             (0x3fffffffffffff, 511),
             (0x1fffffffffff, 511),
@@ -18,7 +16,7 @@ pub(super) const PLACES: [(&[ParamSet], &[(u64, u32)]); 16] = [
         ],
     ),
     (
-        &[ParamSet::S128s],
+        &["SLH-DSA-SHA2-128s"],
         &[
             (0x15161718191a1b, 29),
             (0xa8b0b8c0c8d, 27),
@@ -30,7 +28,7 @@ pub(super) const PLACES: [(&[ParamSet], &[(u64, u32)]); 16] = [
         ],
     ),
     (
-        &[ParamSet::S128s],
+        &["SLH-DSA-SHA2-128s"],
         &[
             (0x1ad12b75671ad8, 379),
             (0xd6895bab38d, 216),
@@ -42,7 +40,7 @@ pub(super) const PLACES: [(&[ParamSet], &[(u64, u32)]); 16] = [
         ],
     ),
     (
-        &[ParamSet::S128f, ParamSet::S192f],
+        &["SLH-DSA-SHA2-128f", "SLH-DSA-SHA2-192f"],
         &[
             (0x7fffffffffffffff, 7),
             (0xfffffffffffffff, 7),
@@ -69,7 +67,7 @@ pub(super) const PLACES: [(&[ParamSet], &[(u64, u32)]); 16] = [
         ],
     ),
     (
-        &[ParamSet::S128f],
+        &["SLH-DSA-SHA2-128f"],
         &[
             (0x191a1b1c1d1e1f20, 1),
             (0x323436383a3c3e4, 0),
@@ -96,7 +94,7 @@ pub(super) const PLACES: [(&[ParamSet], &[(u64, u32)]); 16] = [
         ],
     ),
     (
-        &[ParamSet::S128f],
+        &["SLH-DSA-SHA2-128f"],
         &[
             (0x671ad8bd7bebc628, 1),
             (0xce35b17af7d78c5, 0),
@@ -123,7 +121,7 @@ pub(super) const PLACES: [(&[ParamSet], &[(u64, u32)]); 16] = [
         ],
     ),
     (
-        &[ParamSet::S192s],
+        &["SLH-DSA-SHA2-192s"],
         &[
             (0x1e1f2021222324, 294),
             (0xf0f90109111, 292),
@@ -135,7 +133,7 @@ pub(super) const PLACES: [(&[ParamSet], &[(u64, u32)]); 16] = [
         ],
     ),
     (
-        &[ParamSet::S192s],
+        &["SLH-DSA-SHA2-192s"],
         &[
             (0x2bc628094ae4c5, 0),
             (0x15e31404a572, 197),
@@ -147,7 +145,7 @@ pub(super) const PLACES: [(&[ParamSet], &[(u64, u32)]); 16] = [
         ],
     ),
     (
-        &[ParamSet::S192f],
+        &["SLH-DSA-SHA2-192f"],
         &[
             (0x2122232425262728, 1),
             (0x424446484a4c4e5, 0),
@@ -174,7 +172,7 @@ pub(super) const PLACES: [(&[ParamSet], &[(u64, u32)]); 16] = [
         ],
     ),
     (
-        &[ParamSet::S192f],
+        &["SLH-DSA-SHA2-192f"],
         &[
             (0x94ae4c53800b2e4, 6),
             (0x1295c98a700165c, 4),
@@ -201,7 +199,7 @@ pub(super) const PLACES: [(&[ParamSet], &[(u64, u32)]); 16] = [
         ],
     ),
     (
-        &[ParamSet::S256s],
+        &["SLH-DSA-SHA2-256s"],
         &[
             (0xffffffffffffff, 255),
             (0xffffffffffff, 255),
@@ -214,7 +212,7 @@ pub(super) const PLACES: [(&[ParamSet], &[(u64, u32)]); 16] = [
         ],
     ),
     (
-        &[ParamSet::S256s],
+        &["SLH-DSA-SHA2-256s"],
         &[
             (0x2728292a2b2c2d, 46),
             (0x2728292a2b2c, 45),
@@ -227,7 +225,7 @@ pub(super) const PLACES: [(&[ParamSet], &[(u64, u32)]); 16] = [
         ],
     ),
     (
-        &[ParamSet::S256s],
+        &["SLH-DSA-SHA2-256s"],
         &[
             (0xb2e4f68ea1ee13, 50),
             (0xb2e4f68ea1ee, 19),
@@ -240,7 +238,7 @@ pub(super) const PLACES: [(&[ParamSet], &[(u64, u32)]); 16] = [
         ],
     ),
     (
-        &[ParamSet::S256f],
+        &["SLH-DSA-SHA2-256f"],
         &[
             (0xffffffffffffffff, 15),
             (0xfffffffffffffff, 15),
@@ -262,7 +260,7 @@ pub(super) const PLACES: [(&[ParamSet], &[(u64, u32)]); 16] = [
         ],
     ),
     (
-        &[ParamSet::S256f],
+        &["SLH-DSA-SHA2-256f"],
         &[
             (0x28292a2b2c2d2e2f, 0),
             (0x28292a2b2c2d2e2, 15),
@@ -284,7 +282,7 @@ pub(super) const PLACES: [(&[ParamSet], &[(u64, u32)]); 16] = [
         ],
     ),
     (
-        &[ParamSet::S256f],
+        &["SLH-DSA-SHA2-256f"],
         &[
             (0xe4f68ea1ee133217, 10),
             (0xe4f68ea1ee13321, 7),

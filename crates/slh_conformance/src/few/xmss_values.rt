@@ -1,10 +1,8 @@
 //! Known values of XMSS trees and of the hypertree, of a reference that is not this project's.
 
-use slh_params::ParamSet;
-
 /// The values of one tree. Texts are bytes as hexadecimal digits.
 pub(super) struct XmssValues {
-    pub(super) set: ParamSet,
+    pub(super) set: &'static str,
     pub(super) layer: u8,
     pub(super) tree: u64,
     pub(super) root: &'static str,
@@ -13,9 +11,9 @@ pub(super) struct XmssValues {
     pub(super) signature: &'static str,
 }
 
-pub(super) const XMSS: [XmssValues; 12] = [
+pub(super) const XMSS: [XmssValues; 17] = [
     XmssValues {
-        set: ParamSet::S128s,
+        set: "SLH-DSA-SHA2-128s",
         layer: 6,
         tree: 0x0,
         root: "990ce6298792b128846a8e4a3a68954c",
@@ -23,7 +21,7 @@ pub(super) const XMSS: [XmssValues; 12] = [
         signature: "5d80ab1ea3f0aa92045a21f1113e58503ab5f1bd2ccb1c9f39dfdd5f789759b0",
     },
     XmssValues {
-        set: ParamSet::S128s,
+        set: "SLH-DSA-SHA2-128s",
         layer: 0,
         tree: 0x1a1b1c1d1e1f20,
         root: "4650ad276648cc73c2bce87507f12785",
@@ -31,7 +29,7 @@ pub(super) const XMSS: [XmssValues; 12] = [
         signature: "83677681c2011a5dbfbdf887bbdb1cc3e0130077ff8e9c2541474806c673953a",
     },
     XmssValues {
-        set: ParamSet::S128f,
+        set: "SLH-DSA-SHA2-128f",
         layer: 21,
         tree: 0x0,
         root: "3b56e816847f000386aeec2e2bb9e1b5",
@@ -39,7 +37,7 @@ pub(super) const XMSS: [XmssValues; 12] = [
         signature: "27539fd664e9fdcb7b576ee14cc2fd280d37f54e4059d3c82e952b546349cc96",
     },
     XmssValues {
-        set: ParamSet::S128f,
+        set: "SLH-DSA-SHA2-128f",
         layer: 0,
         tree: 0x191a1b1c1d1e1f20,
         root: "d2f1c59b5e01875bc8e3a89fe63bd09e",
@@ -47,7 +45,7 @@ pub(super) const XMSS: [XmssValues; 12] = [
         signature: "08839faf0fa9944f138055fa4cae2c6453b2543cc65deea0bd591d2b080a6b25",
     },
     XmssValues {
-        set: ParamSet::S192s,
+        set: "SLH-DSA-SHA2-192s",
         layer: 6,
         tree: 0x0,
         root: "b6f282ce116ff59bce2d9fc4a67c6031dabdce326c34f541",
@@ -55,7 +53,7 @@ pub(super) const XMSS: [XmssValues; 12] = [
         signature: "b2b06b3f7800f0956999896c19563cdbe61d00e10c00a097df1342346602f042",
     },
     XmssValues {
-        set: ParamSet::S192s,
+        set: "SLH-DSA-SHA2-192s",
         layer: 0,
         tree: 0x1a1b1c1d1e1f20,
         root: "ed61fcfe31cf61c6f13783e1f700e51df61b076cc6a4d4f5",
@@ -63,7 +61,7 @@ pub(super) const XMSS: [XmssValues; 12] = [
         signature: "e4eb8982ec4f342fef7e1fa0aaf837215d1d44d2999f39acc9088b2f3519dc6f",
     },
     XmssValues {
-        set: ParamSet::S192f,
+        set: "SLH-DSA-SHA2-192f",
         layer: 21,
         tree: 0x0,
         root: "9236ccebbb3a90ac2452dd89de49dab1340ec02419a2870e",
@@ -71,7 +69,7 @@ pub(super) const XMSS: [XmssValues; 12] = [
         signature: "8eb06ddbd7c6375e2ba36c62449eb9394792ebaa65435c8079ffe3e5d1d829ac",
     },
     XmssValues {
-        set: ParamSet::S192f,
+        set: "SLH-DSA-SHA2-192f",
         layer: 0,
         tree: 0x191a1b1c1d1e1f20,
         root: "626784758b3e3b90509610d7ab9451841e360d9cb3f861cb",
@@ -79,7 +77,7 @@ pub(super) const XMSS: [XmssValues; 12] = [
         signature: "0aa83a14ac3c9d21b10f05f22527b257d8d528acc9a8e558fec21db36cb09b69",
     },
     XmssValues {
-        set: ParamSet::S256s,
+        set: "SLH-DSA-SHA2-256s",
         layer: 7,
         tree: 0x0,
         root: "da7163e601352515bc0f06f9f4f44be71a5a65ee9dca5575cf4a7b6d4a87d6e2",
@@ -87,7 +85,7 @@ pub(super) const XMSS: [XmssValues; 12] = [
         signature: "7eb7b7c9ec8bfcfec3225a86e46d8daea795b6e2c3ee16c3d0e153a4e25873c7",
     },
     XmssValues {
-        set: ParamSet::S256s,
+        set: "SLH-DSA-SHA2-256s",
         layer: 0,
         tree: 0x1a1b1c1d1e1f20,
         root: "74a9e3b8ce6a04a7d33a44d4ffec9517bf00758c387d9ea37db05fdea33382dd",
@@ -95,7 +93,7 @@ pub(super) const XMSS: [XmssValues; 12] = [
         signature: "a7aa5bfb55a6e7a5e2c1793714bb5bc7108d5c4320d75b267b725b5e879be120",
     },
     XmssValues {
-        set: ParamSet::S256f,
+        set: "SLH-DSA-SHA2-256f",
         layer: 16,
         tree: 0x0,
         root: "42cffe64ddbd6731063752684df77c8b58c225dc6b491208916b654ea1393176",
@@ -103,39 +101,91 @@ pub(super) const XMSS: [XmssValues; 12] = [
         signature: "8465c100250a889962b59c682c79d70dc0db3324bd4f0876505b9f2017aa0fdf",
     },
     XmssValues {
-        set: ParamSet::S256f,
+        set: "SLH-DSA-SHA2-256f",
         layer: 0,
         tree: 0x191a1b1c1d1e1f20,
         root: "5fd3018a1da44fdad54461915c6564bccffedee308d7ed65641c045f9d45eaf9",
         path_of_leaf_1: "796e2c057eb927e42388fc9ca254330a72474a0c85d0299d473438e43b940a3d841cfb2e8846a3c8fc6db2a9326cf26023d0db4866722cff86e07aee2cc382801cc01f906dfea7d6ad1ecb3abbd9e41766b0d44c015d9897cf2f66129186feff361eeb7b2e3da55ce2647c9029495473d47e89085d7d6c0b9b86f7bd82b82a5d",
         signature: "5bed8ab591bfa298c389ebb50bd52b5cd6e7ecfc8b2cb2ea7e3a70516de3f828",
     },
+    XmssValues {
+        set: "custom:16,2,1,1,1,1",
+        layer: 0,
+        tree: 0x0,
+        root: "c78aff1ba23da84b03babc04712d216b",
+        path_of_leaf_1: "8c8bbb97b4a234726ef2f1907c6bbef6",
+        signature: "a6321f55f037daea4dae8a5eddee82c9a63954242e01d0712aca018332ee8252",
+    },
+    XmssValues {
+        set: "custom:24,2,1,65,1,8",
+        layer: 64,
+        tree: 0x0,
+        root: "403d93a2099c832e927c4fb3dfe8d92dc9ec4810987fbdc3",
+        path_of_leaf_1: "ddb4490701e2a7906fd21e0988c755dfb506308a57da0a54",
+        signature: "030a94fa047422f04ef59cfe16f51c973734917d1df8fb80620cd9d119f3863c",
+    },
+    XmssValues {
+        set: "custom:24,2,1,65,1,8",
+        layer: 0,
+        tree: 0x191a1b1c1d1e1f20,
+        root: "1df94d089e10be6721e350de662019e8cd822eb87cd6486a",
+        path_of_leaf_1: "55ca3a3ef87c6ac40d3bc54ec14d841171a8345686d15cca",
+        signature: "3dd597b23ef8499ec931e518434dde7547c4c308f85fa0d220baa378488c7aa2",
+    },
+    XmssValues {
+        set: "custom:32,8,5,13,3,5",
+        layer: 12,
+        tree: 0x0,
+        root: "592641792f582a6796c2911d0afce04962dae6debce963cd2aa84bc90530f7db",
+        path_of_leaf_1: "0181f31226878b1dc904337112c727d1711afb92ee01d2ea3f2e3ee574de3782de43fce6a2762a9e83ed8269d107375dbd34a8e424b67cb12eb95335617bdc20496717e2d1d51a98a17edd7ca261fa353143e54da2437de139fa3f8ddd1b949f53136059dcdb07590f40716bfbd48d0f0bc7b9a66fd89d7ed20bd1ba80aef2cb5df6638e61c3bc608c95b598dc9c42547955db7ad7b283a4f0fc9761339f685e",
+        signature: "3b43d9c65f94bb865fc03fbf7d22da8d9c13a037c7afa1351c20e128530ecee3",
+    },
+    XmssValues {
+        set: "custom:32,8,5,13,3,5",
+        layer: 0,
+        tree: 0x91a1b1c1d1e1f20,
+        root: "3bc899f456a9263541c7ac18422742acbf4faa527a1a763d5c971d9df114faf5",
+        path_of_leaf_1: "4b9f414957418292eea3db229845339252c420f51961bce95fe44b114ff1391d20933c4c63d9852fe2b0723f5ec9d6326c3a2ef3ba224fcb10be1b9503a23e6b77308af3d9d82b0b85fe63cbedd4f0b829b604a63cc622bc10c19ab3736deffd4b0db3430bf88f855b7a351893fc32326b1f3913e6edab870f485f8f015159bc779d3ad77ab52c632b758e4c040e3052e7dd0868de2be1800effc74dc26d6079",
+        signature: "228b2798907829cc7c2b3efdd995e5b84c054983bea7398d31e9104cf4e5dd8a",
+    },
 ];
 
 /// SHA-256 of the hypertree signature of the message 00 00 .. by leaf 1 of the tree that `low_tree` gives.
-pub(super) const HYPERTREE: [(ParamSet, &str); 6] = [
+pub(super) const HYPERTREE: [(&str, &str); 9] = [
     (
-        ParamSet::S128s,
+        "SLH-DSA-SHA2-128s",
         "3b2124dd47d3b91d4ca9e6d1bbbf4043b53228d45e54442807eadbf67384c5ed",
     ),
     (
-        ParamSet::S128f,
+        "SLH-DSA-SHA2-128f",
         "38ee2ca5a1cec2dc8673f65d116c9aa78ad57d9a44b1bb221bf883ddfba9be43",
     ),
     (
-        ParamSet::S192s,
+        "SLH-DSA-SHA2-192s",
         "23c92bfb202d3bbec5b2b45c4b326a6c3aaf0b4012b2b4a75daca5ea6685f535",
     ),
     (
-        ParamSet::S192f,
+        "SLH-DSA-SHA2-192f",
         "98d4b42386a9209645e0d33e4f3aea15f2e5628bf9879a38487dec567d6457b5",
     ),
     (
-        ParamSet::S256s,
+        "SLH-DSA-SHA2-256s",
         "4574be096bea97e32868004a056105bb840bcdd901b0009f46f589738a62ad54",
     ),
     (
-        ParamSet::S256f,
+        "SLH-DSA-SHA2-256f",
         "e4f80a6a850c3d3837a8da9fa0641f1c7bbd109003ecab5e14b4536627cf4ae2",
+    ),
+    (
+        "custom:16,2,1,1,1,1",
+        "a6321f55f037daea4dae8a5eddee82c9a63954242e01d0712aca018332ee8252",
+    ),
+    (
+        "custom:24,2,1,65,1,8",
+        "293ad69de57bb9a3fa7601cd6d1b52a23fb5a0e35e44dba8317bfbbb3a0528bb",
+    ),
+    (
+        "custom:32,8,5,13,3,5",
+        "29710720604fbfa4f1fd3af487110c6ec0a9e3389a29c7a59d9b5c84c301d631",
     ),
 ];

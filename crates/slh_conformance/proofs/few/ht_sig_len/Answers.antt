@@ -4,6 +4,3 @@ use Rattle.slh_conformance.proofs.few.ht_sig_len.Goals as goal
 
 pub overflow_mul-result : goal.overflow_mul-result
 overflow_mul-result c = rw (c.d.ensures, c.xmss_sig_len.ensures.value) (omega (arith, ht_fits c.args.set))
-
-pub returns-clause-fits : goal.returns-clause-fits
-returns-clause-fits c = rw (c.d.ensures, c.xmss_sig_len.ensures.value) (ht_fits c.args.set)
