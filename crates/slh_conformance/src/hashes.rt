@@ -6,7 +6,7 @@ use sha2::{Digest, Sha256, Sha512};
 use slh_hash::{
     TStream, f, h, h_msg, hmac_sha256, hmac_sha512, mgf1_sha256, mgf1_sha512, prf, prf_msg,
 };
-use slh_params::{Adrs, AdrsType, Node, ParamSet, node_of};
+use slh_params::{Adrs, AdrsType, Node, ParamSet};
 use std::test::Fail;
 
 #[test]
@@ -131,8 +131,7 @@ fn seeds(set: ParamSet) -> [Node; 3] {
 fn t_of(set: ParamSet, pk_seed: &[u8], adrs: &Adrs, count: usize) -> Node {
     let mut stream = TStream::new(set, pk_seed, adrs);
     for i in 0..count {
-        let bytes = [(i % 256) as u8; 32];
-        stream.absorb(&node_of(&bytes[..set.n()]));
+        stream.absorb(&node_from(set, &[(i % 256) as u8; 96]));
     }
     stream.finish()
 }

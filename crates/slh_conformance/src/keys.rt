@@ -80,22 +80,18 @@ fn failing_sources(rt: HostRuntime) -> Result<(), Fail> {
 
 #[test]
 fn random_number_generator(rt: HostRuntime) -> Result<(), Fail> {
+    let set = ParamSet::S128f;
+    assert!(rt; set.n() == 16);
     let mut source = FromRng {
         rng: Pcg32::new(42, 54),
     };
-    let sk = keygen(ParamSet::S128f, &mut source)?;
+    let sk = keygen(set, &mut source)?;
     let mut rng = Pcg32::new(42, 54);
-    let n = ParamSet::S128f.n();
-    let mut seeds = [0; 96];
-    rng.fill_bytes(&mut seeds[..n]);
-    rng.fill_bytes(&mut seeds[n..2 * n]);
-    rng.fill_bytes(&mut seeds[2 * n..3 * n]);
-    let expected = keygen_internal(
-        ParamSet::S128f,
-        &seeds[..n],
-        &seeds[n..2 * n],
-        &seeds[2 * n..3 * n],
-    );
+    let (mut sk_seed, mut sk_prf, mut pk_seed) = ([0; 16], [0; 16], [0; 16]);
+    rng.fill_bytes(&mut sk_seed);
+    rng.fill_bytes(&mut sk_prf);
+    rng.fill_bytes(&mut pk_seed);
+    let expected = keygen_internal(set, &sk_seed, &sk_prf, &pk_seed);
     same_key(&rt, &sk, &expected);
     Ok(())
 }

@@ -48,13 +48,17 @@ fn status<K: Drop>(read: Result<K, FileFault>) -> u8 {
 
 #[test]
 fn reads_what_is_written(rt: HostRuntime) -> Result<(), Fail> {
-    let text = write_public(rt.alloc(), &public_key()?)?;
+    let key = public_key()?;
+    assert!(rt; key.set().is_fips_205());
+    let text = write_public(rt.alloc(), &key)?;
     assert_eq!(rt; text.as_bytes(), PUBLIC.as_slice());
     let key = read_public(PUBLIC)?;
     assert_eq!(rt; key.set(), ParamSet::S128f);
     assert_eq!(rt; key.bytes(), PUBLIC_BYTES.as_slice());
 
-    let text = write_secret(rt.alloc(), &secret_key()?)?;
+    let key = secret_key()?;
+    assert!(rt; key.set().is_fips_205());
+    let text = write_secret(rt.alloc(), &key)?;
     assert_eq!(rt; text.as_bytes(), SECRET.as_slice());
     let key = read_secret(SECRET)?;
     assert_eq!(rt; key.set(), ParamSet::S128f);

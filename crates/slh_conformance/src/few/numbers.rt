@@ -2,34 +2,40 @@
 
 use super::digit_values::DIGITS;
 use super::place_values::PLACES;
-use crate::fixtures::set_of;
+use crate::fixtures::{bytes_of, set_of};
 use slh_few::{digits, layer_place};
 use slh_params::{ParamSet, base_2b, node_of};
+use std::alloc::Global;
 use std::process::Abort;
 use std::test::Fail;
 
 /// The digits of a message are its groups of lg_w bits, and then those of its checksum.
-fn check_digits(rt: &impl Abort, set: ParamSet, text: &str, checksum: &[u32]) {
-    let (n, lg_w) = (set.n(), set.lg_w());
-    let mut bytes = [0; 32];
-    assert!(rt; hex::decode_to_slice(text, &mut bytes[..n]).is_ok());
-    let (message, all) = (set.len1(), set.len());
-    assert!(rt; message <= 128 && message <= all && all <= 133);
-    let mut out = [0; 133];
-    digits(set, &node_of(&bytes[..n]), &mut out[..all]);
+fn check_digits(
+    rt: &impl Abort,
+    alloc: Global,
+    set: ParamSet,
+    text: &str,
+    checksum: &[u32],
+) -> Result<(), Fail> {
+    let bytes = bytes_of(alloc, text)?;
+    assert!(rt; bytes.len() == set.n() && bytes.len() <= 32);
+    let (message, lg_w) = (set.len1(), set.lg_w());
+    let mut out = vec![in alloc; 0; set.len()]?;
+    digits(set, &node_of(&bytes), &mut out);
+    let mut groups = vec![in alloc; 0; message]?;
     assert!(rt; 1 <= lg_w && lg_w <= 16);
-    assert!(rt; lg_w as usize * message <= 8 * n);
-    let mut groups = [0; 128];
-    base_2b(&bytes[..n], lg_w, &mut groups[..message]);
-    assert_eq!(rt; &out[..message], &groups[..message], "{text}");
-    assert_eq!(rt; &out[message..all], checksum, "{text}");
+    assert!(rt; lg_w as usize * groups.len() <= 8 * bytes.len());
+    base_2b(&bytes, lg_w, &mut groups);
+    assert_eq!(rt; out.get(..message), Some(groups.as_slice()), "{text}");
+    assert_eq!(rt; out.get(message..), Some(checksum), "{text}");
+    Ok(())
 }
 
 #[test]
 fn digits_of_known_messages(rt: HostRuntime) -> Result<(), Fail> {
     for (n, lg_w, text, checksum) in &DIGITS {
         let set = ParamSet::custom(*n, *lg_w, 1, 1, 1, 1)?;
-        check_digits(&rt, set, *text, *checksum);
+        check_digits(&rt, rt.alloc(), set, *text, *checksum)?;
     }
     Ok(())
 }
