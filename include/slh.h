@@ -18,7 +18,7 @@
  * the message or its digest, the context, the randomizer, the output or the signature.
  *
  * Each call answers SLH_DONE (0), SLH_INVALID (1, only slh_check and the verify calls), or a refusal's number. What is
- * out of rule is judged in this order, and the first is answered:
+ * not valid is judged in this order, and the first is answered:
  *
  *   SLH_NO_SUCH_SET            the number is no set's
  *   SLH_NO_SUCH_FUNCTION       the number is no pre-hash function's

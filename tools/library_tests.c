@@ -1,5 +1,5 @@
 /*
- * Calls the library for C with lengths, numbers and pointers in and out of rule, and from several threads. The last line
+ * Calls the library for C with valid and invalid lengths, numbers and pointers, and from several threads. The last line
  * has the counts, and the status is 0 where nothing failed. tools/library_tests.sh compiles and runs it.
  *
  * Each argument is a block of its own, of just the length that is handed in, so that the sanitizers see a read or a
@@ -152,7 +152,7 @@ static struct bytes counted(size_t len, uint8_t first) {
 
 static const size_t digest_lens[FUNCTIONS] = {28, 32, 48, 64, 28, 32};
 
-/* Arguments in rule for a set: the seeds 00, 01, 02, .., their key, and room for what is made. */
+/* Valid arguments for a set: the seeds 00, 01, 02, .., their key, and room for what is made. */
 static struct given in_rule(uint32_t set, uint32_t function) {
     size_t pk_len, sk_len, sig_len, n;
     struct given given = {set, function, {{NULL, 0}}};
@@ -179,7 +179,7 @@ static void drop(struct given given) {
     for (int it = 0; it < OUT; it++) free(given.of[it].at);
 }
 
-/* What a call answers where this argument has another length, and all else is in rule. */
+/* What a call answers where this argument has another length, and all else is valid. */
 static uint32_t answer_to_length(const struct call *call, enum argument of) {
     int is_verify = (call->takes & A(SIG)) != 0;
     switch (of) {
@@ -198,7 +198,7 @@ static uint32_t answer_to_length(const struct call *call, enum argument of) {
 static int is_fast(uint32_t set) { return set % 2 == 0; }
 
 /* One argument a byte shorter, a byte longer, or without any byte and null. A message or context of another length is
-   in rule, so that signing is run whole: this is done for the fast sets. */
+   valid, so that signing is run whole: this is done for the fast sets. */
 static void other_lengths(const struct call *call, const struct given *good) {
     for (int it = 0; it < ARGUMENTS; it++) {
         if (it == OUT ? call->writes == OUT : !(call->takes & A(it))) continue;
@@ -232,7 +232,7 @@ static void other_numbers(const struct call *call, const struct given *good) {
     }
 }
 
-/* All is out of rule, and then one thing after the other is mended: each time the next one is answered. */
+/* All is invalid, and then one thing after the other is mended: each time the next one is answered. */
 static void order(const struct call *call, const struct given *good) {
     struct given given = *good;
     for (int it = 0; it < OUT; it++) given.of[it].len = it == CTX ? 0 : good->of[it].len - 1;

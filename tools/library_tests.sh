@@ -1,6 +1,6 @@
 #!/usr/bin/env bash
 # Builds the library for C by tools/library.sh into a folder of its own, and tests what was installed: its symbols, the
-# header, the calls with arguments in and out of rule, the vectors of other implementations, the stack, the examples.
+# header, the calls with valid and invalid arguments, the vectors of other implementations, the stack, the examples.
 #
 # usage: tools/library_tests.sh
 #

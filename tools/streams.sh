@@ -61,7 +61,7 @@ test_of_none='{"kind":"verify","set":"SLH-DSA-SHA2-128f","pk":"'$(printf '0%.0s'
 set=SLH-DSA-SHA2-128f
 sign="sign --key secret --message abc"
 
-# ---- the words, and what is written where
+# ---- the arguments, and what is written where
 run keygen --set $set <seeds
 check "keygen writes the secret key" wrote secret
 run public --key secret
