@@ -33,6 +33,12 @@ pub right_more : {T : Type 0} (right : ℕ → T → Type 0) (n number : ℕ) (x
 right_more right n number xs ys was below (out, good, f) =
     subst (λ v. AllRight right n v) (sym f) (All-push (λ a. (a.0 < n) × right a.0 a.1) xs (number, out) was (below, good))
 
+-- one job more was reported, and answered
+pub reported_more : {T : Type 0} (right : ℕ → T → Type 0) (P : ℕ → Type 0) (number : ℕ) (xs ys : List (ℕ × T))
+    → All P (numbers xs) → P number → AddsAnswer right number xs ys → All P (numbers ys)
+reported_more right P number xs ys was told (out, good, f) =
+    subst (λ v. All P (numbers v)) (sym f) (subst (λ v. All P v) (sym (map-append (λ a. a.0) xs ((number, out) ∷ []))) (All-push P (numbers xs) number was told))
+
 -- all that was drawn is answered
 pub all_answered : (before after answered : List ℕ) → after ≡ before ++ answered → IsAnswered 0 before after answered
 all_answered before after answered e = ([], omega arith, e ∙ sym (append-nil (before ++ answered)))

@@ -10,7 +10,7 @@ use Rattle.slh_board.specs.declared.seat.Mark.TheVariants.{Fresh as FreshMark, D
 use Rattle.slh_board.proofs.Totals.{times-append, All-front}
 use Rattle.slh_workers.specs.Answers.{numbers, AllRight}
 use Rattle.slh_workers.specs.Ends.{EndFits, IsAnswered, may_lack}
-use Rattle.slh_workers.specs.Runs.{IsReady, HasEnded, RanSeats}
+use Rattle.slh_workers.specs.Runs.{IsReady, HasEnded, IsReported, RanSeats}
 use Rattle.slh_workers.specs.declared.worker.End.{End}
 use Rattle.slh_workers.specs.declared.worker.End.TheVariants.{Done, Stopped, GateStop, NoMemory}
 
@@ -39,20 +39,27 @@ answers_all may_stop Stopped seat answered fits is calm = none_lost 0 seat.drawn
 answers_all may_stop GateStop seat answered (mark, up, may) is calm = absurd (let differ : true ≡ false = sym up ∙ calm in cc)
 answers_all may_stop NoMemory seat answered (mark, up) is calm = absurd (let differ : true ≡ false = sym up ∙ calm in cc)
 
+-- what some of the workers have reported, these have
+reported_by_more : (reported : ℕ → ℕ → Type 0) (first low next high : ℕ) (jobs : List ℕ) → first ≤ next → next + high ≤ first + low
+    → All (IsReported reported next high) jobs → All (IsReported reported first low) jobs
+reported_by_more reported first low next high jobs from to all k d lt =
+    let (worker, above, below, told) = all k d lt in (worker, omega arith, omega arith, told)
+
 -- the only seat's worker has ended
-pub ran_one : {T : Type 0} (board : BoardState) (may_stop : Type 0) (right : ℕ → T → Type 0) (jobs : ℕ) (before : List ℕ) (seats : List SeatState) (end : End) (seat : SeatState)
-    (answers : List (ℕ × T)) → length seats ≡ 1 → before ≡ [] → seat.board ≡ board
-    → IsAnswered (may_lack end) before seat.drawn (numbers answers) → AllRight right jobs answers → end ≢ NoMemory → EndFits may_stop end seat
-    → RanSeats board may_stop right jobs 1 (set seats 0 seat) answers
-ran_one board may_stop right jobs before [] end seat answers one begun mine is right_each memory fits = absurd (omega (arith, one))
-ran_one board may_stop right jobs before (s ∷ t ∷ ts) end seat answers one begun mine is right_each memory fits = absurd (omega (arith, one))
-ran_one board may_stop right jobs before (s ∷ []) end seat answers one begun mine is right_each memory fits =
+pub ran_one : {T : Type 0} (board : BoardState) (may_stop : Type 0) (reported : ℕ → ℕ → Type 0) (right : ℕ → T → Type 0) (jobs first : ℕ) (before : List ℕ) (seats : List SeatState) (end : End)
+    (seat : SeatState) (answers : List (ℕ × T)) → length seats ≡ 1 → before ≡ [] → seat.board ≡ board
+    → IsAnswered (may_lack end) before seat.drawn (numbers answers) → AllRight right jobs answers → All (reported first) (numbers answers) → end ≢ NoMemory → EndFits may_stop end seat
+    → RanSeats board may_stop reported right jobs first 1 (set seats 0 seat) answers
+ran_one board may_stop reported right jobs first before [] end seat answers one begun mine is right_each told memory fits = absurd (omega (arith, one))
+ran_one board may_stop reported right jobs first before (s ∷ t ∷ ts) end seat answers one begun mine is right_each told memory fits = absurd (omega (arith, one))
+ran_one board may_stop reported right jobs first before (s ∷ []) end seat answers one begun mine is right_each told memory fits =
     let all : IsAnswered (may_lack end) [] seat.drawn (numbers answers) = subst (λ v. IsAnswered (may_lack end) v seat.drawn (numbers answers)) begun is in
     record {
       count_is = refl;
       mine = All-cons (λ (v : SeatState). v.board ≡ board) seat [] mine (All-nil (λ (v : SeatState). v.board ≡ board));
       ended = All-cons (HasEnded may_stop) seat [] (has_ended may_stop end seat memory fits) (All-nil (HasEnded may_stop));
       all_right = right_each;
+      all_reported = λ k d lt. (first, omega arith, omega arith, told k d lt);
       draws = λ calm x.
           let same : numbers answers ≡ seat.drawn = answers_all may_stop end seat (numbers answers) fits all (calm 0 seat (omega arith)) in
           omega (arith, ap (times x) same, sum_by-cons (λ (v : SeatState). times x v.drawn) seat []);
@@ -81,15 +88,21 @@ ready_back board count first next seats front back ready e some at =
     }
 
 -- two lists of seats, one after the other
-pub ran_both : {T : Type 0} (board : BoardState) (may_stop : Type 0) (right : ℕ → T → Type 0) (jobs low high count : ℕ) (kept others seats : List SeatState)
-    (xs ys answers : List (ℕ × T)) → RanSeats board may_stop right jobs low kept xs → RanSeats board may_stop right jobs high others ys
-    → count ≡ low + high → seats ≡ kept ++ others → answers ≡ xs ++ ys → RanSeats board may_stop right jobs count seats answers
-ran_both board may_stop right jobs low high count kept others seats xs ys answers a b e f h =
+pub ran_both : {T : Type 0} (board : BoardState) (may_stop : Type 0) (reported : ℕ → ℕ → Type 0) (right : ℕ → T → Type 0) (jobs first next low high count : ℕ) (kept others seats : List SeatState)
+    (xs ys answers : List (ℕ × T)) → RanSeats board may_stop reported right jobs first low kept xs → RanSeats board may_stop reported right jobs next high others ys
+    → next ≡ first + low → count ≡ low + high → seats ≡ kept ++ others → answers ≡ xs ++ ys → RanSeats board may_stop reported right jobs first count seats answers
+ran_both board may_stop reported right jobs first next low high count kept others seats xs ys answers a b at e f h =
     rw e (rw f (rw h (record {
       count_is = length-append kept others ∙ ap (λ v. v + length others) a.count_is ∙ ap (λ v. low + v) b.count_is;
       mine = All-append (λ (s : SeatState). s.board ≡ board) kept others a.mine b.mine;
       ended = All-append (HasEnded may_stop) kept others a.ended b.ended;
       all_right = All-append (λ p. (p.0 < jobs) × right p.0 p.1) xs ys a.all_right b.all_right;
+      all_reported =
+          let both : All (IsReported reported first (low + high)) (numbers xs ++ numbers ys)
+          = All-append (IsReported reported first (low + high)) (numbers xs) (numbers ys)
+          (reported_by_more reported first (low + high) first low (numbers xs) (omega arith) (omega arith) a.all_reported)
+          (reported_by_more reported first (low + high) next high (numbers ys) (omega (arith, at)) (omega (arith, at)) b.all_reported) in
+          subst (λ v. All (IsReported reported first (low + high)) v) (sym (map-append (λ p. p.0) xs ys)) both;
       draws = λ calm x.
           let front : All (λ (s : SeatState). s.raised ≡ false) kept = All-front (λ (s : SeatState). s.raised ≡ false) kept others calm in
           let back : All (λ (s : SeatState). s.raised ≡ false) others = All-back (λ (s : SeatState). s.raised ≡ false) kept others calm in

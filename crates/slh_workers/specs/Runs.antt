@@ -1,5 +1,5 @@
 -- Several workers over one board.
-use Rattle.std.specs.Prelude.{◌≡◌, ◌≢◌, ℕ, ◌+◌, ◌≤◌, List, length, true, false}
+use Rattle.std.specs.Prelude.{◌≡◌, ◌≢◌, ℕ, ◌+◌, ◌<◌, ◌≤◌, List, length, true, false}
 use Rattle.std.specs.List.{All, sum_by}
 use Rattle.slh_board.specs.Seats.{BoardState, SeatState, new_seat}
 use Rattle.slh_board.specs.Counts.{times}
@@ -17,11 +17,16 @@ pub record IsReady (board : BoardState) (count first : ℕ) (seats : List SeatSt
 abbrev pub HasEnded : Type 0 → SeatState → Type 0
 HasEnded may_stop seat = (seat.raised ≡ true → may_stop) × (seat.raised ≡ false → seat.mark ≢ Fresh)
 
--- What the workers at count seats have: right answers, and where no seat is raised one to each number that the seats
--- drew
-pub record RanSeats {T : Type 0} (board : BoardState) (may_stop : Type 0) (right : ℕ → T → Type 0) (jobs count : ℕ) (seats : List SeatState) (answers : List (ℕ × T)) : Type 0 where
+-- one of count workers, numbered from first on, has reported the job to the gate
+abbrev pub IsReported : (ℕ → ℕ → Type 0) → ℕ → ℕ → ℕ → Type 0
+IsReported reported first count job = (worker : ℕ) × (first ≤ worker) × (worker < first + count) × reported worker job
+
+-- What count workers at their seats have, numbered from first on: right answers, each to a job that one of them has
+-- reported, and where no seat is raised one to each number that the seats drew
+pub record RanSeats {T : Type 0} (board : BoardState) (may_stop : Type 0) (reported : ℕ → ℕ → Type 0) (right : ℕ → T → Type 0) (jobs first count : ℕ) (seats : List SeatState) (answers : List (ℕ × T)) : Type 0 where
   pub count_is : length seats ≡ count
   pub mine : All (λ s. s.board ≡ board) seats
   pub ended : All (HasEnded may_stop) seats
   pub all_right : AllRight right jobs answers
+  pub all_reported : All (IsReported reported first count) (numbers answers)
   pub draws : All (λ s. s.raised ≡ false) seats → (x : ℕ) → times x (numbers answers) ≡ sum_by (λ (s : SeatState). times x s.drawn) seats

@@ -1,4 +1,5 @@
 // Gates, which see each job before and after it runs.
+ghost use Rattle.std.specs.Prelude.{ℕ};
 ghost use Rattle.slh_workers.specs.Gates.{GoFits};
 
 /// What a gate says to a worker that asks to run a job.
@@ -15,12 +16,21 @@ pub trait Gate: Sync {
     // whether the gate may answer Stop
     ghost may_stop: { Self → Type 0 };
 
+    // that the gate let this worker run this job: `enter` answered On. A gate may leave out both of these, and then they
+    // say nothing of it; what is proved for every gate keeps to them all the same
+    ghost admitted: { Self → ℕ → ℕ → Type 0 } = { λ _ _ _. Unit {0} };
+
+    // that the gate was told, by `leave`, that this worker has run this job
+    ghost reported: { Self → ℕ → ℕ → Type 0 } = { λ _ _ _. Unit {0} };
+
     /// Whether the worker may run the job.
     fn enter(&self, worker: u8, job: u32) -> Go
-        ensures { GoFits (may_stop self.now) result };
+        ensures { GoFits (may_stop self.now) (admitted self.now worker job) result };
 
     /// The worker has run the job, whatever came of it.
-    fn leave(&self, worker: u8, job: u32);
+    fn leave(&self, worker: u8, job: u32)
+        requires { admitted self.now worker job }
+        ensures { reported self.now worker job };
 }
 
 /// Lets every job run, and never stops.

@@ -13,6 +13,7 @@ mod items;
 mod order;
 mod run;
 mod seats;
+mod steps;
 mod work;
 mod worker;
 mod workers;

@@ -1,8 +1,9 @@
 // All jobs of a work.
-ghost use Rattle.std.specs.Prelude.{◌≡◌, IfOk, IfErr};
+ghost use Rattle.std.specs.Prelude.{◌≡◌, ℕ, ◌<◌, IfOk, IfErr};
 ghost use Rattle.std.specs.Vec.{vec_len};
 ghost use Rattle.slh_workers.specs.declared.fault.RunFault.TheVariants.{Stopped};
 ghost use Rattle.slh_workers.specs.Answers.{RightByPlace};
+ghost use Rattle.slh_workers.specs.Runs.{IsReported};
 
 use crate::fault::RunFault;
 use crate::gate::Gate;
@@ -27,6 +28,7 @@ pub fn run_all<R: Threads + Sync, A: Allocator + Clone + Send + Sync, W: Work, G
 ) -> Result<Vec<W::Out, A>, RunFault>
     ensures count { IfOk result (λ outs. vec_len outs ≡ W.jobs work.now) }
     ensures right { IfOk result (λ outs. RightByPlace (W.is_right work.now) outs.items) }
+    ensures reported { IfOk result (λ outs. (job : ℕ) → job < W.jobs work.now → IsReported (G.reported gate.now) 0 workers job) }
     ensures stopped { IfErr result (λ fault. fault ≡ Stopped → G.may_stop gate.now) }
 {
     let count = work.count();

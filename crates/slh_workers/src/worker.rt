@@ -1,10 +1,12 @@
 // One worker at a seat of a board.
 ghost use Rattle.std.specs.Prelude.{◌≡◌, ◌<◌, OnOk, OnErr, Err};
+ghost use Rattle.std.specs.List.{All};
 ghost use Rattle.slh_workers.specs.Answers.{AllRight, AddsAnswer, numbers};
 ghost use Rattle.slh_workers.specs.Ends.{IsFresh, EndFits, IsAnswered, may_lack};
 
 use crate::fault::RunFault;
 use crate::gate::{Gate, Go};
+use crate::steps::{Steps, Worker};
 use crate::work::{NoMemory, Work};
 use slh_board::{Board, Claim, Seat};
 use std::alloc::Allocator;
@@ -53,7 +55,29 @@ pub fn work_off<A: Allocator, B: Allocator, W: Work, G: Gate>(
     ensures numbers { IsAnswered (may_lack result.end) seat.old.drawn seat.new.drawn (numbers result.answers.items) }
     ensures right { AllRight (W.is_right work.now) (W.jobs work.now) result.answers.items }
 
+    // Each job that is answered was reported to the gate under the worker's number, so the gate had admitted it.
+    ensures reported { All (G.reported gate.now worker) (numbers result.answers.items) }
+
     ensures ended { EndFits (G.may_stop gate.now) result.end seat.new }
+{
+    work_by_steps(alloc, board, seat, &Worker::new(work, gate, worker))
+}
+
+// `work_off` over the steps of its worker.
+fn work_by_steps<A: Allocator, B: Allocator, S: Steps>(
+    alloc: A,
+    board: &Board<B>,
+    seat: &mut Seat,
+    steps: &S,
+) -> WorkerEnd<S::Out, A>
+    requires mine { seat.old.board ≡ board.now }
+    requires fresh { IsFresh seat.old }
+    requires jobs { board.now.jobs ≡ S.jobs steps.now }
+    ensures mine { seat.new.board ≡ board.now }
+    ensures numbers { IsAnswered (may_lack result.end) seat.old.drawn seat.new.drawn (numbers result.answers.items) }
+    ensures right { AllRight (S.is_right steps.now) (S.jobs steps.now) result.answers.items }
+    ensures reported { All (S.reported steps.now) (numbers result.answers.items) }
+    ensures ended { EndFits (S.may_stop steps.now) result.end seat.new }
 {
     let mut answers = Vec::new(alloc);
     loop {
@@ -72,7 +96,7 @@ pub fn work_off<A: Allocator, B: Allocator, W: Work, G: Gate>(
                 };
             }
         };
-        if let Err(fault) = add_answer(&mut answers, work, number, worker, gate) {
+        if let Err(fault) = add_answer(&mut answers, steps, number) {
             board.stop(seat);
             let end = match fault {
                 RunFault::NoMemory => End::NoMemory,
@@ -85,24 +109,23 @@ pub fn work_off<A: Allocator, B: Allocator, W: Work, G: Gate>(
 
 // Runs the job where the gate lets it, and adds its answer. Room for the answer is made first, so that an answer once
 // made is kept.
-fn add_answer<A: Allocator, W: Work, G: Gate>(
-    answers: &mut Vec<(u32, W::Out), A>,
-    work: &W,
+fn add_answer<A: Allocator, S: Steps>(
+    answers: &mut Vec<(u32, S::Out), A>,
+    steps: &S,
     number: u32,
-    worker: u8,
-    gate: &G,
 ) -> Result<(), RunFault>
-    requires { number < W.jobs work.now }
-    ensures added { OnOk result (AddsAnswer (W.is_right work.now) number answers.old.items answers.new.items) }
-    ensures stopped { result ≡ Err RunFault.Stopped → G.may_stop gate.now }
+    requires { number < S.jobs steps.now }
+    ensures added { OnOk result (AddsAnswer (S.is_right steps.now) number answers.old.items answers.new.items) }
+    ensures reported { OnOk result (S.reported steps.now number) }
+    ensures stopped { result ≡ Err RunFault.Stopped → S.may_stop steps.now }
     ensures err { OnErr result (answers.new.items ≡ answers.old.items) }
 {
     answers.reserve(1).map_err(NoMemory::from)?;
-    if gate.enter(worker, number) == Go::Stop {
+    if steps.enter(number) == Go::Stop {
         return Err(RunFault::Stopped);
     }
-    let outcome = work.run(number);
-    gate.leave(worker, number);
+    let outcome = steps.run(number);
+    steps.leave(number);
     answers.push_reserved((number, outcome?));
     Ok(())
 }

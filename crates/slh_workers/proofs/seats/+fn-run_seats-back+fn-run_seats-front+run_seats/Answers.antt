@@ -18,7 +18,7 @@ join-back-requires-after_bounds g t c κs within =
 
 pub returns : goal.returns
 returns g t c =
-    ran_both c.args.board.now (g.G.Gate.may_stop c.args.gate.now) (g.W.Work.is_right c.args.work.now) (g.W.Work.jobs c.args.work.now) _ _ (length c.args.seats.items) _ _ c.append.new.self.items _ _ c.append-2.new.self.items
-    (IfOk-at_ok (λ r. RanSeats c.args.board.now (g.G.Gate.may_stop c.args.gate.now) (g.W.Work.is_right c.args.work.now) (g.W.Work.jobs c.args.work.now) _ r.0.items r.1.items) c.in_ok-kept.was c.join-back.ensures.second)
-    (IfOk-at_ok (λ r. RanSeats c.args.board.now (g.G.Gate.may_stop c.args.gate.now) (g.W.Work.is_right c.args.work.now) (g.W.Work.jobs c.args.work.now) _ r.0.items r.1.items) c.in_ok-more_kept.was c.join-back.ensures.first)
-    (grind (arith, common_steps)) c.in_ok-append.ensures.items c.in_ok-append-2.ensures.items
+    ran_both c.args.board.now (g.G.Gate.may_stop c.args.gate.now) (g.G.Gate.reported c.args.gate.now) (g.W.Work.is_right c.args.work.now) (g.W.Work.jobs c.args.work.now) c.args.first _ _ _ (length c.args.seats.items) _ _ c.append.new.self.items _ _ c.append-2.new.self.items
+    (IfOk-at_ok (λ r. RanSeats c.args.board.now (g.G.Gate.may_stop c.args.gate.now) (g.G.Gate.reported c.args.gate.now) (g.W.Work.is_right c.args.work.now) (g.W.Work.jobs c.args.work.now) _ _ r.0.items r.1.items) c.in_ok-kept.was c.join-back.ensures.second)
+    (IfOk-at_ok (λ r. RanSeats c.args.board.now (g.G.Gate.may_stop c.args.gate.now) (g.G.Gate.reported c.args.gate.now) (g.W.Work.is_right c.args.work.now) (g.W.Work.jobs c.args.work.now) _ _ r.0.items r.1.items) c.in_ok-more_kept.was c.join-back.ensures.first)
+    (omega (arith, c.len-2.ensures)) (grind (arith, common_steps)) c.in_ok-append.ensures.items c.in_ok-append-2.ensures.items

@@ -1,8 +1,9 @@
 use Rattle.std.proofs.Common.{◌≡◌, ◌-◌, ◌++◌}
+use Rattle.std.specs.List.{All}
 use Rattle.slh_workers.specs.Answers.{AllRight, numbers}
 use Rattle.slh_workers.specs.Ends.{IsFresh}
 use Rattle.slh_workers.proofs.Draws.{next_above}
-use Rattle.slh_workers.proofs.worker.work_off.Given as goal
+use Rattle.slh_workers.proofs.worker.work_by_steps.Given as goal
 
 abbrev pub invariant-loop-number : goal.invariant-loop-number
 invariant-loop-number g l =
@@ -10,8 +11,9 @@ invariant-loop-number g l =
       mine : l.seat.board ≡ l.board;
       fresh : IsFresh l.seat;
       answered : l.seat.drawn ≡ l.fn.seat.drawn ++ numbers l.answers.items;
-      right : AllRight (g.W.Work.is_right l.work) (g.W.Work.jobs l.work) l.answers.items;
+      right : AllRight (g.S.Steps.is_right l.steps) (g.S.Steps.jobs l.steps) l.answers.items;
+      reported : All (g.S.Steps.reported l.steps) (numbers l.answers.items);
     }
 
 abbrev pub decreases-loop-number : goal.decreases-loop-number
-decreases-loop-number g l = g.W.Work.jobs l.work - next_above 0 l.seat.drawn
+decreases-loop-number g l = g.S.Steps.jobs l.steps - next_above 0 l.seat.drawn
