@@ -78,7 +78,7 @@ fn level_cuts(height: u32, level: u32) -> CutPoints
     kept
 }
 
-/// A copy of the points, or the index of the first that is out of rule.
+/// A copy of the points, or the index of the first that is invalid.
 fn kept_points(height: u32, points: &[u32]) -> Result<CutPoints, u32>
     requires { height ≤ 14 }
     ensures { MatchResult result (λ v. (v.items ≡ points.now) × (first_bad (2 ^ height) 0 0 points.now ≡ None)) (λ place. first_bad (2 ^ height) 0 0 points.now ≡ Some place) }

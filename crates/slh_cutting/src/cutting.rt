@@ -34,7 +34,7 @@ impl Model for Cutting {
 
 impl Cutting {
     /// The trees of the set, cut as asked for. Refused where the levels or the points of the XMSS trees, or else of the
-    /// FORS trees, are out of rule.
+    /// FORS trees, are invalid.
     pub fn new(set: ParamSet, xmss: Cuts<'_>, fors: Cuts<'_>) -> Result<Cutting, CutFault>
         ensures points { IfOk result (λ c. c ≡ record { set = set; xmss = cut_points (params set).hp xmss.entry; fors = cut_points (params set).a fors.entry }) }
         ensures in_rule { IsOk result ↔ IsInRule (params set).hp xmss.entry × IsInRule (params set).a fors.entry }

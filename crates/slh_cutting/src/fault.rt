@@ -15,12 +15,12 @@ pub enum CutTree {
 /// Why trees are not cut as asked for.
 #[derive(Clone, Copy, PartialEq, Eq, Debug, Error)]
 pub enum CutFault {
-    /// The levels or the points of one kind of tree are out of rule.
+    /// The levels or the points of one kind of tree are invalid.
     #[error("the levels or cut points are out of rule")]
     BadCutting {
         /// The kind of tree. XMSS is judged first.
         tree: CutTree,
-        /// The levels that were asked for, or the index of the first point that is out of rule.
+        /// The levels that were asked for, or the index of the first point that is invalid.
         place: u32,
     },
 }

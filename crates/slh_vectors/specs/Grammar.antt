@@ -67,7 +67,7 @@ pub record IsKeygen (d : Data) (t : KeygenCase) : Type 0 where
   pub sk : HasBytes d (codes "sk") (4 * (params t.set).n) t.sk
   pub pk : HasBytes d (codes "pk") (2 * (params t.set).n) t.pk
 
--- the members of the test are as stated
+-- the members of the test are those of its kind
 abbrev pub IsTest : Data → Case → Type 0
 IsTest d (keygen t) = IsKeygen d t
 IsTest d (sign t) = IsSign d t
