@@ -1,21 +1,22 @@
 -- A key file is read exactly where it is in the grammar, and what is written is in it.
-use Rattle.std.proofs.Common.{◌≡◌, ℕ, ◌*◌, ◌==◌, Bool, true, false, not, cond, inr, [], ◌∷◌, ◌++◌, length, Option, Some, None, Result, Ok, Err, refl, sym, ap, ap₂, ◌∙◌, arith, append_assoc, eq-eqb, subst}
+use Rattle.std.proofs.Common.{◌≡◌, ℕ, ◌*◌, ◌==◌, Bool, true, false, not, cond, IsTrue, inr, [], ◌∷◌, ◌++◌, length, Option, Some, None, Result, Ok, Err, refl, sym, ap, ap₂, ◌∙◌, arith, append_assoc, eq-eqb, subst}
 use Rattle.std.proofs.lemmas.Bool.{eqb-true}
 use Rattle.std.proofs.lemmas.Slice.Eq.{bytes_eq-Decides}
 use Rattle.std.proofs.lemmas.List.Sums.{AllPass-from_list_all, list_all-from_AllPass}
 use Rattle.std.specs.List.{list_all}
 use Rattle.std.specs.Prelude.{◌↔◌}
+use Rattle.std.specs.Option.{option_and_then}
 use Rattle.std.specs.Str.{bytes_eq}
 use Rattle.std.specs.Result.{result_unwrap_or}
 use Rattle.hex.specs.Hex.{decode_of, encode_lower, is_hex_digit}
 use Rattle.hex.proofs.HexLemmas.{decode_of-digits, decode_of-encode_lower, decode_of-ok}
 use Rattle.slh_params.specs.ParamSet.{params}
 use Rattle.slh_params.specs.Label.{label, set_of_label}
-use Rattle.slh_params.proofs.Labelled.{set_of_label-is, set_of_label-label}
+use Rattle.slh_params.proofs.Labelled.{label-line, set_of_label-is, set_of_label-label}
 use Rattle.slh_params.specs.declared.param_set.ParamSet.{ParamSet}
 use Rattle.slh_core.specs.Keys.{Key}
 use Rattle.slh_files.specs.declared.fault.FileFault.{FileFault}
-use Rattle.slh_files.specs.declared.fault.FileFault.TheVariants.{NotAKeyFile, BadHex, BadKeyLength, TrailingBytes}
+use Rattle.slh_files.specs.declared.fault.FileFault.TheVariants.{NoMemory, NotAKeyFile, UnknownSet, BadHex, BadKeyLength, TrailingBytes}
 use Rattle.slh_files.specs.declared.key_kind.KeyKind.{KeyKind}
 use Rattle.slh_files.specs.declared.key_kind.KeyKind.TheVariants.{Public, Secret}
 use Rattle.slh_files.specs.declared.key_kind.Version.{Version}
@@ -23,7 +24,7 @@ use Rattle.slh_files.specs.declared.key_kind.Version.TheVariants.{One, Two}
 use Rattle.slh_files.specs.declared.key_file.AnyKey.{AnyKey}
 use Rattle.slh_files.specs.declared.key_file.AnyKey.TheVariants as any
 use Rattle.slh_files.specs.Lines.{Text, line, cut_line, last_line}
-use Rattle.slh_files.specs.KeyFile.{IsAnyKeyFile, IsKey, IsKeyFile, after_kind, after_set, allows, any_key_file, else_secret, first_line, key_digits, key_file, key_len, key_line, key_text, set_of_line, version_of, with_rest, ◌>>=◌}
+use Rattle.slh_files.specs.KeyFile.{IsAnyKeyFile, IsKey, IsKeyFile, after_kind, after_set, allows, any_key_file, or_secret, first_line, key_digits, key_file, key_len, key_line, key_text, set_of_line, version_of, with_rest, ◌>>=◌}
 use Rattle.slh_files.proofs.Cut.{cut_line-Some, cut_line-at, last_line-at, last_line-whole, no_feed}
 use Rattle.slh_files.proofs.Decoding.{digits_no_feed}
 
@@ -44,11 +45,11 @@ with_rest-ok : {A : Type 0} (found : Option A) (rest : Text) (fault : FileFault)
 with_rest-ok None rest fault s h = cc h
 with_rest-ok (Some told) rest fault s h = (cc h, cc h)
 
-pair_is : (a b c d : Text) → a ≡ c → b ≡ d → Some {A = Text × Text} (a, b) ≡ Some (c, d)
-pair_is a b c d e f = ap Some (ap₂ (λ (x y : Text). let q : Text × Text = (x, y) in q) e f)
+pair_is : (parts : Text × Text) (line rest : Text) → parts.0 ≡ line → parts.1 ≡ rest → Some parts ≡ Some (line, rest)
+pair_is parts line rest e f = ap Some (ap₂ (λ (x y : Text). let q : Text × Text = (x, y) in q) e f)
 
 -- the version that a first line tells is that of the line
-version_of-is : (kind : KeyKind) (text : Text) (version : Version) → version_of kind text ≡ Some version → text ≡ first_line kind version
+pub version_of-is : (kind : KeyKind) (text : Text) (version : Version) → version_of kind text ≡ Some version → text ≡ first_line kind version
 version_of-is kind text version h = chosen (bytes_eq text (first_line kind One)) (bytes_eq text (first_line kind Two)) refl refl h
   where
     at : (told : Version) → bytes_eq text (first_line kind told) ≡ true → Some told ≡ Some version → text ≡ first_line kind version
@@ -71,10 +72,10 @@ after_kind-ok : (kind : KeyKind) (cut : Option (Text × Text)) (v : Version × T
 after_kind-ok kind None v h = cc h
 after_kind-ok kind (Some parts) v h =
     let t = with_rest-ok (version_of kind parts.0) parts.1 NotAKeyFile v h in
-    pair_is parts.0 parts.1 (first_line kind v.0) v.1 (version_of-is kind parts.0 v.0 t.0) t.1
+    pair_is parts (first_line kind v.0) v.1 (version_of-is kind parts.0 v.0 t.0) t.1
 
 -- the set that a second line tells has this label, and the version allows it
-set_of_line-is : (version : Version) (text : Text) (set : ParamSet) → set_of_line version text ≡ Some set → (label set ≡ text) × IsTrue (allows version set)
+pub set_of_line-is : (version : Version) (text : Text) (set : ParamSet) → set_of_line version text ≡ Some set → (label set ≡ text) × IsTrue (allows version set)
 set_of_line-is version text set h = chosen (set_of_label text) refl h
   where
     tested : (told : ParamSet) (b : Bool) → set_of_label text ≡ Some told → allows version told ≡ b → cond b (Some told) None ≡ Some set
@@ -99,7 +100,7 @@ after_set-ok version None s h = absurd cc
 after_set-ok version (Some parts) s h =
     let t = with_rest-ok (set_of_line version parts.0) parts.1 UnknownSet s h in
     let u = set_of_line-is version parts.0 s.0 t.0 in
-    (pair_is parts.0 parts.1 (label s.0) s.1 (sym u.0) t.1, u.1)
+    (pair_is parts (label s.0) s.1 (sym u.0) t.1, u.1)
 
 length-zero : (xs : Text) → length xs ≡ 0 → xs ≡ []
 length-zero [] h = refl
@@ -208,7 +209,7 @@ file_again kind file key f =
       whole,
       cut_line-at first rest (kind_no_feed kind f.version),
       version_of-line kind f.version,
-      cut_line-at (label key.set) (f.digits ++ f.ending) (label_no_feed key.set),
+      cut_line-at (label key.set) (f.digits ++ f.ending) (label-line key.set),
       set_of_line-label f.version key.set f.allowed,
       last_line-at f.digits f.ending (digits_no_feed f.digits hex) f.ends,
       key_digits-at (key_len kind (params key.set)) f.digits hex sized,
@@ -239,7 +240,35 @@ written_again kind key k = file_again kind (key_text kind key) key (written kind
 
 -- ---- keys of either kind
 
--- no file is of both kinds
-one_kind : (file : Text) (key : Key) → key_file Public file ≡ Err NotAKeyFile → IsKeyFile Public file key → ⊥
-one_kind file key e f = let none : Err NotAKeyFile ≡ Ok key = sym e ∙ file_again Public file key f in cc
+-- a secret key's file is no public key's
+not_public : (file : Text) (key : Key) → IsKeyFile Secret file key → key_file Public file ≡ Err NotAKeyFile
+not_public file key f =
+    let rest : Text = label key.set ++ 10 ∷ (f.digits ++ f.ending) in
+    let first : Text = first_line Secret f.version in
+    rw (f.lines ∙ flat first (label key.set) f.digits f.ending, cut_line-at first rest (kind_no_feed Secret f.version), other f.version) refl
+  where
+    other : (version : Version) → version_of Public (first_line Secret version) ≡ None
+    other One = refl
+    other Two = refl
 
+-- from reading a key of either kind to the grammar
+any_read : (file : Text) (r : Result Key FileFault) (key : AnyKey) → key_file Public file ≡ r → or_secret r (key_file Secret file) ≡ Ok key → IsAnyKeyFile file key
+any_read file (Ok k) key e h = let same : any.Public k ≡ key = cc h in subst (IsAnyKeyFile file) same (file_read Public file k e)
+any_read file (Err NotAKeyFile) key e h =
+    let a = bind_ok (key_file Secret file) (λ (k : Key). Ok (any.Secret k)) key h in
+    let same : any.Secret a.0 ≡ key = cc a.2 in
+    subst (IsAnyKeyFile file) same (file_read Secret file a.0 a.1)
+any_read file (Err NoMemory) key e h = absurd cc
+any_read file (Err UnknownSet) key e h = absurd cc
+any_read file (Err BadHex) key e h = absurd cc
+any_read file (Err BadKeyLength) key e h = absurd cc
+any_read file (Err TrailingBytes) key e h = absurd cc
+
+-- and back
+any_again : (file : Text) (key : AnyKey) → IsAnyKeyFile file key → any_key_file file ≡ Ok key
+any_again file (any.Public key) f = rw (file_again Public file key f) refl
+any_again file (any.Secret key) f = rw (not_public file key f, file_again Secret file key f) refl
+
+-- a reader of either kind that gives the key or the first fault accepts exactly the files in the grammar
+pub accepts_any : (file : Text) (r : Result AnyKey FileFault) → r ≡ any_key_file file → (key : AnyKey) → (r ≡ Ok key) ↔ IsAnyKeyFile file key
+accepts_any file r e key = (λ h. any_read file (key_file Public file) key refl (sym e ∙ h), λ f. e ∙ any_again file key f)

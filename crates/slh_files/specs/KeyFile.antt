@@ -124,15 +124,15 @@ abbrev pub IsAnyKeyFile : Text → AnyKey → Type 0
 IsAnyKeyFile file (any.Public key) = IsKeyFile Public file key
 IsAnyKeyFile file (any.Secret key) = IsKeyFile Secret file key
 
--- a file that is not a public key's is read as that of a secret key
-abbrev pub else_secret : Result Key FileFault → Text → Result AnyKey FileFault
-else_secret (Ok key) file = Ok (any.Public key)
-else_secret (Err NotAKeyFile) file = key_file Secret file >>= λ key. Ok (any.Secret key)
-else_secret (Err fault) file = Err fault
+-- the public key of a file, or where it is no public key's, the secret key
+abbrev pub or_secret : Result Key FileFault → Result Key FileFault → Result AnyKey FileFault
+or_secret (Ok key) secret = Ok (any.Public key)
+or_secret (Err NotAKeyFile) secret = secret >>= λ key. Ok (any.Secret key)
+or_secret (Err fault) secret = Err fault
 
 -- the key of a file of either kind, or the file's first fault
 abbrev pub any_key_file : Text → Result AnyKey FileFault
-any_key_file file = else_secret (key_file Public file) file
+any_key_file file = or_secret (key_file Public file) (key_file Secret file)
 
 -- ---- files that are longer than any key file
 
