@@ -101,11 +101,7 @@ fn set_of_line(version: Version, line: &[u8]) -> Option<ParamSet>
     ensures { result ≡ set_of_line version line.now }
 {
     let set = ParamSet::from_label(line)?;
-    if version.allows(set) {
-        Some(set)
-    } else {
-        None
-    }
+    if version.allows(set) { Some(set) } else { None }
 }
 
 /// The digits of a key of `len` bytes, which the last line has.
