@@ -1,7 +1,7 @@
 //! Key files of both versions: `upgrade`, and keys of a set that is none of the standard's.
-use super::messages::{PUBLIC, PUBLIC_1, SIGN, VERIFY, joined, secret_key};
+use super::messages::{PUBLIC, PUBLIC_1, SIGN, joined, secret_key};
 use super::{check_refused, run, run_over};
-use crate::{Answer, Folder};
+use crate::{Answer, Folder, verify_known};
 use sha2::{Digest, Sha256};
 use slh_devices::Reader;
 use std::process::Abort;
@@ -112,29 +112,27 @@ fn generates_and_checks_keys_of_a_custom_set(rt: HostRuntime) -> Result<(), Fail
     Ok(())
 }
 
+/// What `sign` answers with the secret key and the message "abc".
+fn signed<R: AllocGlobal + Threads + Sync>(rt: &R, options: &[&str]) -> Result<Answer, Fail> {
+    let files = [("secret", SECRET_FILE), ("abc", b"abc".as_slice())];
+    let words = joined(rt, &SIGN, options)?;
+    run_over(rt, words.as_slice(), &mut Folder::new(&files))
+}
+
 #[test]
 fn signs_and_verifies_under_a_custom_set(rt: HostRuntime) -> Result<(), Fail> {
-    let files = [("secret", SECRET_FILE), ("abc", b"abc".as_slice())];
-    for options in [[].as_slice(), &["--workers", "3", "--xmss-levels", "1"]] {
-        let words = joined(&rt, &SIGN, options)?;
-        let answer = run_over(&rt, words.as_slice(), &mut Folder::new(&files))?;
-        assert_eq!(rt; answer.output.len(), 1152);
-        let digest = Sha256::digest(answer.output.as_slice());
-        assert_eq!(rt;
-            hex::encode(rt.alloc(), digest.as_slice())?.as_str(),
-            SIGNATURE
-        );
-        let files = [
-            ("public", PUBLIC_FILE),
-            ("abc", b"abc".as_slice()),
-            ("sig", answer.output.as_slice()),
-        ];
-        let answer = run_over(&rt, &VERIFY, &mut Folder::new(&files))?;
+    let several: [&[&str]; 2] = [&[], &["--workers", "3", "--xmss-levels", "1"]];
+    for options in several {
+        let signature = signed(&rt, options)?.output;
+        assert_eq!(rt; signature.len(), 1152);
+        let digest = Sha256::digest(signature.as_slice());
+        let digits = hex::encode(rt.alloc(), digest.as_slice())?;
+        assert_eq!(rt; digits.as_str(), SIGNATURE);
+        let answer = verify_known(&rt, PUBLIC_FILE, b"abc", signature.as_slice())?;
         assert_eq!(rt; answer.output.as_slice(), b"valid\n".as_slice());
         assert_eq!(rt; answer.status, 0);
     }
-    let words = joined(&rt, &SIGN, &["--xmss-levels", "2"])?;
-    let answer = run_over(&rt, words.as_slice(), &mut Folder::new(&files))?;
+    let answer = signed(&rt, &["--xmss-levels", "2"])?;
     check_refused(&rt, &answer, b"slh: 4 BadCutting\n");
     Ok(())
 }
