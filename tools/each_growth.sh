@@ -15,7 +15,7 @@ work=$(mktemp -d)
 trap 'rm -rf "$work"' EXIT
 "${CC:-cc}" -O2 -shared -fPIC -o "$work/refuse_nth.so" "$here/tools/refuse_nth.c" -ldl || exit 1
 cd "$work" || exit 1
-passed=0 failed=0
+source "$here/tools/counts.sh"
 echo "slh: 1 NoMemory" >told
 
 # The command of these words, with each growth refused. At most so many refused growths may be passed over, and so many growths
@@ -39,12 +39,11 @@ check() {
             echo "growth $n: status $status, $(head -c 200 err)"
         fi
     done
-    echo "growths $((n - 1)), refused $refused, passed over $passed_over, wrong $bad, status $status0: $(head -c 200 <<<"$*")"
+    local answer=no
     if [ $bad = 0 ] && [ $passed_over -le "$over" ] && [ $refused -ge "$least" ] && [ $n -lt 20000 ]; then
-        passed=$((passed + 1))
-    else
-        failed=$((failed + 1))
+        answer=yes
     fi
+    tell "growths $((n - 1)), refused $refused, passed over $passed_over, wrong $bad, status $status0: $(head -c 200 <<<"$*")" $answer
 }
 
 set=SLH-DSA-SHA2-128f
@@ -74,6 +73,8 @@ check 0 50 keygen --set $set
 check 4 50 keygen --set $set --workers 2 --xmss-levels 1 --fors-levels 1
 check 0 50 public --key key
 check 0 50 check --key key
+check 0 50 upgrade --key key
+check 0 50 upgrade --key public
 check 0 50 sign --key key --message message
 check 8 50 sign --key key --message message --context "$context" --random 000102030405060708090a0b0c0d0e0f --workers 2 --xmss-levels 1 --fors-levels 1
 check 12 50 sign --key key --message message --prehash SHA2-512/256 --workers 3 --xmss-cuts 3,5 --fors-cuts 5
@@ -86,5 +87,4 @@ check 0 50 sign --help
 check 100 50 sign --nothing
 check 0 10 root --set $set --set $set
 check 0 10 public --key nowhere
-echo "$passed passed, $failed failed"
-[ "$failed" = 0 ]
+end_counts

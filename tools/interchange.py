@@ -6,13 +6,18 @@ usage: tools/interchange.py [VECTORS [PROGRAM]]
 VECTORS is a folder of vector files (default: vectors), PROGRAM the program (default: the script slh beside tools).
 The tests of the form `internal` are passed over, since the program has no such form. Of the others:
 
-- keygen: `slh keygen` of the seeds writes the secret key, `slh public` the public key, and `slh check` is consistent;
+- keygen: `slh keygen` of the seeds writes the secret key, `slh public` the public key, `slh upgrade` of their files of
+  version 1 writes the same bytes, and `slh check` is consistent;
 - sign: `slh sign` writes exactly the bytes of the test, and `slh verify` takes them; where the context has over 255
   bytes it is refused;
 - verify: `slh verify` gives the answer of the test.
 
+Of each record of VECTORS/records.json, the keys are made of its seeds, and each signature has the SHA-256 that stands
+there and is valid. Key files are of version 1 but for these records.
+
 The last line has the counts, and the status is 0 where no test failed.
 """
+import hashlib
 import json
 import pathlib
 import subprocess
@@ -36,8 +41,12 @@ def put(name, data):
     return str(path)
 
 
+def key_text(kind, version, label, digits):
+    return f"slh-dsa-{kind} {version}\n{label}\n{digits}\n".encode()
+
+
 def key_file(kind, test, digits):
-    return put(kind, f"slh-dsa-{kind} 1\n{test['set']}\n{digits}\n".encode())
+    return put(kind, key_text(kind, 1, test["set"], digits))
 
 
 def form_words(test):
@@ -51,15 +60,24 @@ def verdict(test, digits, signature):
     return slh(*words)
 
 
-def keygen_passes(test):
-    seeds = (test["skSeed"] + test["skPrf"] + test["pkSeed"]).encode()
-    status, out, _ = slh("keygen", "--set", test["set"], data=seeds)
-    if status != 0 or out.decode() != f"slh-dsa-secret 1\n{test['set']}\n{test['sk']}\n":
+def upgrades(kind, test, digits):
+    return slh("upgrade", "--key", key_file(kind, test, digits)) == (0, key_text(kind, 2, test["set"], digits), b"")
+
+
+def makes_keys(label, seeds, sk, pk):
+    """Whether the seeds give these keys, and their files are left as `secret` and `public`."""
+    if slh("keygen", "--set", label, data=seeds.encode()) != (0, key_text("secret", 2, label, sk), b""):
         return False
-    path = put("secret", out)
-    written = slh("public", "--key", path)
-    public = f"slh-dsa-public 1\n{test['set']}\n{test['pk']}\n".encode()
-    return written == (0, public, b"") and slh("check", "--key", path) == (0, b"consistent\n", b"")
+    path = put("secret", key_text("secret", 2, label, sk))
+    public = key_text("public", 2, label, pk)
+    put("public", public)
+    return slh("public", "--key", path) == (0, public, b"") and slh("check", "--key", path) == (0, b"consistent\n", b"")
+
+
+def keygen_passes(test):
+    seeds = test["skSeed"] + test["skPrf"] + test["pkSeed"]
+    made = makes_keys(test["set"], seeds, test["sk"], test["pk"])
+    return made and upgrades("secret", test, test["sk"]) and upgrades("public", test, test["pk"])
 
 
 def sign_passes(test):
@@ -78,20 +96,45 @@ def verify_passes(test):
     return answer == ((0, b"valid\n", b"") if test["valid"] else (1, b"invalid\n", b""))
 
 
+def record_signs(record, test):
+    message = ["--message", put("message", bytes.fromhex(test["message"])), *form_words(test)]
+    random = ["--random", test["random"]] if test["random"] else []
+    status, signature, errors = slh("sign", "--key", str(work / "secret"), *message, *random)
+    if (status, errors) != (0, b"") or hashlib.sha256(signature).hexdigest() != test["signature_sha256"]:
+        return False
+    words = ["verify", "--key", str(work / "public"), "--signature", put("signature", signature), *message]
+    return len(signature) == record["sig_len"] and slh(*words) == (0, b"valid\n", b"")
+
+
+def record_results(record):
+    """Whether the keys of a record and each of its signatures are as they stand there; None where one is passed over."""
+    root = record["pk"][len(record["pk"]) // 2 :]
+    yield makes_keys(record["label"], record["seeds"], record["seeds"] + root, record["pk"])
+    for test in record["signatures"]:
+        yield None if test["form"] == "internal" else record_signs(record, test)
+
+
 passes = {"keygen": keygen_passes, "sign": sign_passes, "verify": verify_passes}
 counts = {"passed": 0, "failed": 0, "passed over": 0}
+
+
+def count(passed, name):
+    counts[{None: "passed over", True: "passed", False: "failed"}[passed]] += 1
+    if passed is False:
+        print(f"{name}: fail")
+
+
 for path in sorted(set(vectors.glob("*.json")) - {vectors / "records.json"}):
     tests = json.loads(path.read_text())
     if not isinstance(tests, list):
         continue
     for number, test in enumerate(tests, 1):
-        if test.get("form") == "internal":
-            counts["passed over"] += 1
-        elif passes[test["kind"]](test):
-            counts["passed"] += 1
-        else:
-            counts["failed"] += 1
-            print(f"{path.name} test {number} {test['kind']} {test['set']}: fail")
+        passed = None if test.get("form") == "internal" else passes[test["kind"]](test)
+        count(passed, f"{path.name} test {number} {test['kind']} {test['set']}")
+records = vectors / "records.json"
+for record in json.loads(records.read_text()) if records.exists() else []:
+    for number, passed in enumerate(record_results(record)):
+        count(passed, f"records.json {record['label']} {number}")
 print(f"{counts['passed over']} tests of the form internal were passed over")
 print(f"{counts['passed']} passed, {counts['failed']} failed")
 sys.exit(1 if counts["failed"] or not counts["passed"] else 0)

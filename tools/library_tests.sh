@@ -11,7 +11,7 @@ here=$(cd "$(dirname "${BASH_SOURCE[0]}")/.." && pwd)
 cc=${CC:-cc} cxx=${CXX:-g++} rustc=${RUSTC:-rustc}
 work=$(mktemp -d)
 trap 'rm -rf "$work"' EXIT
-passed=0 failed=0
+source "$here/tools/counts.sh"
 prefix=$work/prefix lib=$work/prefix/lib
 strict=(-Wall -Wextra -Werror -pedantic)
 sanitized=(-g -fsanitize=address,undefined -fno-sanitize-recover=all)
@@ -22,12 +22,10 @@ one() {
     local name=$1
     shift
     if "$@" >"$work/said" 2>&1; then
-        passed=$((passed + 1))
-        echo "$name: yes"
+        tell "$name" yes
     else
-        failed=$((failed + 1))
         tail -n 20 "$work/said"
-        echo "$name: no"
+        tell "$name" no
     fi
 }
 
@@ -37,13 +35,7 @@ count() {
     shift
     "$@" >"$work/said" 2>&1
     status=$?
-    if [[ $(tail -n 1 "$work/said") =~ ^([0-9]+)\ passed,\ ([0-9]+)\ failed$ ]]; then
-        passed=$((passed + BASH_REMATCH[1]))
-        failed=$((failed + BASH_REMATCH[2]))
-        [ "$status" = 0 ] || [ "${BASH_REMATCH[2]}" != 0 ] || failed=$((failed + 1))
-    else
-        failed=$((failed + 1))
-    fi
+    add_counts $status "$work/said"
     [ "$status" = 0 ] || tail -n 20 "$work/said"
     echo "$name: $(tail -n 1 "$work/said")"
 }
@@ -120,5 +112,4 @@ one "the Rust example" example "$work/of_rust"
 one "the Python example" example python3 "$here/examples/sign_file.py" "$lib/libslh.so"
 one "each example has under 60 lines" awk 'FNR == 60 { long = 1 } END { exit long }' "$here"/examples/sign_file.*
 
-echo "$passed passed, $failed failed"
-[ "$failed" = 0 ]
+end_counts

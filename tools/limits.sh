@@ -12,17 +12,8 @@ vectors=$here/vectors
 work=$(mktemp -d)
 trap 'rm -rf "$work"' EXIT
 cd "$work" || exit 1
-passed=0 failed=0
+source "$here/tools/counts.sh"
 echo "slh: 1 NoMemory" >no_memory
-
-tell() {
-    if [ "$2" = yes ]; then
-        passed=$((passed + 1))
-    else
-        failed=$((failed + 1))
-    fi
-    echo "$1: $2"
-}
 
 # Runs a command under one limit, `-s` or `-v` in KB, and says what came of it: right, refused, unstarted or the fault. The bytes
 # that are right are in the file `wanted`, its status in `status`.
@@ -127,5 +118,4 @@ sweep "a deep vector file" -s 24 240 12 yes vectors --file deep.json
 sweep "a deep vector file" -v 2400 3600 6 yes vectors --file deep.json
 want vectors --file "$vectors/smoke-128f.json" --workers 64
 sweep "vectors" -v 2400 9000 301 yes vectors --file "$vectors/smoke-128f.json" --workers 64
-echo "$passed passed, $failed failed"
-[ "$failed" = 0 ]
+end_counts

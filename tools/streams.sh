@@ -14,18 +14,16 @@ program=$(cd "$(dirname "$program")" && pwd)/$(basename "$program")
 work=$(mktemp -d)
 trap 'rm -rf "$work"' EXIT
 cd "$work" || exit 1
-passed=0 failed=0
+source "$here/tools/counts.sh"
 
 # Tells whether a run was as wanted: NAME, then a command that tells it by its status.
 check() {
     local name=$1
     shift
     if "$@"; then
-        passed=$((passed + 1))
-        echo "$name: yes"
+        tell "$name" yes
     else
-        failed=$((failed + 1))
-        echo "$name: no: status $(cat status 2>/dev/null), errors $(head -c 100 errors 2>/dev/null)"
+        tell "$name" "no: status $(cat status 2>/dev/null), errors $(head -c 100 errors 2>/dev/null)"
     fi
 }
 
@@ -48,8 +46,8 @@ wrote() { ended 0 "" "$1"; }
 seeds=000102030405060708090a0b0c0d0e0f101112131415161718191a1b1c1d1e1f202122232425262728292a2b2c2d2e2f
 root=3b56e816847f000386aeec2e2bb9e1b5
 printf '%s' "$seeds" >seeds
-printf 'slh-dsa-secret 1\nSLH-DSA-SHA2-128f\n%s%s\n' "$seeds" "$root" >secret
-printf 'slh-dsa-public 1\nSLH-DSA-SHA2-128f\n%s%s\n' "${seeds:64}" "$root" >public
+printf 'slh-dsa-secret 2\nSLH-DSA-SHA2-128f\n%s%s\n' "$seeds" "$root" >secret
+printf 'slh-dsa-public 2\nSLH-DSA-SHA2-128f\n%s%s\n' "${seeds:64}" "$root" >public
 printf abc >abc
 printf 'valid\n' >valid
 printf 'invalid\n' >invalid
@@ -66,6 +64,11 @@ run keygen --set $set <seeds
 check "keygen writes the secret key" wrote secret
 run public --key secret
 check "public writes the public key" wrote public
+for kind in secret public; do
+    sed 's/^\(slh-dsa-.*\) 2$/\1 1/' $kind >${kind}_1
+    run upgrade --key ${kind}_1
+    check "upgrade writes version 2 of a $kind key" wrote $kind
+done
 run $sign
 cp output sig
 check "sign writes a signature" wrote sig
@@ -244,5 +247,4 @@ check "one thread for one worker" has_threads 1 "--workers 1"
 check "three threads for three workers" has_threads 3 "--workers 3"
 check "nine threads for nine workers" has_threads 9 "--workers 9"
 
-echo "$passed passed, $failed failed"
-[ "$failed" = 0 ]
+end_counts

@@ -6,42 +6,22 @@
 set -uo pipefail
 here=$(cd "$(dirname "${BASH_SOURCE[0]}")/.." && pwd)
 cd "$here"
-passed=0 failed=0
+source "$here/tools/counts.sh"
 log=$(mktemp)
 trap 'rm -f "$log"' EXIT
 
-# Runs a command whose last line is 'N passed, M failed', and adds up the counts. A command that ends otherwise, or with
-# another status than its counts say, has failed.
+# Runs a command whose last line is 'N passed, M failed', and adds up the counts.
 count() {
-    local status words
     "$@" 2>&1 | tee "$log"
-    status=${PIPESTATUS[0]}
-    words=$(tail -n 1 "$log")
-    if [[ $words =~ ^([0-9]+)\ passed,\ ([0-9]+)\ failed$ ]]; then
-        passed=$((passed + BASH_REMATCH[1]))
-        failed=$((failed + BASH_REMATCH[2]))
-        [ "$status" = 0 ] || [ "${BASH_REMATCH[2]}" != 0 ] || failed=$((failed + 1))
-    else
-        failed=$((failed + 1))
-    fi
-}
-
-# Runs a command that has no counts.
-one() {
-    if "$@"; then
-        passed=$((passed + 1))
-    else
-        failed=$((failed + 1))
-    fi
+    add_counts "${PIPESTATUS[0]}" "$log"
 }
 
 count rt ci
-one tools/contracts.py --check
+tell "docs/PROVED.md is what the sources say" "$(tools/contracts.py --check >&2 && echo yes || echo no)"
 count tools/vectors.sh
 count tools/interchange.py
 count tools/streams.sh
 count tools/each_growth.sh
 count tools/limits.sh
 count tools/library_tests.sh
-echo "$passed passed, $failed failed"
-[ "$failed" = 0 ]
+end_counts

@@ -13,17 +13,7 @@ vectors=${1:-$here/vectors}
 program=${2:-$here/slh}
 work=$(mktemp -d)
 trap 'rm -rf "$work"' EXIT
-passed=0 failed=0
-
-# Tells whether a run was as wanted: NAME, and whether it was.
-tell() {
-    if [ "$2" = yes ]; then
-        passed=$((passed + 1))
-    else
-        failed=$((failed + 1))
-    fi
-    echo "$1: $2"
-}
+source "$here/tools/counts.sh"
 
 # Runs the program over a file, and leaves its report, its errors and its status in the work folder.
 run() {
@@ -70,5 +60,4 @@ for file in "$vectors"/*.json; do
     fi
     tell "$name with a digit changed fails test $signed alone" $as_wanted
 done
-echo "$passed passed, $failed failed"
-[ "$failed" = 0 ]
+end_counts

@@ -65,6 +65,9 @@ verify_shape = subcommand (codes "verify") (message_rules ++ form_rules ++ requi
 abbrev pub check_shape : Shape
 check_shape = subcommand (codes "check") (required (codes "key") ∷ [])
 
+abbrev pub upgrade_shape : Shape
+upgrade_shape = subcommand (codes "upgrade") (required (codes "key") ∷ [])
+
 abbrev pub vectors_shape : Shape
 vectors_shape = subcommand (codes "vectors") (required (codes "file") ∷ workers_rule ∷ [])
 
@@ -102,7 +105,7 @@ message_app = with_subcommands seed_app (public_shape ∷ sign_shape ∷ [])
 
 -- all the commands on key files
 abbrev pub key_app : App
-key_app = with_subcommands message_app (verify_shape ∷ check_shape ∷ [])
+key_app = with_subcommands message_app (verify_shape ∷ check_shape ∷ upgrade_shape ∷ [])
 
 -- the whole program
 abbrev pub slh_app : App

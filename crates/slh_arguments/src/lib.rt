@@ -4,7 +4,7 @@
 ghost use Rattle.std.specs.Prelude.{◌≡◌, [], IfOk};
 ghost use Rattle.clap.specs.Words.{app_of};
 ghost use Rattle.slh_arguments.specs.Command.{CommandIs, no_command, subcommand};
-ghost use Rattle.slh_arguments.specs.Command.{check_shape, key_app, keygen_shape, message_app, params_shape, public_shape, root_shape, seed_app, sign_shape, slh_app, vectors_shape, verify_shape};
+ghost use Rattle.slh_arguments.specs.Command.{check_shape, key_app, keygen_shape, message_app, params_shape, public_shape, root_shape, seed_app, sign_shape, slh_app, upgrade_shape, vectors_shape, verify_shape};
 
 use clap::Command;
 use options::{message_command, optional, required, with_form, with_work, workers};
@@ -19,7 +19,8 @@ fn subcommand<'a>(alloc: Global, name: &'a str, about: &'a str, example: &'a str
     Command::new(alloc, name).about(about).after_help(example)
 }
 
-const SET_HELP: &str = "A parameter set, SLH-DSA-SHA2-128s, -128f, -192s, -192f, -256s or -256f";
+const SET_HELP: &str =
+    "A parameter set: SLH-DSA-SHA2-128s, -128f, -192s, -192f, -256s or -256f, or custom:n,lg_w,h',d,a,k";
 
 fn params_command<'a>(alloc: Global) -> Result<Command<'a>, AllocError>
     ensures { IfOk result (CommandIs params_shape) }
@@ -34,7 +35,7 @@ fn params_command<'a>(alloc: Global) -> Result<Command<'a>, AllocError>
 }
 
 const ROOT_HELP: &str =
-    "The seeds SK.seed, SK.prf and PK.seed are one line of hexadecimal digits: 96 for a 128 set, 144 for a 192, 192 for a 256.
+    "The seeds SK.seed, SK.prf and PK.seed are one line of 6n hexadecimal digits: 96 for a 128 set, 144 for a 192, 192 for a 256.
 Example: slh root --set SLH-DSA-SHA2-128f < seeds.txt";
 
 fn root_command<'a>(alloc: Global) -> Result<Command<'a>, AllocError>
@@ -50,7 +51,7 @@ fn root_command<'a>(alloc: Global) -> Result<Command<'a>, AllocError>
 }
 
 const KEYGEN_HELP: &str =
-    "The seeds SK.seed, SK.prf and PK.seed are one line of hexadecimal digits: 96 for a 128 set, 144 for a 192, 192 for a 256.
+    "The seeds SK.seed, SK.prf and PK.seed are one line of 6n hexadecimal digits: 96 for a 128 set, 144 for a 192, 192 for a 256.
 Example: slh keygen --set SLH-DSA-SHA2-128f < seeds.txt > secret.key";
 
 fn keygen_command<'a>(alloc: Global) -> Result<Command<'a>, AllocError>
@@ -88,6 +89,18 @@ fn check_command<'a>(alloc: Global) -> Result<Command<'a>, AllocError>
         "Example: slh check --key secret.key",
     )
     .arg(required(alloc, "key", "FILE", "A secret key file"))
+}
+
+fn upgrade_command<'a>(alloc: Global) -> Result<Command<'a>, AllocError>
+    ensures { IfOk result (CommandIs upgrade_shape) }
+{
+    subcommand(
+        alloc,
+        "upgrade",
+        "Writes a key file of either version as a key file of version 2",
+        "Example: slh upgrade --key old.key > new.key",
+    )
+    .arg(required(alloc, "key", "FILE", "A public or secret key file"))
 }
 
 const RANDOM_HELP: &str = "The randomizer, 2n hexadecimal digits [default: deterministic signing]";
@@ -172,7 +185,8 @@ fn key_commands<'a>(alloc: Global) -> Result<Command<'a>, AllocError>
 {
     message_commands(alloc)?
         .subcommand(verify_command(alloc)?)?
-        .subcommand(check_command(alloc)?)
+        .subcommand(check_command(alloc)?)?
+        .subcommand(upgrade_command(alloc)?)
 }
 
 /// The program `slh` with its subcommands.

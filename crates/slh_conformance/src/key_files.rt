@@ -23,7 +23,6 @@ fn is_written(rt: &impl Abort, written: Result<String<&LocalHeap>, FileFault>, f
 #[test]
 fn key_files_at_each_refused_growth(rt: HostRuntime) -> Result<(), Fail> {
     let secret = key(ParamSet::S128f);
-    assert!(rt; secret.set().is_fips_205());
     let public = secret.public();
     let public_file = write_public(rt.alloc(), &public)?;
     let secret_file = write_secret(rt.alloc(), &secret)?;

@@ -9,19 +9,22 @@ use Rattle.std.proofs.lemmas.Slice.Eq.{bytes_eq-Decides}
 use Rattle.std.specs.List.{cons_option, find, list_all}
 use Rattle.std.specs.Str.{bytes_eq}
 use Rattle.hex.specs.Hex.{is_hex_digit}
-use Rattle.slh_params.specs.ParamSet.{is, params, name, set_named, S128s, S128f, S192s, S192f, S256s, S256f}
+use Rattle.slh_params.specs.ParamSet.{params}
+use Rattle.slh_params.specs.Label.{label}
 use Rattle.slh_params.proofs.Bounds.{n_high}
-use Rattle.slh_params.proofs.Names.{set_named-none, set_named_is}
+use Rattle.slh_params.proofs.Labelled.{length-label}
 use Rattle.slh_params.specs.declared.param_set.ParamSet.{ParamSet}
 use Rattle.slh_files.specs.declared.fault.FileFault.{FileFault}
 use Rattle.slh_files.specs.declared.fault.FileFault.TheVariants.{NotAKeyFile, UnknownSet, BadHex, BadKeyLength}
 use Rattle.slh_files.specs.declared.key_kind.KeyKind.{KeyKind}
 use Rattle.slh_files.specs.declared.key_kind.KeyKind.TheVariants.{Public, Secret}
+use Rattle.slh_files.specs.declared.key_kind.Version.{Version}
+use Rattle.slh_files.specs.declared.key_kind.Version.TheVariants.{One, Two}
 use Rattle.slh_files.specs.Lines.{Text, cut_line, last_line}
-use Rattle.slh_files.specs.KeyFile.{AreReadAlike, IsKeyFront, after_kind, after_set, first_line, key_digits, key_file, key_len, key_line, with_rest, ◌>>=◌}
+use Rattle.slh_files.specs.KeyFile.{AreReadAlike, IsKeyFront, after_kind, after_set, first_line, key_digits, key_file, key_len, key_line, set_of_line, version_of, with_rest, ◌>>=◌}
 use Rattle.slh_files.proofs.Cut.{cut_line-at, cut_line-none, no_feed}
 use Rattle.slh_files.proofs.Decoding.{digit_no_feed}
-use Rattle.slh_files.proofs.Reading.{after_first, digits_of}
+use Rattle.slh_files.proofs.Reading.{after_first, digits_of, set_of_line-is, version_of-is}
 
 -- ---- the first line feed of a text
 
@@ -63,42 +66,35 @@ false_where : (b : Bool) → (b ≡ true → ⊥) → b ≡ false
 false_where true other = absurd (other refl)
 false_where false other = refl
 
-kind_len : (kind : KeyKind) → length (first_line kind) ≡ 16
-kind_len Public = refl
-kind_len Secret = refl
+kind_len : (kind : KeyKind) (version : Version) → length (first_line kind version) ≡ 16
+kind_len Public One = refl
+kind_len Public Two = refl
+kind_len Secret One = refl
+kind_len Secret Two = refl
 
-longer_line : (kind : KeyKind) (front line : Text) → 16 < length front → bytes_eq (front ++ line) (first_line kind) ≡ false
-longer_line kind front line long = false_where (bytes_eq (front ++ line) (first_line kind))
-    (λ same. let e : front ++ line ≡ first_line kind = (bytes_eq-Decides (front ++ line) (first_line kind)).0 same in
-    omega (arith, ap (λ (t : Text). length t) e, length-append front line, kind_len kind))
+longer_line : (kind : KeyKind) (version : Version) (front line : Text) → 16 < length front → bytes_eq (front ++ line) (first_line kind version) ≡ false
+longer_line kind version front line long = false_where (bytes_eq (front ++ line) (first_line kind version))
+    (λ same. let e : front ++ line ≡ first_line kind version = (bytes_eq-Decides (front ++ line) (first_line kind version)).0 same in
+    omega (arith, ap (λ (t : Text). length t) e, length-append front line, kind_len kind version))
 
 kind_long : (kind : KeyKind) (front : Text) (cut : Option (Text × Text)) → 16 < length front → CutsAfter front cut → after_kind kind cut ≡ Err NotAKeyFile
 kind_long kind front cut long (nowhere e) = rw e refl
-kind_long kind front cut long (later line rest e) = rw (e, longer_line kind front line long) refl
+kind_long kind front cut long (later line rest e) = rw (e, longer_line kind One front line long, longer_line kind Two front line long) refl
 
 -- ---- the second line
 
-name_len : (set : ParamSet) → length (name set) ≤ 18
-unfolding name
-name_len set = six (is set S128s) (is set S128f) (is set S192s) (is set S192f) (is set S256s) (is set S256f)
+longer_label : (version : Version) (front line : Text) → 24 < length front → set_of_line version (front ++ line) ≡ None
+longer_label version front line long = missing (set_of_line version (front ++ line)) refl
   where
-    six : (a b c d e f : Bool) → length (cond a (codes "SLH-DSA-SHA2-128s") (cond b (codes "SLH-DSA-SHA2-128f") (cond c (codes "SLH-DSA-SHA2-192s")
-        (cond d (codes "SLH-DSA-SHA2-192f") (cond e (codes "SLH-DSA-SHA2-256s") (cond f (codes "SLH-DSA-SHA2-256f") (codes "custom"))))))) ≤ 18
-    six true b c d e f = omega arith
-    six false true c d e f = omega arith
-    six false false true d e f = omega arith
-    six false false false true e f = omega arith
-    six false false false false true f = omega arith
-    six false false false false false true = omega arith
-    six false false false false false false = omega arith
+    missing : (r : Option ParamSet) → set_of_line version (front ++ line) ≡ r → r ≡ None
+    missing None e = refl
+    missing (Some set) e =
+        let same : label set ≡ front ++ line = (set_of_line-is version (front ++ line) set e).0 in
+        absurd (omega (arith, ap (λ (t : Text). length t) same, length-append front line, length-label set))
 
-longer_name : (front line : Text) → 18 < length front → set_named (front ++ line) ≡ None
-longer_name front line long = set_named-none (front ++ line)
-    (λ set _ e. omega (arith, ap (λ (t : Text). length t) e, length-append front line, name_len set))
-
-set_long : (front : Text) (cut : Option (Text × Text)) → 18 < length front → CutsAfter front cut → after_set cut ≡ Err UnknownSet
-set_long front cut long (nowhere e) = rw e refl
-set_long front cut long (later line rest e) = rw (e, longer_name front line long) refl
+set_long : (version : Version) (front : Text) (cut : Option (Text × Text)) → 24 < length front → CutsAfter front cut → after_set version cut ≡ Err UnknownSet
+set_long version front cut long (nowhere e) = rw e refl
+set_long version front cut long (later line rest e) = rw (e, longer_label version front line long) refl
 
 -- ---- the third line
 
@@ -152,20 +148,21 @@ key_len_few : (kind : KeyKind) (set : ParamSet) → key_len kind (params set) �
 key_len_few Public set = omega (arith, n_high set)
 key_len_few Secret set = omega (arith, n_high set)
 
-second_alike : (kind : KeyKind) (front s t : Text) → 276 < length front → goes_on s ≡ goes_on t → Feeds front
-    → after_first kind (front ++ s) ≡ after_first kind (front ++ t)
-second_alike kind front s t long e (none f) = rw (
-  set_long front (cut_line (front ++ s)) (omega arith) (cuts_after front s f (feeds s)),
-  set_long front (cut_line (front ++ t)) (omega arith) (cuts_after front t f (feeds t)),
+second_alike : (kind : KeyKind) (version : Version) (front s t : Text) → 282 < length front → goes_on s ≡ goes_on t → Feeds front
+    → after_first kind (version, front ++ s) ≡ after_first kind (version, front ++ t)
+second_alike kind version front s t long e (none f) = rw (
+  set_long version front (cut_line (front ++ s)) (omega arith) (cuts_after front s f (feeds s)),
+  set_long version front (cut_line (front ++ t)) (omega arith) (cuts_after front t f (feeds t)),
 ) refl
-second_alike kind front s t long e (first line rest g f) =
-    rw (g, cut_line-front line rest s f, cut_line-front line rest t f) (found (set_named line) refl)
+second_alike kind version front s t long e (first line rest g f) =
+    rw (g, cut_line-front line rest s f, cut_line-front line rest t f) (found (set_of_line version line) refl)
   where
-    found : (r : Option ParamSet) → set_named line ≡ r → (with_rest r (rest ++ s) >>= digits_of kind) ≡ (with_rest r (rest ++ t) >>= digits_of kind)
+    found : (r : Option ParamSet) → set_of_line version line ≡ r
+        → (with_rest r (rest ++ s) UnknownSet >>= digits_of kind) ≡ (with_rest r (rest ++ t) UnknownSet >>= digits_of kind)
     found None h = refl
     found (Some set) h =
         let sized : length front ≡ length line + suc (length rest) = ap (λ (x : Text). length x) g ∙ length-append line (10 ∷ rest) in
-        let named : length line ≤ 18 = omega (arith, ap (λ (x : Text). length x) (set_named_is line set h), name_len set) in
+        let named : length line ≤ 24 = omega (arith, ap (λ (x : Text). length x) (set_of_line-is version line set h).0, length-label set) in
         let len : ℕ = key_len kind (params set) in
         let alike : key_digits len (last_line (rest ++ s)) ≡ key_digits len (last_line (rest ++ t)) =
         digits_alike len rest s t (omega (arith, sized, named, key_len_few kind set)) e (feeds rest) in
@@ -178,16 +175,15 @@ first_alike kind front s t long e (none f) = rw (
   kind_long kind front (cut_line (front ++ t)) (omega arith) (cuts_after front t f (feeds t)),
 ) refl
 first_alike kind front s t long e (first line rest g f) =
-    rw (g, cut_line-front line rest s f, cut_line-front line rest t f) (chosen (bytes_eq line (first_line kind)) refl)
+    rw (g, cut_line-front line rest s f, cut_line-front line rest t f) (chosen (version_of kind line) refl)
   where
-    chosen : (b : Bool) → bytes_eq line (first_line kind) ≡ b
-        → (cond {A = Result Text FileFault} b (Ok (rest ++ s)) (Err NotAKeyFile) >>= after_first kind)
-        ≡ (cond {A = Result Text FileFault} b (Ok (rest ++ t)) (Err NotAKeyFile) >>= after_first kind)
-    chosen true h =
+    chosen : (r : Option Version) → version_of kind line ≡ r
+        → (with_rest r (rest ++ s) NotAKeyFile >>= after_first kind) ≡ (with_rest r (rest ++ t) NotAKeyFile >>= after_first kind)
+    chosen (Some version) h =
         let sized : length front ≡ length line + suc (length rest) = ap (λ (x : Text). length x) g ∙ length-append line (10 ∷ rest) in
-        let same : length line ≡ 16 = ap (λ (x : Text). length x) ((bytes_eq-Decides line (first_line kind)).0 h) ∙ kind_len kind in
-        second_alike kind rest s t (omega arith) e (feeds rest)
-    chosen false h = refl
+        let same : length line ≡ 16 = ap (λ (x : Text). length x) (version_of-is kind line version h) ∙ kind_len kind version in
+        second_alike kind version rest s t (omega arith) e (feeds rest)
+    chosen None h = refl
 
 file_alike : (kind : KeyKind) (front s t : Text) → 512 ≤ length front → goes_on s ≡ goes_on t → key_file kind (front ++ s) ≡ key_file kind (front ++ t)
 file_alike kind front s t long e = rw (first_alike kind front s t (omega arith) e (feeds front)) refl

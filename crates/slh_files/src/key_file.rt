@@ -2,24 +2,32 @@ ghost use Rattle.std.specs.Prelude.{◌≡◌, ◌↔◌, ◌*◌, ◌≤◌, tr
 ghost use Rattle.std.specs.List.{list_all};
 ghost use Rattle.hex.specs.Hex.{is_hex_digit};
 ghost use Rattle.slh_core.specs.Keys.{Key};
-ghost use Rattle.slh_params.specs.ParamSet.{params, set_named};
+ghost use Rattle.slh_params.specs.ParamSet.{params};
 ghost use Rattle.slh_files.specs.declared.key_kind.KeyKind.TheVariants.{Public, Secret};
 ghost use Rattle.slh_files.specs.Lines.{cut_line, last_line};
-ghost use Rattle.slh_files.specs.KeyFile.{Gives, IsKeyFile, after_kind, after_set, key_digits, key_file, key_len, key_line};
+ghost use Rattle.slh_files.specs.declared.key_file.AnyKey.{AnyKey};
+ghost use Rattle.slh_files.specs.KeyFile.{Gives, IsAnyKeyFile, IsKeyFile, after_kind, after_set, any_key_file, key_digits, key_file, key_len, key_line, set_of_line};
 
 use super::digits::{are_hex_digits, decode_digits};
 use super::fault::FileFault;
-use super::key_kind::KeyKind;
+use super::key_kind::{KeyKind, Version};
 use super::lines::{cut_line, last_line};
 use slh_core::{PublicKey, SecretKey};
 use slh_params::ParamSet;
 
-/// The public key in a key file.
+/// A key of either kind.
+#[derive(Drop)]
+pub enum AnyKey {
+    Public(PublicKey),
+    Secret(SecretKey),
+}
+
+/// The public key in a key file of either version.
 ///
-/// Any other bytes are refused with their first fault, in this order: another first line
-/// (`NotAKeyFile`), a second line that names no parameter set (`UnknownSet`), a byte of the third
-/// line that is no hexadecimal digit (`BadHex`), another number of digits than twice the length of
-/// a public key of the set (`BadKeyLength`), bytes after the third line (`TrailingBytes`).
+/// Any other bytes are refused with their first fault, in this order: another first line (`NotAKeyFile`), a second line
+/// that is no set's label, or under version 1 no name of one of the standard's sets (`UnknownSet`), a byte of the third
+/// line that is no hexadecimal digit (`BadHex`), another number of digits than twice the length of a public key of the
+/// set (`BadKeyLength`), bytes after the third line (`TrailingBytes`).
 pub fn read_public(bytes: &[u8]) -> Result<PublicKey, FileFault>
     ensures accepted { (key : Key) → (result ≡ Ok key) ↔ IsKeyFile Public bytes.now key }
     ensures first_fault { result ≡ key_file Public bytes.now }
@@ -45,6 +53,18 @@ pub fn read_secret(bytes: &[u8]) -> Result<SecretKey, FileFault>
     Ok(SecretKey::from_bytes(set, key).unwrap())
 }
 
+/// The key in a key file of either kind and version, with the refusals of `read_public`; `NotAKeyFile` where the first
+/// line is that of neither kind.
+pub fn read_key(bytes: &[u8]) -> Result<AnyKey, FileFault>
+    ensures accepted { (key : AnyKey) → (result ≡ Ok key) ↔ IsAnyKeyFile bytes.now key }
+    ensures first_fault { result ≡ any_key_file bytes.now }
+{
+    match read_public(bytes) {
+        Err(FileFault::NotAKeyFile) => Ok(AnyKey::Secret(read_secret(bytes)?)),
+        read => Ok(AnyKey::Public(read?)),
+    }
+}
+
 /// The set that a key file of this kind names, and the digits of its key.
 #[tactic(auto, using(slh_params::proofs::Bounds::n_high))]
 fn key_line(kind: KeyKind, bytes: &[u8]) -> Result<(ParamSet, &[u8]), FileFault>
@@ -52,40 +72,36 @@ fn key_line(kind: KeyKind, bytes: &[u8]) -> Result<(ParamSet, &[u8]), FileFault>
     ensures hex { IfOk result (λ r. list_all is_hex_digit r.1.now ≡ true) }
     ensures sized { IfOk result (λ r. length r.1.now ≡ 2 * key_len kind (params r.0)) }
 {
-    let rest = after_kind(kind, bytes)?;
-    let (set, rest) = after_set(rest)?;
+    let (version, rest) = after_kind(kind, bytes)?;
+    let (set, rest) = after_set(version, rest)?;
     let digits = key_digits(kind.key_len(set), rest)?;
     Ok((set, digits))
 }
 
-/// What comes after the first line of a file of this kind.
-fn after_kind(kind: KeyKind, bytes: &[u8]) -> Result<&[u8], FileFault>
-    ensures { Gives (λ rest. rest.now) result (after_kind kind (cut_line bytes.now)) }
+/// The version of a file of this kind, and what comes after its first line.
+fn after_kind(kind: KeyKind, bytes: &[u8]) -> Result<(Version, &[u8]), FileFault>
+    ensures { Gives (λ r. (r.0, r.1.now)) result (after_kind kind (cut_line bytes.now)) }
 {
     let (line, rest) = cut_line(bytes).ok_or(FileFault::NotAKeyFile)?;
-    if line != kind.first_line().as_bytes() {
-        return Err(FileFault::NotAKeyFile);
-    }
-    Ok(rest)
+    let version = kind.version_of(line).ok_or(FileFault::NotAKeyFile)?;
+    Ok((version, rest))
 }
 
-/// The set that the next line names, and what comes after that line.
-fn after_set(bytes: &[u8]) -> Result<(ParamSet, &[u8]), FileFault>
-    ensures { Gives (λ r. (r.0, r.1.now)) result (after_set (cut_line bytes.now)) }
+/// The set that the next line tells in a file of this version, and what comes after that line.
+fn after_set(version: Version, bytes: &[u8]) -> Result<(ParamSet, &[u8]), FileFault>
+    ensures { Gives (λ r. (r.0, r.1.now)) result (after_set version (cut_line bytes.now)) }
 {
     let (line, rest) = cut_line(bytes).ok_or(FileFault::UnknownSet)?;
-    let set = set_named(line).ok_or(FileFault::UnknownSet)?;
+    let set = set_of_line(version, line).ok_or(FileFault::UnknownSet)?;
     Ok((set, rest))
 }
 
-/// The set of this name.
-fn set_named(line: &[u8]) -> Option<ParamSet>
-    ensures { result ≡ set_named line.now }
+/// The set of this label that a file of this version can have.
+fn set_of_line(version: Version, line: &[u8]) -> Option<ParamSet>
+    ensures { result ≡ set_of_line version line.now }
 {
-    ParamSet::all()
-        .iter()
-        .copied()
-        .find(|set| set.name().as_bytes() == line)
+    let set = ParamSet::from_label(line)?;
+    if version.allows(set) { Some(set) } else { None }
 }
 
 /// The digits of a key of `len` bytes, which the last line has.

@@ -1,5 +1,4 @@
 ghost use Rattle.std.specs.Prelude.{◌≡◌, IfOk, IfErr, Ok, string_bytes};
-ghost use Rattle.slh_params.specs.ParamSet.{IsStandard};
 ghost use Rattle.slh_core.specs.Keys.{Key};
 ghost use Rattle.slh_files.specs.declared.fault.FileFault.TheVariants.{NoMemory};
 ghost use Rattle.slh_files.specs.declared.key_kind.KeyKind.{KeyKind};
@@ -7,30 +6,28 @@ ghost use Rattle.slh_files.specs.declared.key_kind.KeyKind.TheVariants.{Public, 
 ghost use Rattle.slh_files.specs.KeyFile.{IsKey, key_file, key_text};
 
 use super::fault::FileFault;
-use super::key_kind::KeyKind;
+use super::key_kind::{KeyKind, Version};
 use slh_core::{PublicKey, SecretKey};
 use slh_params::ParamSet;
 use std::alloc::{AllocError, Allocator};
 
-/// The key file of a public key of one of the standard's sets.
+/// The key file of a public key, of version 2.
 pub fn write_public<A: Allocator + Clone>(alloc: A, key: &PublicKey) -> Result<String<A>, FileFault>
-    requires standard { IsStandard key.now.set }
     ensures written { IfOk result (λ text. string_bytes text ≡ key_text Public key.now) }
     ensures memory { IfErr result (λ fault. fault ≡ NoMemory) }
 {
     Ok(key_text(alloc, KeyKind::Public, key.set(), key.bytes())?)
 }
 
-/// The key file of a secret key of one of the standard's sets.
+/// The key file of a secret key, of version 2.
 pub fn write_secret<A: Allocator + Clone>(alloc: A, key: &SecretKey) -> Result<String<A>, FileFault>
-    requires standard { IsStandard key.now.set }
     ensures written { IfOk result (λ text. string_bytes text ≡ key_text Secret key.now) }
     ensures memory { IfErr result (λ fault. fault ≡ NoMemory) }
 {
     Ok(key_text(alloc, KeyKind::Secret, key.set(), key.bytes())?)
 }
 
-/// The three lines of a key file.
+/// The three lines of a key file of version 2.
 fn key_text<A: Allocator + Clone>(
     alloc: A,
     kind: KeyKind,
@@ -40,9 +37,9 @@ fn key_text<A: Allocator + Clone>(
     ensures { IfOk result (λ text. string_bytes text ≡ key_text kind (record { set = set; bytes = key.now })) }
 {
     let digits = hex::encode(alloc.clone()?, key)?;
-    let mut text = String::from_str(alloc, kind.first_line())?;
+    let mut text = String::from_str(alloc, kind.first_line(Version::Two))?;
     text.push_str("\n")?;
-    text.push_str(set.name())?;
+    text.push_str(set.label().as_str())?;
     text.push_str("\n")?;
     text.push_str(digits.as_str())?;
     text.push_str("\n")?;

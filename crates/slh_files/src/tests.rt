@@ -4,16 +4,26 @@ use slh_params::ParamSet;
 use std::process::Abort;
 use std::test::Fail;
 
-/// The file of the public key of the bytes 0 to 31 under SLH-DSA-SHA2-128f.
+/// The file of version 1 of the public key of the bytes 0 to 31 under SLH-DSA-SHA2-128f.
 const PUBLIC: &[u8; 100] =
     b"slh-dsa-public 1\nSLH-DSA-SHA2-128f\n000102030405060708090a0b0c0d0e0f101112131415161718191a1b1c1d1e1f\n";
 
-/// The file of the secret key of the bytes 0 to 63 under SLH-DSA-SHA2-128f.
+/// The file of version 1 of the secret key of the bytes 0 to 63 under SLH-DSA-SHA2-128f.
 const SECRET: &[u8; 164] =
     b"slh-dsa-secret 1\nSLH-DSA-SHA2-128f\n000102030405060708090a0b0c0d0e0f101112131415161718191a1b1c1d1e1f202122232425262728292a2b2c2d2e2f303132333435363738393a3b3c3d3e3f\n";
 
+/// The same keys in files of version 2.
+const PUBLIC_2: &str =
+    "slh-dsa-public 2\nSLH-DSA-SHA2-128f\n000102030405060708090a0b0c0d0e0f101112131415161718191a1b1c1d1e1f\n";
+
+const SECRET_2: &str =
+    "slh-dsa-secret 2\nSLH-DSA-SHA2-128f\n000102030405060708090a0b0c0d0e0f101112131415161718191a1b1c1d1e1f202122232425262728292a2b2c2d2e2f303132333435363738393a3b3c3d3e3f\n";
+
 /// The lines of `PUBLIC`, the first two with their line feeds.
 const KIND: &str = "slh-dsa-public 1\n";
+
+/// The first line of a file of version 2.
+const KIND_2: &str = "slh-dsa-public 2\n";
 
 const NAME: &str = "SLH-DSA-SHA2-128f\n";
 
@@ -47,22 +57,47 @@ fn status<K: Drop>(read: Result<K, FileFault>) -> u8 {
 }
 
 #[test]
-fn reads_what_is_written(rt: HostRuntime) -> Result<(), Fail> {
-    let key = public_key()?;
-    assert!(rt; key.set().is_fips_205());
-    let text = write_public(rt.alloc(), &key)?;
-    assert_eq!(rt; text.as_bytes(), PUBLIC.as_slice());
-    let key = read_public(PUBLIC)?;
-    assert_eq!(rt; key.set(), ParamSet::S128f);
-    assert_eq!(rt; key.bytes(), PUBLIC_BYTES.as_slice());
+fn writes_version_2(rt: HostRuntime) -> Result<(), Fail> {
+    let text = write_public(rt.alloc(), &public_key()?)?;
+    assert_eq!(rt; text.as_str(), PUBLIC_2);
+    let text = write_secret(rt.alloc(), &secret_key()?)?;
+    assert_eq!(rt; text.as_str(), SECRET_2);
+    Ok(())
+}
 
-    let key = secret_key()?;
-    assert!(rt; key.set().is_fips_205());
-    let text = write_secret(rt.alloc(), &key)?;
-    assert_eq!(rt; text.as_bytes(), SECRET.as_slice());
-    let key = read_secret(SECRET)?;
-    assert_eq!(rt; key.set(), ParamSet::S128f);
-    assert_eq!(rt; key.bytes(), SECRET_BYTES.as_slice());
+#[test]
+fn reads_both_versions(rt: HostRuntime) -> Result<(), Fail> {
+    for file in [PUBLIC.as_slice(), PUBLIC_2.as_bytes()] {
+        let key = read_public(file)?;
+        assert_eq!(rt; key.set(), ParamSet::S128f);
+        assert_eq!(rt; key.bytes(), PUBLIC_BYTES.as_slice());
+        match read_key(file)? {
+            AnyKey::Public(key) => assert_eq!(rt; key.bytes(), PUBLIC_BYTES.as_slice()),
+            AnyKey::Secret(_) => panic!(rt; "a public key"),
+        }
+    }
+    for file in [SECRET.as_slice(), SECRET_2.as_bytes()] {
+        let key = read_secret(file)?;
+        assert_eq!(rt; key.set(), ParamSet::S128f);
+        assert_eq!(rt; key.bytes(), SECRET_BYTES.as_slice());
+        match read_key(file)? {
+            AnyKey::Secret(key) => assert_eq!(rt; key.bytes(), SECRET_BYTES.as_slice()),
+            AnyKey::Public(_) => panic!(rt; "a secret key"),
+        }
+    }
+    Ok(())
+}
+
+/// A set that is none of the standard's is written by its label, and read in version 2 alone.
+#[test]
+fn reads_sets_of_other_numbers(rt: HostRuntime) -> Result<(), Fail> {
+    let set = ParamSet::custom(16, 2, 1, 1, 1, 1)?;
+    let text = write_public(rt.alloc(), &PublicKey::from_bytes(set, &PUBLIC_BYTES)?)?;
+    let file = format!(in rt.alloc(); "{KIND_2}custom:16,2,1,1,1,1\n{DIGITS}\n")?;
+    assert_eq!(rt; text.as_str(), file.as_str());
+    let key = read_public(file.as_bytes())?;
+    assert_eq!(rt; key.set(), set);
+    assert_eq!(rt; key.bytes(), PUBLIC_BYTES.as_slice());
     Ok(())
 }
 
@@ -83,7 +118,19 @@ fn refuses_other_files(rt: HostRuntime) -> Result<(), Fail> {
     for (first, second, third, number) in [
         ("", "", "", 11),
         ("slh-dsa-secret 1\n", NAME, DIGITS, 11),
-        ("slh-dsa-public 2\n", NAME, DIGITS, 11),
+        ("slh-dsa-secret 2\n", NAME, DIGITS, 11),
+        ("slh-dsa-public 3\n", NAME, DIGITS, 11),
+        ("slh-dsa-public\n", NAME, DIGITS, 11),
+        (KIND, "custom:16,2,1,1,1,1\n", DIGITS, 12),
+        (KIND_2, "custom:20,2,1,1,1,1\n", DIGITS, 12),
+        (KIND_2, "custom:16,4,3,22,6,33\n", DIGITS, 12),
+        (KIND_2, "custom:016,2,1,1,1,1\n", DIGITS, 12),
+        (KIND_2, "custom:16,2,1,1,1\n", DIGITS, 12),
+        (KIND_2, "custom:16,2,1,1,1,1,1\n", DIGITS, 12),
+        (KIND_2, "custom:16,+2,1,1,1,1\n", DIGITS, 12),
+        (KIND_2, "custom:16, 2,1,1,1,1\n", DIGITS, 12),
+        (KIND_2, "custom\n", DIGITS, 12),
+        (KIND_2, "custom:24,2,1,1,1,1\n", DIGITS, 14),
         (KIND, "SLH-DSA-SHAKE-128f\n", DIGITS, 12),
         (KIND, "SLH-DSA-SHA2-128f", "", 12),
         (
@@ -134,23 +181,37 @@ fn cut_status(len: usize, end: usize) -> u8 {
 }
 
 #[test]
-fn refuses_damaged_files(rt: HostRuntime) {
-    for len in 0..=100 {
-        let read = status(read_public(&PUBLIC[..len]));
-        assert_eq!(rt; read, cut_status(len, 99), "{len} bytes");
+fn refuses_files_cut_short(rt: HostRuntime) {
+    for (public, secret) in [
+        (PUBLIC.as_slice(), SECRET.as_slice()),
+        (PUBLIC_2.as_bytes(), SECRET_2.as_bytes()),
+    ] {
+        for len in 0..=100 {
+            let number = cut_status(len, 99);
+            assert_eq!(rt; status(read_public(&public[..len])), number, "{len} bytes");
+            assert_eq!(rt; status(read_key(&public[..len])), number, "{len} bytes");
+        }
+        for len in 0..=164 {
+            let number = cut_status(len, 163);
+            assert_eq!(rt; status(read_secret(&secret[..len])), number, "{len} bytes");
+            assert_eq!(rt; status(read_key(&secret[..len])), number, "{len} bytes");
+        }
     }
-    for place in 0..100 {
-        let number = match place {
-            0..=16 => 11,
-            17..=34 => 12,
-            _ => 13,
-        };
-        let mut file = *PUBLIC;
-        file[place] = 255;
-        assert_eq!(rt; status(read_public(&file)), number, "at {place}");
-    }
-    for len in 0..=164 {
-        let read = status(read_secret(&SECRET[..len]));
-        assert_eq!(rt; read, cut_status(len, 163), "{len} bytes");
+}
+
+#[test]
+fn refuses_files_with_a_byte_replaced(rt: HostRuntime) {
+    for version in b"12" {
+        for place in 0..100 {
+            let number = match place {
+                0..=16 => 11,
+                17..=34 => 12,
+                _ => 13,
+            };
+            let mut file = *PUBLIC;
+            file[15] = *version;
+            file[place] = 255;
+            assert_eq!(rt; status(read_public(&file)), number, "at {place}");
+        }
     }
 }

@@ -110,7 +110,7 @@ pub known : (b : Bool) → (b ≡ true) ⊎ (b ≡ false)
 known true = inl refl
 known false = inr refl
 
-label_other : (set : ParamSet) → is_standard set ≡ false → label set ≡ codes "custom:" ++ listed (params set)
+pub label_other : (set : ParamSet) → is_standard set ≡ false → label set ≡ codes "custom:" ++ listed (params set)
 unfolding label
 label_other set e = rw e refl
 

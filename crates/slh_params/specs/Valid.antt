@@ -23,8 +23,11 @@ abbrev pub k_fits : Params → Bool
 k_fits p = nat_le 1 p.k && nat_le p.k 64
 
 -- the record is valid
+abbrev pub is_valid : Params → Bool
+is_valid p = n_fits p && lg_w_fits p && hp_fits p && d_fits p && a_fits p && k_fits p
+
 abbrev pub IsValid : Params → Type 0
-IsValid p = IsTrue (n_fits p && lg_w_fits p && hp_fits p && d_fits p && a_fits p && k_fits p)
+IsValid p = IsTrue (is_valid p)
 
 -- the name of the first member that is out of rule
 unfoldable pub first_bad : Params → Option (List ℕ)

@@ -84,6 +84,10 @@ check_asks : (s : Shape) → s.name ≡ codes "check" → list_all fills s.rules
 check_asks s e all n name words other named fault none =
     let key = value_of s words (codes "key") all n fault in cc (rw (e, key.1) at none)
 
+upgrade_asks : (s : Shape) → s.name ≡ codes "upgrade" → list_all fills s.rules ≡ true → needs (codes "key") s.rules ≡ true → AsksAt s
+upgrade_asks s e all n name words other named fault none =
+    let key = value_of s words (codes "key") all n fault in cc (rw (e, key.1) at none)
+
 sign_asks : (s : Shape) → s.name ≡ codes "sign" → list_all fills s.rules ≡ true → needs (codes "key") s.rules ≡ true → needs (codes "message") s.rules ≡ true → AsksAt s
 sign_asks s e all k m name words other named fault none =
     let key = value_of s words (codes "key") all k fault in
@@ -120,7 +124,7 @@ data_asks = (
     sign_asks _ refl refl refl refl,
     (
       verify_asks _ refl refl refl refl refl,
-      (check_asks _ refl refl refl, (vectors_asks _ refl refl refl, (help_asks _ refl refl, tt))),
+      (check_asks _ refl refl refl, (upgrade_asks _ refl refl refl, (vectors_asks _ refl refl refl, (help_asks _ refl refl, tt)))),
     ),
   ),
 )

@@ -6,7 +6,7 @@ use Rattle.slh_cutting.specs.CutTrees.{CutTrees}
 use Rattle.slh_devices.specs.Devices.{SourceState}
 use Rattle.slh_files.specs.KeyFile.{key_text}
 use Rattle.slh_files.specs.declared.key_kind.KeyKind.TheVariants.{Secret}
-use Rattle.slh_params.specs.ParamSet.{set_named}
+use Rattle.slh_params.specs.Label.{set_of_label}
 use Rattle.slh_params.specs.declared.param_set.ParamSet.{ParamSet}
 use Rattle.slh_tool.specs.Cuts.{IsCutting}
 use Rattle.slh_tool.specs.Keys.{key_of_seeds}
@@ -16,7 +16,7 @@ use Rattle.slh_tool.specs.Seeds.{AreSeeds}
 
 -- the key of the named set and of the seeds that were read is written
 pub key_written : (options : KeygenOptions) (old new : SourceState) (set : ParamSet) (cutting : CutTrees) (seeds : Text) (key : Key) (text : Text)
-    → set_named options.set ≡ Some set → IsCutting options.work set cutting → AreSeeds set old new seeds → key.set ≡ set → key ≡ key_of_seeds set seeds
+    → set_of_label options.set ≡ Some set → IsCutting options.work set cutting → AreSeeds set old new seeds → key.set ≡ set → key ≡ key_of_seeds set seeds
     → text ≡ key_text Secret key → WritesKey options old new text
 key_written options old new set cutting seeds key text named cut read same generated written =
     let e : set ≡ key.set = sym same in (

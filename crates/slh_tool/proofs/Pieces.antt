@@ -9,11 +9,13 @@ use Rattle.slh_params.specs.Params.{sig_len}
 use Rattle.slh_params.specs.ParamSet.{params}
 use Rattle.slh_devices.specs.Devices.{EndsBy, FilesState, Grew, HasPart}
 use Rattle.std.proofs.lemmas.Bool.Decides.{Decides-eqb, not_from_Decides}
-use Rattle.slh_files.specs.KeyFile.{AreReadAlike, IsKeyFront, key_file}
+use Rattle.slh_files.specs.KeyFile.{AreReadAlike, IsKeyFront, any_key_file, key_file, or_secret}
 use Rattle.slh_files.specs.declared.fault.FileFault.{FileFault}
+use Rattle.slh_files.specs.declared.key_file.AnyKey.{AnyKey}
 use Rattle.slh_files.specs.declared.key_kind.KeyKind.{KeyKind}
+use Rattle.slh_files.specs.declared.key_kind.KeyKind.TheVariants.{Public, Secret}
 use Rattle.slh_tool.specs.Faults.{of_file}
-use Rattle.slh_tool.specs.Keys.{HoldsKey, RefusesKey}
+use Rattle.slh_tool.specs.Keys.{HoldsAnyKey, HoldsKey, RefusesAnyKey, RefusesKey}
 use Rattle.slh_tool.specs.Reading.{IsFile, IsFrontOfFile, IsFrontOfKeyFile, file_limit}
 use Rattle.slh_tool.specs.declared.fault.Fault.{Fault}
 
@@ -151,6 +153,17 @@ key_held kind files path front key read e = (read.whole, read.read, sym (read.al
 pub key_refused : (kind : KeyKind) (old new : FilesState) (path front : List ℕ) (e : FileFault) (fault : Fault) → IsFrontOfKeyFile old path front
     → key_file kind front ≡ Err e → fault ≡ of_file e → RefusesKey kind old new path fault
 key_refused kind old new path front e fault read refused same = inr (read.whole, read.read, (e, sym (read.alike kind) ∙ refused, same))
+
+-- and so for a key of either kind
+any_alike : (front whole : List ℕ) → ((kind : KeyKind) → key_file kind front ≡ key_file kind whole) → any_key_file front ≡ any_key_file whole
+any_alike front whole alike = ap₂ (λ (public secret : Result Key FileFault). or_secret public secret) (alike Public) (alike Secret)
+
+pub any_held : (files : FilesState) (path front : List ℕ) (key : AnyKey) → IsFrontOfKeyFile files path front → any_key_file front ≡ Ok key → HoldsAnyKey files path key
+any_held files path front key read e = (read.whole, read.read, sym (any_alike front read.whole read.alike) ∙ e)
+
+pub any_refused : (old new : FilesState) (path front : List ℕ) (e : FileFault) (fault : Fault) → IsFrontOfKeyFile old path front
+    → any_key_file front ≡ Err e → fault ≡ of_file e → RefusesAnyKey old new path fault
+any_refused old new path front e fault read refused same = inr (read.whole, read.read, (e, sym (any_alike front read.whole read.alike) ∙ refused, same))
 
 -- nothing was read of a key file yet
 pub none_held : (files : FilesState) (path front : List ℕ) → front ≡ [] → HasKeptKey files path front 0

@@ -5,7 +5,7 @@ use Rattle.slh_core.specs.Keys.{Key}
 use Rattle.slh_devices.specs.Devices.{FilesState, SourceState}
 use Rattle.slh_files.specs.declared.key_kind.KeyKind.TheVariants.{Public, Secret}
 use Rattle.slh_params.specs.declared.param_set.ParamSet.{ParamSet}
-use Rattle.slh_params.specs.ParamSet.{set_named}
+use Rattle.slh_params.specs.Label.{set_of_label}
 use Rattle.slh_core.specs.Messages.{message_in_form, form_with}
 use Rattle.slh_core.specs.declared.pre_hash.PreHash.{PreHash}
 use Rattle.slh_cutting.specs.CutTrees.{CutTrees}
@@ -38,7 +38,7 @@ pub verify_refused : (options : VerifyOptions) (old mid new : FilesState) (key :
 verify_refused options old mid new key e held kept h = inr (key, held, subst (λ (s : FilesState). RefusesVerifying options s new e) kept h)
 
 -- no seeds of a named set were read
-pub seeds_refused : (name : Text) (set : ParamSet) (old new : SourceState) (e : Fault) → set_named name ≡ Some set → RefusesSeeds set old new e → RefusesSeedsOf name old new e
+pub seeds_refused : (name : Text) (set : ParamSet) (old new : SourceState) (e : Fault) → set_of_label name ≡ Some set → RefusesSeeds set old new e → RefusesSeedsOf name old new e
 seeds_refused name set old new NoMemory named h = absurd h
 seeds_refused name set old new ContextTooLong named h = absurd h
 seeds_refused name set old new BadCutting named h = absurd h
@@ -59,7 +59,7 @@ seeds_refused name set old new BadOption named h = absurd h
 seeds_refused name set old new FileTooLong named h = absurd h
 
 -- `keygen` is refused for the cutting, or for the seeds
-pub cutting_refused : (options : KeygenOptions) (set : ParamSet) (old new : SourceState) (e : Fault) → set_named options.set ≡ Some set
+pub cutting_refused : (options : KeygenOptions) (set : ParamSet) (old new : SourceState) (e : Fault) → set_of_label options.set ≡ Some set
     → RefusesCutting options.work set e → RefusesKeygen options old new e
 cutting_refused options set old new NoMemory named h = absurd h
 cutting_refused options set old new ContextTooLong named h = absurd h
@@ -80,7 +80,7 @@ cutting_refused options set old new BadSeeds named h = absurd h
 cutting_refused options set old new BadOption named h = (set, named, inl h)
 cutting_refused options set old new FileTooLong named h = absurd h
 
-pub keygen_refused : (options : KeygenOptions) (set : ParamSet) (old new : SourceState) (e : Fault) → set_named options.set ≡ Some set
+pub keygen_refused : (options : KeygenOptions) (set : ParamSet) (old new : SourceState) (e : Fault) → set_of_label options.set ≡ Some set
     → HasCutting options.work set → RefusesSeeds set old new e → RefusesKeygen options old new e
 keygen_refused options set old new NoMemory named cut h = absurd h
 keygen_refused options set old new ContextTooLong named cut h = absurd h

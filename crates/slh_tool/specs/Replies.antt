@@ -8,13 +8,15 @@ use Rattle.slh_core.specs.Signatures.{IsValid}
 use Rattle.slh_core.specs.declared.pre_hash.PreHash.{PreHash}
 use Rattle.slh_cutting.specs.CutTrees.{CutTrees}
 use Rattle.slh_devices.specs.Devices.{FilesState, SourceState}
-use Rattle.slh_files.specs.KeyFile.{key_text}
+use Rattle.slh_files.specs.KeyFile.{any_key_text, key_text}
 use Rattle.slh_files.specs.Lines.{line}
+use Rattle.slh_files.specs.declared.key_file.AnyKey.{AnyKey}
 use Rattle.slh_files.specs.declared.key_kind.KeyKind.TheVariants.{Public, Secret}
-use Rattle.slh_params.specs.ParamSet.{set_named, sets}
+use Rattle.slh_params.specs.Label.{set_of_label}
+use Rattle.slh_params.specs.ParamSet.{sets}
 use Rattle.slh_params.specs.declared.param_set.ParamSet.{ParamSet}
 use Rattle.slh_tool.specs.Cuts.{HasCutting, IsCutting, RefusesCutting}
-use Rattle.slh_tool.specs.Keys.{HoldsKey, IsGeneratedFrom, RefusesKey, RefusesSeedsOf}
+use Rattle.slh_tool.specs.Keys.{HoldsAnyKey, HoldsKey, IsGeneratedFrom, RefusesAnyKey, RefusesKey, RefusesSeedsOf}
 use Rattle.slh_tool.specs.Options.{HasForm, RefusesForm, random_of, signature_of}
 use Rattle.slh_tool.specs.Reading.{IsFile, RefusesFile}
 use Rattle.slh_arguments.specs.Command.{slh_app}
@@ -26,14 +28,14 @@ use Rattle.slh_tool.specs.TestRuns.{RefusesVectors, RunsVectors}
 use Rattle.slh_tool.specs.declared.fault.Fault.{Fault}
 use Rattle.slh_tool.specs.declared.fault.Fault.TheVariants.{BadOption, ContextTooLong, NoMemory, UnknownSet}
 
--- `params`: the line of the named set, or those of all sets
+-- `params`: the line of the set of a label, or those of the standard's sets
 abbrev pub ShowsSets : Option Text → Text → Type 0
 ShowsSets None text = text ≡ lines sets
-ShowsSets (Some name) text = (set : ParamSet) × (set_named name ≡ Some set) × (text ≡ lines (set ∷ []))
+ShowsSets (Some name) text = (set : ParamSet) × (set_of_label name ≡ Some set) × (text ≡ lines (set ∷ []))
 
 abbrev pub RefusesSets : Option Text → Fault → Type 0
 RefusesSets name NoMemory = ⊤
-RefusesSets (Some name) UnknownSet = set_named name ≡ None
+RefusesSets (Some name) UnknownSet = set_of_label name ≡ None
 RefusesSets name fault = ⊥
 
 -- `root`: PK.seed and PK.root as lower-case digits, and a line feed
@@ -45,11 +47,11 @@ abbrev pub WritesKey : KeygenOptions → SourceState → SourceState → Text �
 WritesKey options old new text = (key : Key) × IsGeneratedFrom options.set old new key × HasCutting options.work key.set
     × (text ≡ key_text Secret key)
 
--- why there is none: no set has the name, or the options give no cutting, or the input has no seeds
+-- why there is none: no set has the label, or the options give no cutting, or the input has no seeds
 abbrev pub RefusesKeygen : KeygenOptions → SourceState → SourceState → Fault → Type 0
 RefusesKeygen options old new NoMemory = ⊤
-RefusesKeygen options old new UnknownSet = set_named options.set ≡ None
-RefusesKeygen options old new fault = (set : ParamSet) × (set_named options.set ≡ Some set)
+RefusesKeygen options old new UnknownSet = set_of_label options.set ≡ None
+RefusesKeygen options old new fault = (set : ParamSet) × (set_of_label options.set ≡ Some set)
     × (RefusesCutting options.work set fault ⊎ (HasCutting options.work set × RefusesSeeds set old new fault))
 
 -- `public`: the public key file of a secret key file
@@ -67,6 +69,10 @@ abbrev pub ChecksKey : Text → FilesState → ℕ → Text → Type 0
 ChecksKey path files status text = (key : Key) × HoldsKey Secret files path key
     × ((answer : Bool) × (IsTrue answer ↔ IsGeneratedKey key)
     × IsVerdict answer (line (codes "consistent")) (line (codes "inconsistent")) status text)
+
+-- `upgrade`: the key file of version 2 of a key file of either kind and version
+abbrev pub UpgradesKey : Text → FilesState → Text → Type 0
+UpgradesKey path files text = (key : AnyKey) × HoldsAnyKey files path key × (text ≡ any_key_text key)
 
 -- a signature with a key, whatever the cutting
 pub record SignsWith (options : SignOptions) (files : FilesState) (key : Key) (text : Text) : Type 0 where
@@ -153,6 +159,7 @@ IsReply (requests.root name) files old new status text = (status ≡ 0) × Shows
 IsReply (requests.keygen options) files old new status text = (status ≡ 0) × WritesKey options old new text
 IsReply (requests.public path) files old new status text = (status ≡ 0) × WritesPublic path files text
 IsReply (requests.check path) files old new status text = ChecksKey path files status text
+IsReply (requests.upgrade path) files old new status text = (status ≡ 0) × UpgradesKey path files text
 IsReply (requests.sign options) files old new status text = (status ≡ 0) × SignsMessage options files text
 IsReply (requests.verify options) files old new status text = VerifiesMessage options files status text
 IsReply (requests.vectors path workers) files old new status text = RunsVectors path files status text
@@ -164,6 +171,7 @@ IsRefusal (requests.root name) before after old new fault = RefusesSeedsOf name 
 IsRefusal (requests.keygen options) before after old new fault = RefusesKeygen options old new fault
 IsRefusal (requests.public path) before after old new fault = RefusesKey Secret before after path fault
 IsRefusal (requests.check path) before after old new fault = RefusesKey Secret before after path fault
+IsRefusal (requests.upgrade path) before after old new fault = RefusesAnyKey before after path fault
 IsRefusal (requests.sign options) before after old new fault = RefusesSign options before after fault
 IsRefusal (requests.verify options) before after old new fault = RefusesVerify options before after fault
 IsRefusal (requests.vectors path workers) before after old new fault = RefusesVectors path before after fault
@@ -174,8 +182,8 @@ limit_of_set (Some set) = seeds_limit set
 limit_of_set None = 0
 
 abbrev pub input_limit : Option Asked → ℕ
-input_limit (Some (requests.root name)) = limit_of_set (set_named name)
-input_limit (Some (requests.keygen options)) = limit_of_set (set_named options.set)
+input_limit (Some (requests.root name)) = limit_of_set (set_of_label name)
+input_limit (Some (requests.keygen options)) = limit_of_set (set_of_label options.set)
 input_limit other = 0
 
 -- none where `clap` refuses the words or shows help, else as many as the command takes

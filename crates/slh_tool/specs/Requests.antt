@@ -59,6 +59,7 @@ pub data Asked : Type 0 where
   keygen : KeygenOptions → Asked
   public : Text → Asked
   check : Text → Asked
+  upgrade : Text → Asked
   sign : SignOptions → Asked
   verify : VerifyOptions → Asked
   vectors : Text → ℕ → Asked
@@ -87,6 +88,7 @@ asked (request.Root name) = root name.now
 asked (request.Keygen words) = keygen (keygen_asked words)
 asked (request.Public path) = public path.now
 asked (request.Check path) = check path.now
+asked (request.Upgrade path) = upgrade path.now
 asked (request.Sign words) = sign (sign_asked words)
 asked (request.Verify words) = verify (verify_asked words)
 asked (request.Vectors path workers) = vectors path.now workers
@@ -135,8 +137,9 @@ asked_of_file name rows =
     else (if bytes_eq name (codes "check") then option_map check (first_of (codes "key") rows)
     else (if bytes_eq name (codes "sign") then sign_in rows
     else (if bytes_eq name (codes "verify") then verify_in rows
+    else (if bytes_eq name (codes "upgrade") then option_map upgrade (first_of (codes "key") rows)
     else (if bytes_eq name (codes "vectors") then vectors_in rows
-    else None))))
+    else None)))))
 
 -- a subcommand, by its name and the rows of its values
 abbrev pub asked_in : Text → List Row → Option Asked

@@ -1,18 +1,19 @@
--- What is said of the parameter sets of the standard.
+-- What is said of parameter sets.
 use Rattle.std.specs.Prelude.{ℕ, List, [], ◌∷◌, ◌++◌, codes}
 use Rattle.std.specs.Fmt.{decimal}
 use Rattle.slh_params.specs.Params.{h, m, pk_len, sk_len, sig_len}
-use Rattle.slh_params.specs.ParamSet.{name, params}
+use Rattle.slh_params.specs.Label.{label}
+use Rattle.slh_params.specs.ParamSet.{params}
 use Rattle.slh_params.specs.declared.param_set.ParamSet.{ParamSet}
 
--- a number of a set, as ` LABEL=NUMBER`
+-- a number of a set, as ` NAME=NUMBER`
 abbrev pub number_text : List ℕ → ℕ → List ℕ
-number_text label x = codes " " ++ label ++ codes "=" ++ decimal x
+number_text name x = codes " " ++ name ++ codes "=" ++ decimal x
 
--- a set's name and the numbers of its hypertree
+-- a set's label and the numbers of its hypertree
 abbrev pub tree_text : ParamSet → List ℕ
 tree_text set = let p = params set in
-    name set ++ (number_text (codes "n") p.n ++ (number_text (codes "h") (h p) ++ (number_text (codes "d") p.d ++ number_text (codes "hp") p.hp)))
+    label set ++ (number_text (codes "n") p.n ++ (number_text (codes "h") (h p) ++ (number_text (codes "d") p.d ++ number_text (codes "hp") p.hp)))
 
 -- the numbers of a set's FORS trees and digests, and the lengths of its keys and signatures in bytes
 abbrev pub length_text : ParamSet → List ℕ

@@ -2,7 +2,8 @@ ghost use Rattle.std.specs.Prelude.{◌≡◌, ◌*◌, ◌++◌, ◌∷◌, [],
 ghost use Rattle.hex.specs.Hex.{encode_lower};
 ghost use Rattle.slh_core.specs.Keys.{public_of};
 ghost use Rattle.slh_devices.specs.Devices.{TakesAtMost};
-ghost use Rattle.slh_params.specs.ParamSet.{params, set_named};
+ghost use Rattle.slh_params.specs.Label.{set_of_label};
+ghost use Rattle.slh_params.specs.ParamSet.{params};
 ghost use Rattle.slh_tool.specs.Keys.{IsGeneratedFrom, RefusesSeedsOf, key_of_seeds};
 ghost use Rattle.slh_tool.specs.Replies.{RefusesKeygen, ShowsRoot, WritesKey, limit_of_set};
 ghost use Rattle.slh_tool.specs.Requests.{keygen_asked};
@@ -29,7 +30,7 @@ pub(crate) fn root<A: Allocator, S: Source>(
 ) -> Result<String<A>, Fault>
     ensures done { IfOk result (λ s. ShowsRoot name.now (S.state input.old) (S.state input.new) (string_bytes s)) }
     ensures refused { IfErr result (RefusesSeedsOf name.now (S.state input.old) (S.state input.new)) }
-    ensures at_most { TakesAtMost (S.state input.old).left (S.state input.new).left (limit_of_set (set_named name.now)) }
+    ensures at_most { TakesAtMost (S.state input.old).left (S.state input.new).left (limit_of_set (set_of_label name.now)) }
 {
     let key = generated(name, input)?;
     Ok(root_line(alloc, &key)?)
@@ -45,9 +46,9 @@ pub(crate) fn keygen<R: Threads + Sync, A: Allocator + Clone + Send + Sync, S: S
 ) -> Result<String<A>, Fault>
     ensures done { IfOk result (λ s. WritesKey (keygen_asked words.entry) (S.state input.old) (S.state input.new) (string_bytes s)) }
     ensures refused { IfErr result (RefusesKeygen (keygen_asked words.entry) (S.state input.old) (S.state input.new)) }
-    ensures at_most { TakesAtMost (S.state input.old).left (S.state input.new).left (limit_of_set (set_named words.entry.set.now)) }
+    ensures at_most { TakesAtMost (S.state input.old).left (S.state input.new).left (limit_of_set (set_of_label words.entry.set.now)) }
 {
-    let Some(set) = ParamSet::from_name(words.set) else {
+    let Some(set) = ParamSet::from_label(words.set.as_bytes()) else {
         return Err(Fault::UnknownSet);
     };
     let cutting = cutting_of(set, words.work)?;
@@ -90,9 +91,9 @@ fn key_by_workers<R: Threads + Sync, A: Allocator + Clone + Send + Sync>(
 fn generated<S: Source>(name: &str, input: &mut S) -> Result<SecretKey, Fault>
     ensures done { IfOk result (IsGeneratedFrom name.now (S.state input.old) (S.state input.new)) }
     ensures refused { IfErr result (RefusesSeedsOf name.now (S.state input.old) (S.state input.new)) }
-    ensures at_most { TakesAtMost (S.state input.old).left (S.state input.new).left (limit_of_set (set_named name.now)) }
+    ensures at_most { TakesAtMost (S.state input.old).left (S.state input.new).left (limit_of_set (set_of_label name.now)) }
 {
-    let Some(set) = ParamSet::from_name(name) else {
+    let Some(set) = ParamSet::from_label(name.as_bytes()) else {
         return Err(Fault::UnknownSet);
     };
     let seeds = read_seeds(set, input)?;

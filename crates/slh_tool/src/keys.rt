@@ -1,14 +1,18 @@
 ghost use Rattle.std.specs.Prelude.{◌≡◌, IfOk, IfErr, OnOk, string_bytes};
 ghost use Rattle.slh_files.specs.declared.key_kind.KeyKind.TheVariants.{Public, Secret};
-ghost use Rattle.slh_tool.specs.Keys.{HoldsKey, RefusesKey};
-ghost use Rattle.slh_tool.specs.Replies.{ChecksKey, WritesPublic};
+ghost use Rattle.slh_files.specs.KeyFile.{any_key_text};
+ghost use Rattle.slh_files.specs.declared.fault.FileFault.TheVariants.{NoMemory};
+ghost use Rattle.slh_tool.specs.Keys.{HoldsAnyKey, HoldsKey, RefusesAnyKey, RefusesKey};
+ghost use Rattle.slh_tool.specs.Replies.{ChecksKey, UpgradesKey, WritesPublic};
 
 use super::fault::Fault;
 use super::reading::read_key_file;
 use super::reply::Reply;
 use slh_core::{PublicKey, SecretKey, check_pair};
 use slh_devices::Files;
-use slh_files::{read_public, read_secret, write_public};
+use slh_files::{
+    AnyKey, FileFault, read_key, read_public, read_secret, write_public, write_secret,
+};
 use std::alloc::Allocator;
 
 /// The key of a secret key file.
@@ -54,6 +58,43 @@ pub(crate) fn public<A: Allocator + Clone, F: Files>(
         return Err(Fault::NoMemory);
     };
     Ok(text)
+}
+
+/// The key file of version 2 of a key file of either kind and version.
+#[inline(never)]
+pub(crate) fn upgrade<A: Allocator + Clone, F: Files>(
+    alloc: A,
+    path: &str,
+    files: &mut F,
+) -> Result<String<A>, Fault>
+    ensures done { IfOk result (λ s. UpgradesKey path.now (F.state files.old) (string_bytes s)) }
+    ensures refused { IfErr result (RefusesAnyKey (F.state files.old) (F.state files.new) path.now) }
+{
+    let key = any_key(alloc.clone()?, files, path)?;
+    let Ok(text) = key_text(alloc, &key) else {
+        return Err(Fault::NoMemory);
+    };
+    Ok(text)
+}
+
+/// The key of a key file of either kind.
+fn any_key<A: Allocator, F: Files>(alloc: A, files: &mut F, path: &str) -> Result<AnyKey, Fault>
+    ensures done { IfOk result (HoldsAnyKey (F.state files.old) path.now) }
+    ensures refused { IfErr result (RefusesAnyKey (F.state files.old) (F.state files.new) path.now) }
+{
+    let bytes = read_key_file(alloc, files, path)?;
+    Ok(read_key(bytes.as_slice())?)
+}
+
+/// The key file of a key of either kind.
+fn key_text<A: Allocator + Clone>(alloc: A, key: &AnyKey) -> Result<String<A>, FileFault>
+    ensures written { IfOk result (λ text. string_bytes text ≡ any_key_text key.now) }
+    ensures memory { IfErr result (λ fault. fault ≡ NoMemory) }
+{
+    match key {
+        AnyKey::Public(key) => write_public(alloc, key),
+        AnyKey::Secret(key) => write_secret(alloc, key),
+    }
 }
 
 /// Whether PK.root in a secret key file is the root that the seeds give.

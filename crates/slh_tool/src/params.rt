@@ -11,7 +11,7 @@ pub(crate) fn named_set<A: Allocator + Clone>(alloc: A, name: &str) -> Result<St
     ensures done { IfOk result (λ s. ShowsSets (Some name.now) (string_bytes s)) }
     ensures refused { IfErr result (RefusesSets (Some name.now)) }
 {
-    let Some(set) = ParamSet::from_name(name) else {
+    let Some(set) = ParamSet::from_label(name.as_bytes()) else {
         return Err(Fault::UnknownSet);
     };
     Ok(set_lines(alloc, &[set])?)

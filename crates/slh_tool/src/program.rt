@@ -12,7 +12,7 @@ ghost use Rattle.slh_tool.specs.declared.fault.Fault.TheVariants.{WriteFailed};
 use super::cuts::workers_of;
 use super::fault::Fault;
 use super::generate::{keygen, root};
-use super::keys::{check, public};
+use super::keys::{check, public, upgrade};
 use super::params::{all_sets, named_set};
 use super::reply::Reply;
 use super::request::{Refusal, Request, parsed};
@@ -126,6 +126,7 @@ fn run<R: AllocGlobal + Threads + Sync, A: Allocator + Clone + Send + Sync, F: F
         Request::Keygen(words) => Ok(Reply::text(keygen(rt, alloc, words, input)?)),
         Request::Public(path) => Ok(Reply::text(public(alloc, path, files)?)),
         Request::Check(path) => check(alloc, path, files),
+        Request::Upgrade(path) => Ok(Reply::text(upgrade(alloc, path, files)?)),
         Request::Sign(words) => Ok(Reply::done(sign_file(rt, alloc, words, files)?)),
         Request::Verify(words) => verify_file(alloc, words, files),
         Request::Vectors(path, workers) => run_file(rt, alloc, path, workers_of(workers), files),

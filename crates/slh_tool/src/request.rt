@@ -15,6 +15,7 @@ pub(crate) enum Request<'a> {
     Keygen(KeygenWords<'a>),
     Public(&'a str),
     Check(&'a str),
+    Upgrade(&'a str),
     Sign(SignWords<'a>),
     Verify(VerifyWords<'a>),
     Vectors(&'a str, u8),
@@ -133,6 +134,8 @@ fn request_of_file<'a>(name: &str, values: &ArgMatches<'a>) -> Option<Request<'a
         sign_request(values)
     } else if name == "verify" {
         verify_request(values)
+    } else if name == "upgrade" {
+        Some(Request::Upgrade(value(values, "key")?))
     } else if name == "vectors" {
         vectors_request(values)
     } else {

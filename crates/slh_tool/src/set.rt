@@ -4,12 +4,13 @@ ghost use Rattle.slh_tool.specs.Sets.{length_text, line, lines, tree_text};
 use slh_params::ParamSet;
 use std::alloc::{AllocError, Allocator};
 
-/// The name of a set and the numbers of its hypertree.
+/// The label of a set and the numbers of its hypertree.
 fn tree_text<A: Allocator>(alloc: A, set: ParamSet) -> Result<String<A>, AllocError>
     ensures { IfOk result (λ s. string_bytes s ≡ tree_text set) }
 {
-    let (name, n, h, d, hp) = (set.name(), set.n(), set.h(), set.d(), set.hp());
-    format!(in alloc; "{name} n={n} h={h} d={d} hp={hp}")
+    let label = set.label();
+    let (label, n, h, d, hp) = (label.as_str(), set.n(), set.h(), set.d(), set.hp());
+    format!(in alloc; "{label} n={n} h={h} d={d} hp={hp}")
 }
 
 /// The numbers of a set's FORS trees and digests, and the lengths of its keys and signatures.

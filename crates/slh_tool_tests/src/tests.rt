@@ -10,6 +10,7 @@ mod own_files;
 mod roots;
 mod sets;
 mod vectors;
+mod versions;
 mod words;
 mod workers;
 

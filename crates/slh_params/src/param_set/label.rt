@@ -2,7 +2,7 @@
 ghost use Rattle.std.specs.Prelude.{◌≡◌, ℕ, ◌+◌, ◌<◌, ◌≤◌, List, [], ◌∷◌, ◌++◌, ◌↔◌, length, slice_index, Some, IsNone, IfSome, IsTrue};
 ghost use Rattle.std.specs.Fmt.{decimal};
 ghost use Rattle.arrayvec.specs.ArrayString.{array_string_len};
-ghost use Rattle.slh_params.specs.Label.{label, listed, IsAtFront};
+ghost use Rattle.slh_params.specs.Label.{label, listed, set_of_label, IsAtFront};
 ghost use Rattle.slh_params.specs.ParamSet.{params, name, IsStandard};
 
 use super::ParamSet;
@@ -11,7 +11,7 @@ use std::str;
 
 impl ParamSet {
     /// The name of a set of the standard; of any other set, `custom:` and n, lg_w, hp, d, a and k in decimal, with commas
-    /// between them. It has at most 24 bytes.
+    /// between them. It has at most 22 bytes.
     pub fn label(&self) -> ArrayString<32>
         ensures { result.bytes ≡ label self.now }
     {
@@ -33,6 +33,7 @@ impl ParamSet {
     /// The set of this label; `None` where the bytes are no set's label. So a number has no sign, space or leading zero, and
     /// a set of the standard goes by its name alone.
     pub fn from_label(text: &[u8]) -> Option<ParamSet>
+        ensures labelled { result ≡ set_of_label text.now }
         ensures some { IfSome result (λ set. label set ≡ text.now) }
         ensures found { (set : ParamSet) → label set ≡ text.now → result ≡ Some set }
         ensures none { IsNone result → (set : ParamSet) → label set ≡ text.now → ⊥ }

@@ -8,7 +8,7 @@ use std::process::Abort;
 use std::test::Fail;
 use std::thread::Threads;
 
-/// The file of the public key of the bytes 0 to 31 under SLH-DSA-SHA2-128f.
+/// The file of version 1 of the public key of the bytes 0 to 31 under SLH-DSA-SHA2-128f.
 const COUNTING: &[u8; 100] =
     b"slh-dsa-public 1\nSLH-DSA-SHA2-128f\n000102030405060708090a0b0c0d0e0f101112131415161718191a1b1c1d1e1f\n";
 
@@ -28,6 +28,13 @@ fn number_of(answer: &Answer) -> u8 {
         }
     }
     255
+}
+
+/// The same file of another version.
+fn with_version(version: u8) -> [u8; 100] {
+    let mut file = *COUNTING;
+    file[15] = version;
+    file
 }
 
 /// What `verify` says of a public key file and of an empty signature: the number of its refusal, or 0 and `invalid`.
@@ -57,31 +64,38 @@ fn cut_number(len: usize, end: usize) -> u8 {
 
 #[test]
 fn refuses_a_public_key_file_cut_short(rt: HostRuntime) -> Result<(), Fail> {
-    for len in 0..=100 {
-        let number = verify_number(&rt, &COUNTING[..len])?;
-        assert_eq!(rt; number, cut_number(len, 99), "{len} bytes");
+    for version in b"12" {
+        let file = with_version(*version);
+        for len in 0..=100 {
+            let number = verify_number(&rt, &file[..len])?;
+            assert_eq!(rt; number, cut_number(len, 99), "{len} bytes");
+        }
     }
     Ok(())
 }
 
 #[test]
 fn refuses_a_public_key_file_with_a_byte_replaced(rt: HostRuntime) -> Result<(), Fail> {
-    for place in 0..100 {
-        let number = match place {
-            0..=16 => 11,
-            17..=34 => 12,
-            _ => 13,
-        };
-        let mut file = *COUNTING;
-        file[place] = 255;
-        assert_eq!(rt; verify_number(&rt, &file)?, number, "at {place}");
+    for version in b"12" {
+        for place in 0..100 {
+            let number = match place {
+                0..=16 => 11,
+                17..=34 => 12,
+                _ => 13,
+            };
+            let mut file = with_version(*version);
+            file[place] = 255;
+            assert_eq!(rt; verify_number(&rt, &file)?, number, "at {place}");
+        }
     }
     Ok(())
 }
 
-#[test]
-fn refuses_a_secret_key_file_cut_short(rt: HostRuntime) -> Result<(), Fail> {
-    let secret = secret_key(&rt)?;
+/// `check` over each part of a secret key file from its start.
+fn checks_each_front<R: Abort + AllocGlobal + Threads + Sync>(
+    rt: &R,
+    secret: &[u8],
+) -> Result<(), Fail> {
     assert_eq!(rt; secret.len(), 164);
     for len in 0..=164 {
         let number = cut_number(len, 163);
@@ -90,12 +104,21 @@ fn refuses_a_secret_key_file_cut_short(rt: HostRuntime) -> Result<(), Fail> {
         } else {
             (2, b"".as_slice())
         };
-        let answer = check_known(&rt, &secret.as_slice()[..len.min(secret.len())])?;
+        let answer = check_known(rt, &secret[..len.min(secret.len())])?;
         assert_eq!(rt; number_of(&answer), number, "{len} bytes");
         assert_eq!(rt; answer.output.as_slice(), output, "{len} bytes");
         assert_eq!(rt; answer.status, status);
     }
     Ok(())
+}
+
+#[test]
+fn refuses_a_secret_key_file_cut_short(rt: HostRuntime) -> Result<(), Fail> {
+    let mut secret = secret_key(&rt)?;
+    checks_each_front(&rt, secret.as_slice())?;
+    assert_eq!(rt; secret.as_slice().get(15), Some(&b'2'));
+    secret[15] = b'1';
+    checks_each_front(&rt, secret.as_slice())
 }
 
 #[test]
@@ -108,7 +131,8 @@ fn reads_the_lines_of_a_public_key_file(rt: HostRuntime) -> Result<(), Fail> {
         (kind, name, digits, "", 0),
         (kind, name, upper.as_str(), "\n", 0),
         ("slh-dsa-secret 1\n", name, digits, "\n", 11),
-        ("slh-dsa-public 2\n", name, digits, "\n", 11),
+        ("slh-dsa-public 2\n", name, digits, "\n", 0),
+        ("slh-dsa-public 3\n", name, digits, "\n", 11),
         (kind, "SLH-DSA-SHAKE-128f\n", digits, "\n", 12),
         (kind, "SLH-DSA-SHA2-128f", "", "", 12),
         (kind, name, digits, "g", 13),

@@ -39,14 +39,22 @@ fn judges_options_before_the_message(rt: HostRuntime) -> Result<(), Fail> {
 
 #[test]
 fn judges_the_key_file_before_options(rt: HostRuntime) -> Result<(), Fail> {
-    let cases: [(&[u8], &[u8]); 4] = [
+    let cases: [(&[u8], &[u8]); 6] = [
         (
-            b"slh-dsa-secret 2\nSLH-DSA-SHA2-128f\n00\n",
+            b"slh-dsa-secret 3\nSLH-DSA-SHA2-128f\n00\n",
             b"slh: 11 NotAKeyFile\n",
         ),
         (
             b"slh-dsa-secret 1\nSLH-DSA-SHAKE-128f\n",
             b"slh: 12 UnknownSet\n",
+        ),
+        (
+            b"slh-dsa-secret 1\ncustom:16,2,1,1,1,1\n",
+            b"slh: 12 UnknownSet\n",
+        ),
+        (
+            b"slh-dsa-secret 2\ncustom:16,2,1,1,1,1\n",
+            b"slh: 14 BadKeyLength\n",
         ),
         (
             b"slh-dsa-secret 1\nSLH-DSA-SHA2-128f\n0g\n",

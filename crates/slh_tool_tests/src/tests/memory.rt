@@ -56,7 +56,7 @@ fn refuses_each_growth_and_then_works(rt: HostRuntime) -> Result<(), Fail> {
         ("sig", b"no signature".as_slice()),
         ("tests", NOT_VALID),
     ];
-    let commands: [&[&str]; 12] = [
+    let commands: [&[&str]; 14] = [
         &["params"],
         &["params", set[0], set[1]],
         &["root", set[0], set[1]],
@@ -73,6 +73,8 @@ fn refuses_each_growth_and_then_works(rt: HostRuntime) -> Result<(), Fail> {
         ],
         &["public", "--key", "secret"],
         &["check", "--key", "secret"],
+        &["upgrade", "--key", "secret"],
+        &["upgrade", "--key", "public"],
         &SIGN,
         sign_shared.as_slice(),
         &VERIFY,

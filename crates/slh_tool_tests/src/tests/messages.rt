@@ -6,9 +6,13 @@ use slh_devices::Reader;
 use std::test::Fail;
 use std::thread::Threads;
 
-/// The key files of SLH-DSA-SHA2-128f and the seeds 00, 01, 02, .. , the second as another implementation has it.
-pub(super) const PUBLIC: &[u8] =
+/// The public key of SLH-DSA-SHA2-128f and the seeds 00, 01, 02, .. as another implementation has it, in a file of version
+/// 1 and in one of version 2.
+pub(super) const PUBLIC_1: &[u8] =
     b"slh-dsa-public 1\nSLH-DSA-SHA2-128f\n202122232425262728292a2b2c2d2e2f3b56e816847f000386aeec2e2bb9e1b5\n";
+
+pub(super) const PUBLIC: &[u8] =
+    b"slh-dsa-public 2\nSLH-DSA-SHA2-128f\n202122232425262728292a2b2c2d2e2f3b56e816847f000386aeec2e2bb9e1b5\n";
 
 /// Options of `sign` for the message "abc", and SHA-256 of the signature, as another implementation makes it.
 pub(super) const SIGNATURES: [(&[&str], &str); 5] = [
@@ -74,7 +78,7 @@ pub(super) const VERIFY: [&str; 7] = [
 #[test]
 fn writes_key_files(rt: HostRuntime) -> Result<(), Fail> {
     let secret = secret_key(&rt)?;
-    let lines = b"slh-dsa-secret 1\nSLH-DSA-SHA2-128f\n000102030405060708090a0b0c0d0e0f101112";
+    let lines = b"slh-dsa-secret 2\nSLH-DSA-SHA2-128f\n000102030405060708090a0b0c0d0e0f101112";
     assert!(rt; secret.as_slice().starts_with(lines));
     assert_eq!(rt; secret.len(), 164);
     assert_eq!(rt; &secret.as_slice()[99..], &PUBLIC[35..]);

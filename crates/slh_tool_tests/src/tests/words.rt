@@ -9,8 +9,29 @@ const LAST_LINE: &[u8] =
 
 #[test]
 fn answers_or_refuses_words(rt: HostRuntime) -> Result<(), Fail> {
-    let cases: [(&[&str], &[u8], &[u8]); 9] = [
+    let cases: [(&[&str], &[u8], &[u8]); 14] = [
         (&["params", "--set", "SLH-DSA-SHA2-256f"], LAST_LINE, b""),
+        (
+            &["params", "--set", "custom:16,2,1,1,1,1"],
+            b"custom:16,2,1,1,1,1 n=16 h=1 d=1 hp=1 a=1 k=1 m=2 pk=32 sk=64 sig=1152\n",
+            b"",
+        ),
+        (
+            &["params", "--set", "custom:32,4,4,17,9,35"],
+            b"",
+            b"slh: 12 UnknownSet\n",
+        ),
+        (
+            &["root", "--set", "custom:16,2,13,1,1,1"],
+            b"",
+            b"slh: 12 UnknownSet\n",
+        ),
+        (
+            &["keygen", "--set", "custom:16,02,1,1,1,1"],
+            b"",
+            b"slh: 12 UnknownSet\n",
+        ),
+        (&["upgrade"], b"", b"slh: 31 BadWords\n"),
         (
             &["params", "--set", "slh-dsa-sha2-256f"],
             b"",

@@ -16,5 +16,8 @@ returns-in_ok-keygen-in-Keygen-clause-done g c = rw (c.in-Keygen.is, c.text-in-K
 pub returns-in_ok-public-in-Public-clause-done : goal.returns-in_ok-public-in-Public-clause-done
 returns-in_ok-public-in-Public-clause-done g c = rw (c.in-Public.is, c.text-in-Public.ensures.status, c.text-in-Public.ensures.output) (refl, c.in_ok-public-in-Public.ensures.done)
 
+pub returns-in_ok-upgrade-in-Upgrade-clause-done : goal.returns-in_ok-upgrade-in-Upgrade-clause-done
+returns-in_ok-upgrade-in-Upgrade-clause-done g c = rw (c.in-Upgrade.is, c.text-in-Upgrade.ensures.status, c.text-in-Upgrade.ensures.output) (refl, c.in_ok-upgrade-in-Upgrade.ensures.done)
+
 pub returns-in_ok-sign_file-in-Sign-clause-done : goal.returns-in_ok-sign_file-in-Sign-clause-done
 returns-in_ok-sign_file-in-Sign-clause-done g c = rw (c.in-Sign.is, c.done.ensures.status, c.done.ensures.output) (refl, c.in_ok-sign_file-in-Sign.ensures.done)
