@@ -1,4 +1,5 @@
 pub mod Apart
+pub mod Kept
 pub mod Merging
 pub mod Numbering
 pub mod Parts
