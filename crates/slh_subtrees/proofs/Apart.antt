@@ -1,7 +1,6 @@
 -- The answers of all jobs, with the covers, the records and the kept chains apart.
-use Rattle.std.proofs.Common.{◌≡◌, ℕ, ◌<◌, List, [], Some, None, length, map, get_or, arith, sym, ◌∙◌, ap, subst}
+use Rattle.std.proofs.Common.{◌≡◌, ℕ, ◌<◌, List, [], Option, Some, None, length, map, get_or, arith, sym, ◌∙◌, ap, subst}
 use Rattle.std.specs.List.{slice_get}
-use Rattle.std.specs.Option.{Option}
 use Rattle.std.proofs.lemmas.List.{get_or-map, length-map}
 use Rattle.std.proofs.lemmas.Option.{slice_get_within}
 use Rattle.slh_tree.specs.Record.{KnownPath}

@@ -1,7 +1,6 @@
 -- What the jobs keep of chains: the layers' own, and of each layer something.
-use Rattle.std.proofs.Common.{◌≡◌, ℕ, zero, suc, ◌+◌, ◌^◌, ◌<◌, ◌≤◌, List, [], ◌∷◌, ◌++◌, Some, None, Bool, true, false, ◌&&◌, if◌then◌else◌, length, get_or, refl, arith, sym, ◌∙◌, ap, subst, inl, inr}
+use Rattle.std.proofs.Common.{◌≡◌, ℕ, zero, suc, ◌+◌, ◌^◌, ◌<◌, ◌≤◌, List, [], ◌∷◌, Option, Some, None, Bool, true, false, ◌&&◌, if◌then◌else◌, length, get_or, refl, arith, sym, ◌∙◌, ap, subst, inl, inr}
 use Rattle.std.specs.List.{slice_get, flat_map, All, Contains}
-use Rattle.std.specs.Option.{Option}
 use Rattle.std.proofs.lemmas.Bool.{cases_lt, lt-ltb, le-leb}
 use Rattle.std.proofs.lemmas.List.{get_or-map, length-map}
 use Rattle.std.proofs.lemmas.List.Elements.{All-append, All-push, All-contains, Contains-append_left, Contains-append_right}
@@ -16,7 +15,7 @@ use Rattle.slh_cutting.specs.declared.range.JobTree.TheVariants.{Xmss, Fors}
 use Rattle.slh_cutting.specs.declared.range.JobRange.{JobRange}
 use Rattle.slh_cutting.proofs.Numbered.{slice_get-tree}
 use Rattle.slh_workers.specs.Answers.{Covers, InPlace, numbers}
-use Rattle.slh_subtrees.specs.Answers.{chains_in, signs_in, kept_in, kept_by, leaf_in, as_list}
+use Rattle.slh_subtrees.specs.Answers.{chains_in, signs_in, kept_in, leaf_in, as_list}
 use Rattle.slh_subtrees.specs.declared.signing_trees.SigningTrees.{SigningTrees}
 use Rattle.slh_subtrees.specs.SigningTrees.{AreChains}
 use Rattle.slh_subtrees.proofs.Apart.{Answer, AllRight, nothing}

@@ -1,4 +1,5 @@
 pub mod Apart
+pub mod Hashed
 pub mod Kept
 pub mod Merging
 pub mod Numbering

@@ -49,6 +49,8 @@ pub fn join_trees<R: Threads + Sync, A: Allocator + Clone + Send + Sync, G: Gate
     let places = alloc.clone().map_err(NoMemory::from)?;
     let answers = run_all(rt, alloc, &work, workers, gate)?;
     let (covers, records, kept) = apart(parts, answers)?;
+    // For the prover: the ranges lie end to end, so that each signing leaf is in one of them.
+    let _ranges = cutting.xmss_ranges();
     let chains = by_number(layers, cutting.set().d(), kept)?;
     let trees = trees_of_ranges(places, trees, cutting, &covers, &records)?;
     Ok(JoinedTrees { trees, chains })

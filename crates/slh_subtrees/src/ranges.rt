@@ -28,7 +28,7 @@ impl<'w, 's, A: Allocator + Clone + Send + Sync> Work for TreeRanges<'w, 's, A> 
     ghost is_right = { λ w n x. (job : JobRange)
         → slice_get (signing_jobs w.cutting.now) n ≡ Some job
         → IsAnswer w.trees.now job x.0.cover x.0.path × (x.1 ≡ kept_by w.trees.now job)
-            × IsTreeOf (params w.trees.now.seeds.set) job.tree };
+        × IsTreeOf (params w.trees.now.seeds.set) job.tree };
 
     fn count(&self) -> u32 {
         sign_jobs(self.cutting)
