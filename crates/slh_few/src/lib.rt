@@ -24,5 +24,5 @@ pub use hypertree::{MOST_LAYERS, ht_sign, ht_verify, layer_place, layer_places, 
 pub use kept_chains::{kept_chains_len, wots_pk_keeping, wots_sign_kept};
 pub use place::{Place, Public, Seeds};
 pub use ranges::{fors_range, xmss_range, xmss_range_keeping};
-pub use wots::{MOST_WOTS_SIG_LEN, chain, wots_pk, wots_pk_from_sig, wots_sig_len, wots_sign};
+pub use wots::{chain, wots_pk, wots_pk_from_sig, wots_sig_len, wots_sign};
 pub use xmss::{XmssTree, xmss_pk_from_sig, xmss_sign};

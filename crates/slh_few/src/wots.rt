@@ -103,13 +103,10 @@ pub fn wots_pk(seeds: &Seeds, at: Place) -> Node
     ends.finish()
 }
 
-/// The most bytes of a WOTS+ signature in any set.
-pub const MOST_WOTS_SIG_LEN: usize = 4256;
-
 /// The length of a signature: len * n bytes.
 pub fn wots_sig_len(set: ParamSet) -> usize
     ensures value { result ≡ wots_sig_len (params set) }
-    ensures small { result ≤ MOST_WOTS_SIG_LEN }
+    ensures small { result ≤ 4256 }
 {
     set.len() * set.n()
 }

@@ -7,7 +7,6 @@ use Rattle.slh_tree.specs.Tree.{MerkleTree, root}
 use Rattle.slh_tree.specs.Climb.{path}
 use Rattle.slh_few.specs.Fors.{fors_tree, fors_secret, fors_sig, compressed_roots}
 use Rattle.slh_few.specs.Hypertree.{layer_place, signed_at, ht_sig}
-use Rattle.slh_few.specs.KeptChains.{kept_chains}
 use Rattle.slh_few.specs.Wots.{wots_sig}
 use Rattle.slh_few.specs.Xmss.{xmss_tree}
 use Rattle.slh_subtrees.specs.SigningTrees.{AreJoined, AreChains}
@@ -59,10 +58,7 @@ ht_sig_in s m = ht_sig (params_of s) s.seeds.sk_seed.now s.seeds.pk_seed.now m s
 abbrev pub signed_in : SigningTrees → List ℕ → ℕ → List ℕ
 signed_in s m l = signed_at (params_of s) s.seeds.sk_seed.now s.seeds.pk_seed.now m s.idx_tree s.idx_leaf l
 
--- what is kept of the chains of the key that signs on layer l, and of those of all layers
-abbrev pub layer_chains_in : SigningTrees → ℕ → List ℕ
-layer_chains_in s l = kept_chains (params_of s) s.seeds.sk_seed.now s.seeds.pk_seed.now (layer_place (params_of s) s.idx_tree s.idx_leaf l)
-
+-- what is kept of the chains of the key that signs on each layer
 abbrev pub AreChainsOf : SigningTrees → List (List ℕ) → Type 0
 AreChainsOf s xs = AreChains (params_of s) s.seeds.sk_seed.now s.seeds.pk_seed.now s.idx_tree s.idx_leaf xs
 

@@ -2,8 +2,9 @@
 ghost use Rattle.std.specs.Prelude.{◌≡◌, ◌+◌, ◌^◌, ◌<◌, ◌≤◌, ◌++◌, length, take};
 ghost use Rattle.slh_few.specs.Fors.{fors_part_len};
 ghost use Rattle.slh_few.specs.Xmss.{xmss_sig_len};
+ghost use Rattle.slh_subtrees.specs.Answers.{chains_in};
 ghost use Rattle.slh_subtrees.specs.Joined.{IsJoined};
-ghost use Rattle.slh_par.specs.Parts.{params_of, fors_tree_in, fors_part_in, layer_tree_in, layer_leaf_in, layer_chains_in, layer_part_in};
+ghost use Rattle.slh_par.specs.Parts.{params_of, fors_tree_in, fors_part_in, layer_tree_in, layer_leaf_in, layer_part_in};
 
 use crate::path_bytes::put_path;
 use slh_few::{fors_part_len, fors_secret, wots_sig_len, wots_sign_kept, xmss_sig_len};
@@ -61,7 +62,7 @@ fn layer_part(
 )
     requires layer { layer < (params_of trees.now).d }
     requires msg { length msg.now.items ≡ (params_of trees.now).n }
-    requires kept { kept.now ≡ layer_chains_in trees.now layer }
+    requires kept { kept.now ≡ chains_in trees.now layer }
     requires joined { IsJoined (layer_tree_in trees.now layer) (layer_leaf_in trees.now layer) joined.now }
     requires out { length out.old ≡ xmss_sig_len (params_of trees.now) }
     ensures { out.new ≡ layer_part_in trees.now layer msg.now.items }
@@ -84,7 +85,7 @@ pub(crate) fn put_layer_part(
 )
     requires layer { layer < (params_of trees.now).d }
     requires msg { length msg.now.items ≡ (params_of trees.now).n }
-    requires kept { kept.now ≡ layer_chains_in trees.now layer }
+    requires kept { kept.now ≡ chains_in trees.now layer }
     requires joined { IsJoined (layer_tree_in trees.now layer) (layer_leaf_in trees.now layer) joined.now }
     requires out { start + xmss_sig_len (params_of trees.now) ≤ length out.old }
     ensures { take (start + xmss_sig_len (params_of trees.now)) out.new ≡ take start out.old ++ layer_part_in trees.now layer msg.now.items }
