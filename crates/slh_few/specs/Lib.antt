@@ -1,5 +1,6 @@
 pub mod Parts
 pub mod Wots
+pub mod KeptChains
 pub mod Xmss
 pub mod Hypertree
 pub mod Fors

@@ -5,6 +5,16 @@ ghost use Rattle.slh_few.specs.Parts.{part};
 
 use slh_params::{Node, node_of};
 
+/// Part number `index` of the bytes, which are parts of one size.
+pub(crate) fn part_at(bytes: &[u8], size: usize, index: usize) -> &[u8]
+    requires { index * size + size ≤ length bytes.now }
+    ensures value { result.now ≡ part size bytes.now index }
+    ensures len { length result.now ≡ size }
+{
+    let start = index * size;
+    &bytes[start..start + size]
+}
+
 /// Node number `index` of the bytes, which are nodes of one size.
 pub(crate) fn node_at(bytes: &[u8], size: usize, index: usize) -> Node
     requires size { size ≤ 32 }
@@ -12,8 +22,7 @@ pub(crate) fn node_at(bytes: &[u8], size: usize, index: usize) -> Node
     ensures value { result.items ≡ part size bytes.now index }
     ensures len { length result.items ≡ size }
 {
-    let start = index * size;
-    node_of(&bytes[start..start + size])
+    node_of(part_at(bytes, size, index))
 }
 
 /// The node's bytes.

@@ -1,14 +1,16 @@
 //! The covers of ranges of leaves of the two kinds of trees, for a tree that several calls share.
-ghost use Rattle.std.specs.Prelude.{◌≡◌, ◌^◌, ◌≤◌, ◌<◌};
+ghost use Rattle.std.specs.Prelude.{◌≡◌, ◌^◌, ◌≤◌, ◌<◌, length};
 ghost use Rattle.slh_params.specs.ParamSet.{params};
 ghost use Rattle.slh_tree.specs.Cover.{IsCover};
 ghost use Rattle.slh_tree.specs.Record.{Gains, LiesInRange};
+ghost use Rattle.slh_few.specs.KeptChains.{kept_chains_len, kept_chains};
 ghost use Rattle.slh_few.specs.Xmss.{xmss_tree};
 ghost use Rattle.slh_few.specs.Fors.{fors_tree};
 
 use crate::fors_tree::SeededForsTree;
-use crate::place::Seeds;
-use crate::xmss::SeededXmssTree;
+use crate::kept_chains::wots_pk_keeping;
+use crate::place::{Place, Seeds};
+use crate::xmss::{KnownLeafTree, SeededXmssTree};
 use slh_hash::{SeededHash, SeededTreeHash};
 use slh_tree::{Cover, PathRec, hash_range};
 
@@ -29,6 +31,37 @@ pub fn xmss_range(seeds: &Seeds, layer: u8, tree: u64, lo: u32, hi: u32, rec: &m
         Gains (xmss_tree p sk pk layer tree) (LiesInRange lo hi rec.old.leaf) rec.old rec.new }
 {
     hash_range(&SeededXmssTree::new(seeds, layer, tree), lo, hi, rec)
+}
+
+/// What `xmss_range` gives, of the tree over a place. The leaf at the place is made with `wots_pk_keeping`, which writes
+/// `kept_chains_len` bytes into `kept`; where it lies in the range, no other chains are computed.
+#[tactic(auto, unfolding(crate::specs::Trees::xmss_tree_of))]
+pub fn xmss_range_keeping(
+    seeds: &Seeds,
+    at: Place,
+    lo: u32,
+    hi: u32,
+    kept: &mut [u8],
+    rec: &mut PathRec,
+) -> Cover
+    requires order { lo < hi }
+    requires within { hi ≤ 2 ^ (params seeds.now.set).hp }
+    requires same_height { rec.old.height ≡ (params seeds.now.set).hp }
+    requires kept { length kept.old ≡ kept_chains_len (params seeds.now.set) }
+    ensures cover { let p = params seeds.now.set in let sk = seeds.now.sk_seed.now in
+        let pk = seeds.now.pk_seed.now in
+        IsCover (xmss_tree p sk pk at.layer at.tree) lo hi result.nodes.items }
+    ensures lo { result.lo ≡ lo }
+    ensures hi { result.hi ≡ hi }
+    ensures gained { let p = params seeds.now.set in let sk = seeds.now.sk_seed.now in
+        let pk = seeds.now.pk_seed.now in
+        Gains (xmss_tree p sk pk at.layer at.tree) (LiesInRange lo hi rec.old.leaf) rec.old rec.new }
+    ensures kept { let p = params seeds.now.set in let sk = seeds.now.sk_seed.now in
+        let pk = seeds.now.pk_seed.now in
+        kept.new ≡ kept_chains p sk pk at }
+{
+    let leaf = wots_pk_keeping(seeds, at, kept);
+    hash_range(&KnownLeafTree::new(seeds, at, leaf), lo, hi, rec)
 }
 
 /// The cover of the leaves from `lo` to `hi`, `hi` left out, of FORS tree `tree_no` of the key at leaf `idx_leaf` of

@@ -14,7 +14,7 @@ use slh_hash::{SeededHash, TStream};
 use slh_params::{Adrs, AdrsType, Node, ParamSet, copy_of, put_node};
 
 /// The WOTS+ address of a type at a place: a chain, and a step of it.
-fn wots_adrs(at: Place, kind: AdrsType, chain: u32, hash: u32) -> Adrs
+pub(crate) fn wots_adrs(at: Place, kind: AdrsType, chain: u32, hash: u32) -> Adrs
     ensures { result ≡ wots_address at (type_number kind) chain hash }
 {
     let mut adrs = Adrs::zero();
@@ -28,10 +28,17 @@ fn wots_adrs(at: Place, kind: AdrsType, chain: u32, hash: u32) -> Adrs
 }
 
 /// The most steps of a chain in any set: w is at most 256.
-const MOST_STEPS: u32 = 255;
+pub(crate) const MOST_STEPS: u32 = 255;
 
 /// Runs chain `c` on from `x`, which is its value after `from` steps.
-fn run_chain(seeded: &SeededHash, at: Place, c: u32, x: Node, from: u32, steps: u32) -> Node
+pub(crate) fn run_chain(
+    seeded: &SeededHash,
+    at: Place,
+    c: u32,
+    x: Node,
+    from: u32,
+    steps: u32,
+) -> Node
     requires { from + steps ≤ MOST_STEPS }
     ensures value { (p : Params) (pk : List ℕ) → IsSeeded seeded.now p pk → result.items
         ≡ chain_of p pk at c x.items from steps }
@@ -64,7 +71,7 @@ pub fn chain(public: &Public, at: Place, chain_no: u32, x: &Node, from: u32, ste
 }
 
 /// The value of chain `c` after `steps` steps from its secret.
-fn run_secret(seeded: &SeededHash, sk_seed: &[u8], at: Place, c: u32, steps: u32) -> Node
+pub(crate) fn run_secret(seeded: &SeededHash, sk_seed: &[u8], at: Place, c: u32, steps: u32) -> Node
     requires { steps ≤ MOST_STEPS }
     ensures value { (p : Params) (pk : List ℕ) → IsSeeded seeded.now p pk
         → result.items ≡ chain_of p pk at c (secret p sk_seed.now pk at c) 0 steps }
@@ -96,13 +103,10 @@ pub fn wots_pk(seeds: &Seeds, at: Place) -> Node
     ends.finish()
 }
 
-/// The most bytes of a WOTS+ signature in any set.
-pub const MOST_WOTS_SIG_LEN: usize = 4256;
-
 /// The length of a signature: len * n bytes.
 pub fn wots_sig_len(set: ParamSet) -> usize
     ensures value { result ≡ wots_sig_len (params set) }
-    ensures small { result ≤ MOST_WOTS_SIG_LEN }
+    ensures small { result ≤ 4256 }
 {
     set.len() * set.n()
 }

@@ -6,12 +6,14 @@ ghost use Rattle.slh_params.specs.Params.{len};
 ghost use Rattle.slh_params.specs.ParamSet.{params};
 ghost use Rattle.slh_hash.specs.Stream.{IsSeededTree};
 ghost use Rattle.slh_tree.specs.Tree.{root as root_of};
+ghost use Rattle.slh_few.specs.Trees.{xmss_tree_of};
+ghost use Rattle.slh_few.specs.Wots.{wots_pk};
 ghost use Rattle.slh_few.specs.Xmss.{xmss_tree, xmss_sig, xmss_pk_from_sig, xmss_sig_len};
 
 use crate::place::{Place, Public, Seeds};
 use crate::wots::{wots_pk, wots_pk_from_sig, wots_sign};
 use slh_hash::SeededTreeHash;
-use slh_params::{Adrs, AdrsType, Node};
+use slh_params::{Adrs, AdrsType, Node, copy_of};
 use slh_tree::{Tree, climb, path};
 
 /// One tree of a layer of the hypertree. Its leaves are WOTS+ public keys (Algorithm 9).
@@ -136,6 +138,56 @@ impl<'a> Tree for SeededXmssTree<'a> {
     #[tactic(auto, unfolding(crate::specs::Trees::xmss_tree_of))]
     fn join(&self, z: u32, i: u32, l: &Node, r: &Node) -> Node {
         self.tree.join_from(&self.joins, z, i, l, r)
+    }
+}
+
+/// An XMSS tree of which one leaf was made before.
+#[derive(Drop)]
+pub(crate) struct KnownLeafTree<'a> {
+    tree: SeededXmssTree<'a>,
+    pair: u32,
+    leaf: Node,
+    ghost own: { leaf.items ≡ (xmss_tree_of tree.tree).leaf pair },
+}
+
+impl<'a> KnownLeafTree<'a> {
+    /// The tree over a place, whose leaf there is `leaf`.
+    #[tactic(auto, unfolding(crate::specs::Trees::xmss_tree_of))]
+    pub(crate) fn new(seeds: &Seeds<'a>, at: Place, leaf: Node) -> Self
+        requires { let p = params seeds.now.set in let sk = seeds.now.sk_seed.now in
+            let pk = seeds.now.pk_seed.now in
+            leaf.items ≡ wots_pk p sk pk at }
+        ensures { let p = params seeds.now.set in let sk = seeds.now.sk_seed.now in
+            let pk = seeds.now.pk_seed.now in
+            xmss_tree_of result.tree.tree ≡ xmss_tree p sk pk at.layer at.tree }
+    {
+        let tree = SeededXmssTree::new(seeds, at.layer, at.tree);
+        let pair = at.pair;
+        KnownLeafTree { tree, pair, leaf }
+    }
+}
+
+impl<'a> Tree for KnownLeafTree<'a> {
+    ghost use Rattle.slh_few.specs.Trees.{xmss_tree_of, xmss-lawful};
+
+    ghost tree = { λ t. xmss_tree_of t.tree.tree };
+
+    ghost lawful = { λ t. xmss-lawful t.tree.tree };
+
+    fn height(&self) -> u32 {
+        self.tree.height()
+    }
+
+    fn leaf(&self, i: u32) -> Node {
+        if i == self.pair {
+            copy_of(&self.leaf)
+        } else {
+            self.tree.leaf(i)
+        }
+    }
+
+    fn join(&self, z: u32, i: u32, l: &Node, r: &Node) -> Node {
+        self.tree.join(z, i, l, r)
     }
 }
 

@@ -1,7 +1,6 @@
 -- The parts of one signature, which `SigningTrees` names: its FORS trees and the XMSS tree of each layer, and what each
 -- adds (FIPS 205, sections 7 and 8).
-use Rattle.std.specs.Prelude.{◌≡◌, ℕ, ◌+◌, ◌*◌, ◌^◌, ◌<◌, List, ◌++◌, length, slice_index_or}
-use Rattle.arrayvec.specs.ArrayVec.{ArrayVec}
+use Rattle.std.specs.Prelude.{ℕ, ◌+◌, ◌*◌, ◌^◌, List, ◌++◌}
 use Rattle.slh_params.specs.Params.{Params}
 use Rattle.slh_params.specs.ParamSet.{params}
 use Rattle.slh_tree.specs.Tree.{MerkleTree, root}
@@ -10,7 +9,7 @@ use Rattle.slh_few.specs.Fors.{fors_tree, fors_secret, fors_sig, compressed_root
 use Rattle.slh_few.specs.Hypertree.{layer_place, signed_at, ht_sig}
 use Rattle.slh_few.specs.Wots.{wots_sig}
 use Rattle.slh_few.specs.Xmss.{xmss_tree}
-use Rattle.slh_subtrees.specs.SigningTrees.{AreJoined}
+use Rattle.slh_subtrees.specs.SigningTrees.{AreJoined, AreChains}
 use Rattle.slh_subtrees.specs.declared.joined_tree.JoinedTree.{JoinedTree}
 use Rattle.slh_subtrees.specs.declared.signing_trees.SigningTrees.{SigningTrees}
 
@@ -59,11 +58,12 @@ ht_sig_in s m = ht_sig (params_of s) s.seeds.sk_seed.now s.seeds.pk_seed.now m s
 abbrev pub signed_in : SigningTrees → List ℕ → ℕ → List ℕ
 signed_in s m l = signed_at (params_of s) s.seeds.sk_seed.now s.seeds.pk_seed.now m s.idx_tree s.idx_leaf l
 
--- and the WOTS+ signature of that
-abbrev pub layer_wots_sig : SigningTrees → List ℕ → ℕ → List ℕ
-layer_wots_sig s m l = wots_sig (params_of s) s.seeds.sk_seed.now s.seeds.pk_seed.now (layer_place (params_of s) s.idx_tree s.idx_leaf l) (signed_in s m l)
+-- what is kept of the chains of the key that signs on each layer
+abbrev pub AreChainsOf : SigningTrees → List (List ℕ) → Type 0
+AreChainsOf s xs = AreChains (params_of s) s.seeds.sk_seed.now s.seeds.pk_seed.now s.idx_tree s.idx_leaf xs
 
--- the WOTS+ signatures of all d layers, from 0 on
-pub record AreLayerSigs (s : SigningTrees) (m : List ℕ) (sigs : List (ArrayVec ℕ)) : Type 0 where
-  pub len : length sigs ≡ (params_of s).d
-  pub each : (l : ℕ) (d : ArrayVec ℕ) → l < (params_of s).d → (slice_index_or sigs l d).items ≡ layer_wots_sig s m l
+-- what layer l adds to the signature where its key signs x: the WOTS+ signature, then the path
+abbrev pub layer_part_in : SigningTrees → ℕ → List ℕ → List ℕ
+layer_part_in s l x =
+    wots_sig (params_of s) s.seeds.sk_seed.now s.seeds.pk_seed.now (layer_place (params_of s) s.idx_tree s.idx_leaf l) x
+    ++ layer_path_in s l

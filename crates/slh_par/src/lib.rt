@@ -1,15 +1,17 @@
 //! SLH-DSA (FIPS 205) with SHA-2 by several threads: key generation and signing whose bytes are those of the one-thread
 //! calls of `slh_core`.
 //!
-//! A signature is made in two runs of numbered jobs over the workers. The jobs of the first are the ranges of a
-//! `Cutting`: they give the roots of the d XMSS trees and of the k FORS trees, and of each the path of the leaf that
-//! signs. Then all that the layers sign is known, so the d WOTS+ signatures are the jobs of the second. The bytes are
-//! written at the end, in this thread: a call that is refused writes none.
+//! A signature is made in one run of numbered jobs over the workers. The jobs are the ranges of a `Cutting`: they give
+//! the roots of the d XMSS trees and of the k FORS trees, and of each the path of the leaf that signs. The job that
+//! makes the signing leaf of an XMSS tree also keeps values of the chains of that leaf's key. Then all that the layers
+//! sign is known, and each layer's WOTS+ signature is read from the values of its key. The bytes are written at the
+//! end, in this thread: a call that is refused writes none.
 #![tactic(auto)]
 
 mod fault;
 mod forms;
 mod generation;
+mod layer_messages;
 mod parallel;
 mod path_bytes;
 mod signature_bytes;
@@ -17,7 +19,6 @@ mod signing;
 mod tree_parts;
 mod verify_item;
 mod verifying;
-mod wots_signing;
 
 pub use fault::ParFault;
 pub use forms::{hash_sign_par, sign_par};

@@ -10,19 +10,17 @@ ghost use Rattle.slh_workers.specs.declared.fault.RunFault.TheVariants.{Stopped}
 
 use crate::parallel::Parallel;
 use crate::signature_bytes::{pk_fors_of, put_signature};
-use crate::wots_signing::layer_sigs;
 use slh_core::signing_steps::{MOST_DIGEST_LEN, randomized_digest};
 use slh_core::{Randomizer, SecretKey, cut_digest};
 use slh_few::Seeds;
 use slh_params::Node;
-use slh_subtrees::{SigningTrees, join_trees};
-use slh_workers::{Gate, NoMemory, RunFault};
+use slh_subtrees::{JoinedTrees, SigningTrees, join_trees};
+use slh_workers::{Gate, RunFault};
 use std::alloc::Allocator;
 use std::thread::Threads;
 
 /// Writes R and what follows it in the signature of a digest (FIPS 205, Algorithm 19, lines 5 to 18). The trees are
-/// made by workers that share the ranges of the cutting, then the WOTS+ signatures of the layers; the bytes are written
-/// last, so that a refusal writes none.
+/// made by workers that share the ranges of the cutting; the bytes are written last, so that a refusal writes none.
 fn sign_digest_par<R: Threads + Sync, A: Allocator + Clone + Send + Sync, G: Gate>(
     parallel: Parallel<'_, R, A, G>,
     r: &Node,
@@ -53,11 +51,12 @@ fn sign_digest_par<R: Threads + Sync, A: Allocator + Clone + Send + Sync, G: Gat
     };
     let cut = cut_digest(set, digest);
     let trees = SigningTrees::new(&seeds, cut.idx_tree, cut.idx_leaf, &digest[..set.md_len()]);
-    let layers = alloc.clone().map_err(NoMemory::from)?;
-    let joined = join_trees(rt, alloc, &trees, workers, cutting, gate)?;
+    let JoinedTrees {
+        trees: joined,
+        chains,
+    } = join_trees(rt, alloc, &trees, workers, cutting, gate)?;
     let pk_fors = pk_fors_of(&trees, &joined);
-    let sigs = layer_sigs(rt, layers, &trees, &pk_fors, &joined, workers)?;
-    put_signature(r, &trees, &pk_fors, &joined, &sigs, out);
+    put_signature(r, &trees, &pk_fors, &joined, &chains, out);
     Ok(())
 }
 

@@ -1,4 +1,6 @@
 pub mod Apart
+pub mod Hashed
+pub mod Kept
 pub mod Merging
 pub mod Numbering
 pub mod Parts

@@ -5,6 +5,7 @@ use Rattle.slh_params.specs.Params.{Params}
 use Rattle.slh_tree.specs.Tree.{MerkleTree}
 use Rattle.slh_few.specs.Xmss.{xmss_tree}
 use Rattle.slh_few.specs.Hypertree.{layer_place}
+use Rattle.slh_few.specs.KeptChains.{kept_chains}
 use Rattle.slh_few.specs.Fors.{fors_tree, fors_index}
 use Rattle.slh_cutting.specs.declared.range.JobTree.{JobTree}
 use Rattle.slh_cutting.specs.declared.range.JobTree.TheVariants.{Xmss, Fors}
@@ -38,3 +39,8 @@ signing_leaf p t i md c = leaf_of p t i md (numbered p c)
 pub record AreJoined (p : Params) (sk pk : List ℕ) (t i : ℕ) (md : List ℕ) (xs : List JoinedTree) : Type 0 where
   pub len : length xs ≡ p.d + p.k
   pub each : (c : ℕ) (d : JoinedTree) → c < p.d + p.k → IsJoined (signing_tree p sk pk t i c) (signing_leaf p t i md c) (slice_index_or xs c d)
+
+-- what is kept of the chains of the key that signs on each layer, from 0 on
+pub record AreChains (p : Params) (sk pk : List ℕ) (t i : ℕ) (xs : List (List ℕ)) : Type 0 where
+  pub len : length xs ≡ p.d
+  pub each : (l : ℕ) (d : List ℕ) → l < p.d → slice_index_or xs l d ≡ kept_chains p sk pk (layer_place p t i l)

@@ -4,9 +4,9 @@ ghost use Rattle.slh_params.specs.ParamSet.{params};
 ghost use Rattle.slh_tree.specs.Tree.{root};
 ghost use Rattle.slh_few.specs.Xmss.{xmss_tree};
 ghost use Rattle.slh_workers.specs.declared.fault.RunFault.TheVariants.{Stopped};
-ghost use Rattle.slh_subtrees.specs.SigningTrees.{AreJoined};
+ghost use Rattle.slh_subtrees.specs.SigningTrees.{AreJoined, AreChains};
 
-use crate::joined_tree::JoinedTree;
+use crate::joined_tree::JoinedTrees;
 use crate::ranges::TreeRanges;
 use crate::signing_trees::SigningTrees;
 use crate::top_tree::{TopRanges, gathered_top};
@@ -14,13 +14,14 @@ use crate::trees_of_ranges::{apart, trees_of_ranges};
 use slh_cutting::Cutting;
 use slh_few::Seeds;
 use slh_params::Node;
-use slh_workers::{Gate, NoMemory, RunFault, Workers, run_all};
+use slh_workers::{Gate, NoMemory, RunFault, Workers, by_number, run_all};
 use std::alloc::Allocator;
 use std::thread::Threads;
 
 /// The roots and the paths of the d + k trees of a signature, the XMSS trees from layer 0 on and then the FORS trees,
-/// by workers that share the ranges of their leaves. Refuses `NoMemory` where a growth was refused, and else `Stopped`
-/// where the gate stopped the run. Waits only for the threads that it started.
+/// and of each layer what is kept of the chains of the key that signs there, by workers that share the ranges of the
+/// leaves. Refuses `NoMemory` where a growth was refused, and else `Stopped` where the gate stopped the run. Waits only
+/// for the threads that it started.
 pub fn join_trees<R: Threads + Sync, A: Allocator + Clone + Send + Sync, G: Gate>(
     rt: &R,
     alloc: A,
@@ -28,19 +29,31 @@ pub fn join_trees<R: Threads + Sync, A: Allocator + Clone + Send + Sync, G: Gate
     workers: Workers,
     cutting: &Cutting,
     gate: &G,
-) -> Result<Vec<JoinedTree, A>, RunFault>
+) -> Result<JoinedTrees<A>, RunFault>
     requires set { cutting.now.set ≡ trees.now.seeds.set }
     ensures joined { let t = trees.now in let p = params t.seeds.set in
         let sk = t.seeds.sk_seed.now in let pk = t.seeds.pk_seed.now in
-        IfOk result (λ xs. AreJoined p sk pk t.idx_tree t.idx_leaf t.md.now xs.items) }
+        IfOk result (λ x. AreJoined p sk pk t.idx_tree t.idx_leaf t.md.now x.trees.items) }
+    ensures chains { let t = trees.now in let p = params t.seeds.set in
+        let sk = t.seeds.sk_seed.now in let pk = t.seeds.pk_seed.now in
+        IfOk result (λ x. AreChains p sk pk t.idx_tree t.idx_leaf x.chains.items) }
     ensures stopped { IfErr result (λ fault. fault ≡ Stopped → G.may_stop gate.now) }
 {
+    let work = TreeRanges {
+        trees,
+        cutting,
+        alloc: alloc.clone().map_err(NoMemory::from)?,
+    };
     let parts = alloc.clone().map_err(NoMemory::from)?;
+    let layers = alloc.clone().map_err(NoMemory::from)?;
     let places = alloc.clone().map_err(NoMemory::from)?;
-    let work = TreeRanges { trees, cutting };
-    let ranges = run_all(rt, alloc, &work, workers, gate)?;
-    let (covers, records) = apart(parts, ranges)?;
-    Ok(trees_of_ranges(places, trees, cutting, &covers, &records)?)
+    let answers = run_all(rt, alloc, &work, workers, gate)?;
+    let (covers, records, kept) = apart(parts, answers)?;
+    // For the prover: the ranges lie end to end, so that each signing leaf is in one of them.
+    let _ranges = cutting.xmss_ranges();
+    let chains = by_number(layers, cutting.set().d(), kept)?;
+    let trees = trees_of_ranges(places, trees, cutting, &covers, &records)?;
+    Ok(JoinedTrees { trees, chains })
 }
 
 /// The root of the XMSS tree of the top layer, n bytes, by workers that share the ranges of its leaves: the second half

@@ -1,20 +1,23 @@
 //! What the trees of one signature are made from.
-ghost use Rattle.std.specs.Prelude.{◌≡◌, ℕ, ◌^◌, ◌<◌, ◌≤◌, length, slice_index, slice_index_or};
+ghost use Rattle.std.specs.Prelude.{◌≡◌, ℕ, ◌^◌, ◌<◌, ◌≤◌, IfOk, length, slice_index, slice_index_or};
 ghost use Rattle.slh_params.specs.Params.{md_len};
 ghost use Rattle.slh_params.specs.ParamSet.{params};
 ghost use Rattle.slh_few.specs.Fors.{fors_index};
 ghost use Rattle.slh_few.specs.Hypertree.{layer_place};
 ghost use Rattle.slh_few.specs.declared.place.Place.{Place};
 
-use crate::hashed_range::HashedRange;
+use crate::hashed_range::{HashedRange, JobAnswer};
 use crate::joined_tree::JoinedTree;
 use crate::joining::joined;
-use slh_cutting::JobTree;
+use crate::kept_chains::KeptChains;
+use slh_cutting::{JobRange, JobTree};
 use slh_few::{
     ForsTree, MOST_LAYERS, MOST_TREES, Place, Seeds, XmssTree, fors_indices, fors_range,
-    layer_places, xmss_range,
+    kept_chains_len, layer_places, xmss_range, xmss_range_keeping,
 };
 use slh_tree::{Cover, PathRec};
+use slh_workers::NoMemory;
+use std::alloc::Allocator;
 
 /// What the trees of one signature are made from: the seeds, the place of the key at layer 0 that signs, and the part
 /// of the message digest that FORS signs.
@@ -40,7 +43,7 @@ pub struct SigningTrees<'a> {
 impl<'a> SigningTrees<'a> {
     ghost use Rattle.slh_cutting.specs.Jobs.{IsTreeOf, height_of};
     ghost use Rattle.slh_subtrees.specs.Joined.{IsHashed, AreHashed, IsJoined};
-    ghost use Rattle.slh_subtrees.specs.Answers.{tree_in, leaf_in};
+    ghost use Rattle.slh_subtrees.specs.Answers.{tree_in, leaf_in, chains_in, signs_in, kept_by, IsAnswer};
 
     /// The trees of the signature by the key at leaf `idx_leaf` of tree `idx_tree`, of a digest whose first part is
     /// `md`, of md_len bytes.
@@ -62,20 +65,61 @@ impl<'a> SigningTrees<'a> {
         }
     }
 
-    /// What is made of the leaves from `lo` to `hi`, `hi` left out, of the tree.
-    pub(crate) fn hashed(&self, tree: JobTree, lo: u32, hi: u32) -> HashedRange
-        requires tree { IsTreeOf (params self.now.seeds.set) tree }
-        requires some { lo < hi }
-        requires within { hi ≤ 2 ^ height_of (params self.now.seeds.set) tree }
-        ensures lo { result.cover.lo ≡ lo }
-        ensures hi { result.cover.hi ≡ hi }
-        ensures hashed { let t = self.now in
-            IsHashed (tree_in t tree) (leaf_in t tree) result.cover result.path }
+    /// What is made of the range of a job. What is kept of chains is memory of the allocator.
+    pub(crate) fn hashed<A: Allocator + Clone>(
+        &self,
+        alloc: &A,
+        job: JobRange,
+    ) -> Result<JobAnswer<A>, NoMemory>
+        requires tree { IsTreeOf (params self.now.seeds.set) job.tree }
+        requires some { job.lo < job.hi }
+        requires within { job.hi ≤ 2 ^ height_of (params self.now.seeds.set) job.tree }
+        ensures answer { IfOk result (λ x. IsAnswer self.now job x.0.cover x.0.path) }
+        ensures kept { IfOk result (λ x. x.1 ≡ kept_by self.now job) }
     {
+        let JobRange { tree, lo, hi } = job;
         match tree {
-            JobTree::Xmss(layer) => self.hashed_xmss(layer, lo, hi),
-            JobTree::Fors(number) => self.hashed_fors(number, lo, hi),
+            JobTree::Xmss(layer) if self.is_signing(layer, lo, hi) => {
+                let (range, chains) = self.hashed_keeping(alloc, layer, lo, hi)?;
+                Ok((range, Some((u32::from(layer), chains))))
+            }
+            JobTree::Xmss(layer) => Ok((self.hashed_xmss(layer, lo, hi), None)),
+            JobTree::Fors(number) => Ok((self.hashed_fors(number, lo, hi), None)),
         }
+    }
+
+    /// Whether the leaf that signs on a layer is one of those from `lo` to `hi`, `hi` left out.
+    fn is_signing(&self, layer: u8, lo: u32, hi: u32) -> bool
+        requires { layer < (params self.now.seeds.set).d }
+        ensures { result ≡ signs_in self.now layer lo hi }
+    {
+        (lo..hi).contains(&self.layer_place(layer).pair)
+    }
+
+    /// What is made of the leaves from `lo` to `hi`, `hi` left out, of the XMSS tree of a layer, the signing leaf among
+    /// them, and what is kept of the chains of that leaf's key.
+    #[tactic(auto, using(slh_params::proofs::Bounds::hp_low, slh_params::proofs::Bounds::hp_high))]
+    fn hashed_keeping<A: Allocator + Clone>(
+        &self,
+        alloc: &A,
+        layer: u8,
+        lo: u32,
+        hi: u32,
+    ) -> Result<(HashedRange, KeptChains<A>), NoMemory>
+        requires layer { layer < (params self.now.seeds.set).d }
+        requires some { lo < hi }
+        requires within { hi ≤ 2 ^ (params self.now.seeds.set).hp }
+        ensures lo { IfOk result (λ x. x.0.cover.lo ≡ lo) }
+        ensures hi { IfOk result (λ x. x.0.cover.hi ≡ hi) }
+        ensures hashed { let tree = JobTree.Xmss layer in
+            IfOk result (λ x. IsHashed (tree_in self.now tree) (leaf_in self.now tree) x.0.cover x.0.path) }
+        ensures kept { IfOk result (λ x. x.1 ≡ chains_in self.now layer) }
+    {
+        let at = self.layer_place(layer);
+        let mut path = PathRec::for_leaf(self.seeds.set.hp(), at.pair);
+        let mut bytes = vec![in alloc.clone()?; 0; kept_chains_len(self.seeds.set)]?;
+        let cover = xmss_range_keeping(&self.seeds, at, lo, hi, &mut bytes, &mut path);
+        Ok((HashedRange { cover, path }, KeptChains::new(bytes)))
     }
 
     /// What is made of the leaves from `lo` to `hi`, `hi` left out, of the XMSS tree of a layer.

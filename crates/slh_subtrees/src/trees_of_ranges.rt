@@ -1,13 +1,14 @@
 //! The trees of a signature from all their ranges.
-ghost use Rattle.std.specs.Prelude.{◌≡◌, ◌+◌, ◌<◌, ◌≤◌, ◌^◌, length, map, take, drop, IfOk};
+ghost use Rattle.std.specs.Prelude.{◌≡◌, ◌+◌, ◌<◌, ◌≤◌, ◌^◌, ◌++◌, length, map, take, drop, IfOk, OnOk};
+ghost use Rattle.std.specs.List.{flat_map};
 ghost use Rattle.slh_params.specs.ParamSet.{params};
 ghost use Rattle.slh_cutting.specs.Jobs.{IsTreeOf, height_of, tree_ranges, tree_jobs};
 ghost use Rattle.slh_cutting.specs.Points.{EndToEnd};
 ghost use Rattle.slh_subtrees.specs.Joined.{IsJoined};
 ghost use Rattle.slh_subtrees.specs.SigningTrees.{AreJoined, numbered};
-ghost use Rattle.slh_subtrees.specs.Answers.{AreAnswers, tree_in, leaf_in};
+ghost use Rattle.slh_subtrees.specs.Answers.{AreAnswers, tree_in, leaf_in, as_list};
 
-use crate::hashed_range::HashedRange;
+use crate::hashed_range::{JobAnswer, LayerChains};
 use crate::joined_tree::JoinedTree;
 use crate::signing_trees::SigningTrees;
 use slh_cutting::{Cutting, JobTree};
@@ -16,21 +17,37 @@ use slh_tree::{Cover, PathRec};
 use slh_workers::NoMemory;
 use std::alloc::Allocator;
 
-/// The covers and the records of the ranges, each in their order.
+/// Adds what was kept, if anything was.
+fn push_kept<A: Allocator>(
+    kept: &mut Vec<LayerChains<A>, A>,
+    chains: Option<LayerChains<A>>,
+) -> Result<(), NoMemory>
+    ensures { OnOk result (kept.new.items ≡ kept.old.items ++ as_list chains) }
+{
+    if let Some(chains) = chains {
+        kept.push(chains)?;
+    }
+    Ok(())
+}
+
+/// The covers and the records of the ranges, and what was kept of chains, each in their order.
 pub(crate) fn apart<A: Allocator + Clone>(
     alloc: A,
-    ranges: Vec<HashedRange, A>,
-) -> Result<(Vec<Cover, A>, Vec<PathRec, A>), NoMemory>
-    ensures { IfOk result (λ v. (v.0.items ≡ map (λ x. x.cover) ranges.items)
-        × (v.1.items ≡ map (λ x. x.path) ranges.items)) }
+    answers: Vec<JobAnswer<A>, A>,
+) -> Result<(Vec<Cover, A>, Vec<PathRec, A>, Vec<LayerChains<A>, A>), NoMemory>
+    ensures { IfOk result (λ v. (v.0.items ≡ map (λ x. x.0.cover) answers.items)
+        × (v.1.items ≡ map (λ x. x.0.path) answers.items)
+        × (v.2.items ≡ flat_map (λ x. as_list x.1) answers.items)) }
 {
-    let mut covers = Vec::with_capacity(alloc.clone()?, ranges.len())?;
-    let mut records = Vec::with_capacity(alloc, ranges.len())?;
-    for range in ranges {
+    let mut covers = Vec::with_capacity(alloc.clone()?, answers.len())?;
+    let mut records = Vec::with_capacity(alloc.clone()?, answers.len())?;
+    let mut kept = Vec::new(alloc);
+    for (range, chains) in answers {
         covers.push(range.cover)?;
         records.push(range.path)?;
+        push_kept(&mut kept, chains)?;
     }
-    Ok((covers, records))
+    Ok((covers, records, kept))
 }
 
 /// Tree number `c` of a signature.

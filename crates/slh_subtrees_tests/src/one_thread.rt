@@ -48,7 +48,8 @@ fn trees_of_a_signature(rt: HostRuntime) -> Result<(), Fail> {
         let workers = Workers::new(number).ok_or("workers")?;
         let cutting = Cutting::new(seeds.set, xmss, fors)?;
         let joined = join_trees(&rt, rt.alloc(), &trees, workers, &cutting, &NoGate)?;
-        assert_eq!(rt; joined.len(), 55);
+        let (joined, chains) = (joined.trees, joined.chains);
+        assert_eq!(rt; (joined.len(), chains.len()), (55, 22));
         for layer in 0u8..22 {
             let at = layer_place(SET, IDX_TREE, IDX_LEAF, layer);
             let tree = XmssTree::new(&seeds, layer, at.tree);

@@ -3,8 +3,8 @@
 //! A `Work` has jobs numbered from 0, and says which answers of each are right. `run_all` runs all of them on 1 to 64
 //! workers and gives the answers by number. `work_off` is what one worker does: it draws jobs from a `slh_board::Board`
 //! and runs them; a caller with threads of its own may call it there. A `Gate` is asked before each job and told after
-//! it, and may stop the run. `answer_all` asks one question about each item of a list. No call waits for anything but
-//! the threads that it started.
+//! it, and may stop the run. `answer_all` asks one question about each item of a list, and `by_number` puts numbered
+//! answers in order. No call waits for anything but the threads that it started.
 #![tactic(auto)]
 
 mod fault;
@@ -21,6 +21,7 @@ mod workers;
 pub use fault::RunFault;
 pub use gate::{Gate, Go, NoGate};
 pub use items::{Question, answer_all};
+pub use order::by_number;
 pub use run::run_all;
 pub use work::{NoMemory, Work};
 pub use worker::{End, WorkerEnd, work_off};

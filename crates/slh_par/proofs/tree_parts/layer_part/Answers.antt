@@ -1,8 +1,10 @@
 -- The nodes that the record knows are the leaf's path, each of n bytes.
-use Rattle.std.proofs.Common.{◌∙◌, arith, rules}
+use Rattle.std.proofs.Common.{◌≡◌, ◌∙◌, ap, arith, rules}
 use Rattle.slh_params.specs.ParamSet.{params}
 use Rattle.slh_few.specs.Hypertree.{layer_place}
+use Rattle.slh_few.specs.Wots.{wots_sig}
 use Rattle.slh_few.specs.Xmss.{xmss_tree}
+use Rattle.slh_few.specs.declared.place.Place.{Place}
 use Rattle.slh_few.specs.Trees.{xmss_tree-lawful}
 use Rattle.slh_par.proofs.PathLaw.{length-joined, then_path}
 use Rattle.slh_par.proofs.tree_parts.layer_part.Goals as goal
@@ -19,5 +21,7 @@ pub returns : goal.returns
 returns c =
     let s = c.args.trees.now.seeds in
     let at = layer_place (params s.set) c.args.trees.now.idx_tree c.args.trees.now.idx_leaf c.args.layer in
+    let wots : c.wots_sign_kept.new.out ≡ wots_sig (params s.set) s.sk_seed.now s.pk_seed.now at c.args.msg.now.items =
+    c.wots_sign_kept.ensures ∙ ap (λ (x : Place). wots_sig (params s.set) s.sk_seed.now s.pk_seed.now x c.args.msg.now.items) c.layer_place.ensures.place in
     then_path (xmss_tree (params s.set) s.sk_seed.now s.pk_seed.now c.args.layer at.tree) at.pair c.args.joined.now c.requires.joined
-    c.hp.result c.hp.ensures _ _ _ c.copy_from_slice.ensures.after c.put_path.ensures
+    c.hp.result c.hp.ensures _ _ _ wots c.put_path.ensures

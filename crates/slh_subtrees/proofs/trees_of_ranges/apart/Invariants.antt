@@ -1,5 +1,7 @@
 use Rattle.std.proofs.Common.{◌≡◌, ◌++◌, map}
+use Rattle.std.specs.List.{flat_map}
 use Rattle.std.specs.Vec.Iter.{into_iter_items}
+use Rattle.slh_subtrees.specs.Answers.{as_list}
 use Rattle.slh_subtrees.proofs.trees_of_ranges.apart.Given as goal
 
 abbrev pub invariant-loop-range : goal.invariant-loop-range
@@ -7,7 +9,8 @@ invariant-loop-range g l =
     record {
       can : (goal.iterator-loop-range g).can_next l.range-iterator;
       ends : (goal.iterator-loop-range g).is_finite l.range-iterator;
-      seen : l.yielded ++ into_iter_items l.range-iterator ≡ l.fn.ranges.items;
-      covers : l.covers.items ≡ map (λ x. x.cover) l.yielded;
-      records : l.records.items ≡ map (λ x. x.path) l.yielded;
+      seen : l.yielded ++ into_iter_items l.range-iterator ≡ l.fn.answers.items;
+      covers : l.covers.items ≡ map (λ x. x.0.cover) l.yielded;
+      records : l.records.items ≡ map (λ x. x.0.path) l.yielded;
+      kept : l.kept.items ≡ flat_map (λ x. as_list x.1) l.yielded;
     }

@@ -5,7 +5,7 @@ use Rattle.std.proofs.Props.{props}
 use Rattle.slh_few.proofs.HtLaw.{signed_at-start}
 use Rattle.slh_par.specs.Parts.{params_of, signed_in}
 use Rattle.slh_par.proofs.Joined.{root-signed, length-root}
-use Rattle.slh_par.proofs.wots_signing.LayerSigning.message.Goals as goal
+use Rattle.slh_par.proofs.layer_messages.LayerMessages.message.Goals as goal
 
 pub returns-in-0-clause-value : goal.returns-in-0-clause-value
 returns-in-0-clause-value c =

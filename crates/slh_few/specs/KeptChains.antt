@@ -1,0 +1,34 @@
+-- Values of a key's chains that are kept from the making of the key until it signs: ours. Each set keeps at most 16
+-- values of a chain, so that those of a key are about as long as 16 WOTS+ signatures.
+use Rattle.std.specs.Prelude.{ℕ, ◌*◌, ◌/◌, List}
+use Rattle.slh_params.specs.Params.{Params, ceil_div, w, len}
+use Rattle.slh_few.specs.Parts.{end_to_end}
+use Rattle.slh_few.specs.Wots.{chain, secret}
+use Rattle.slh_few.specs.declared.place.Place.{Place}
+
+-- how many steps lie between two kept values of a chain: 1 where w is 4 or 16, and 16 where w is 256
+unfoldable pub spacing : Params → ℕ
+spacing p = ceil_div (w p) 16
+
+-- how many values of a chain are kept
+unfoldable pub kept_count : Params → ℕ
+kept_count p = w p / spacing p
+
+-- the length of the kept values of one chain, and of all chains of a key
+abbrev pub kept_chain_len : Params → ℕ
+kept_chain_len p = kept_count p * p.n
+
+abbrev pub kept_chains_len : Params → ℕ
+kept_chains_len p = len p * kept_chain_len p
+
+-- kept value j of chain c
+abbrev pub kept_value : Params → List ℕ → List ℕ → Place → ℕ → ℕ → List ℕ
+kept_value p sk pk at c j = chain p pk at c (secret p sk pk at c) 0 (j * spacing p)
+
+-- the kept values of chain c
+unfoldable pub kept_chain : Params → List ℕ → List ℕ → Place → ℕ → List ℕ
+kept_chain p sk pk at c = end_to_end (kept_value p sk pk at c) (kept_count p)
+
+-- those of all chains of a key
+unfoldable pub kept_chains : Params → List ℕ → List ℕ → Place → List ℕ
+kept_chains p sk pk at = end_to_end (kept_chain p sk pk at) (len p)
