@@ -1,5 +1,5 @@
 -- Several workers over one board.
-use Rattle.std.specs.Prelude.{◌≡◌, ◌≢◌, ℕ, ◌+◌, ◌<◌, ◌≤◌, List, length, true, false}
+use Rattle.std.specs.Prelude.{◌≡◌, ◌≢◌, ℕ, ◌+◌, ◌<◌, ◌≤◌, List, length, true, false, IsTrue}
 use Rattle.std.specs.List.{All, sum_by}
 use Rattle.slh_board.specs.Seats.{BoardState, SeatState, new_seat}
 use Rattle.slh_board.specs.Counts.{times}
@@ -16,6 +16,10 @@ pub record IsReady (board : BoardState) (count first : ℕ) (seats : List SeatSt
 -- a seat whose worker has ended, with memory: only a gate that may stop has raised it, and else it is marked
 abbrev pub HasEnded : Type 0 → SeatState → Type 0
 HasEnded may_stop seat = (seat.raised ≡ true → may_stop) × (seat.raised ≡ false → seat.mark ≢ Fresh)
+
+-- a seat of the board that stopped it
+abbrev pub HasStopped : BoardState → SeatState → Type 0
+HasStopped board seat = (seat.board ≡ board) × IsTrue seat.raised
 
 -- one of count workers, numbered from first on, has reported the job to the gate
 abbrev pub IsReported : (ℕ → ℕ → Type 0) → ℕ → ℕ → ℕ → Type 0

@@ -35,7 +35,9 @@ pub fn run_all<R: Threads + Sync, A: Allocator + Clone + Send + Sync, W: Work, G
     let places = alloc.clone().map_err(NoMemory::from)?;
     let boards = alloc.clone().map_err(NoMemory::from)?;
     let (board, seats) = Board::start(boards, count, workers.number())?;
-    let (seats, answers) = run_seats(rt, alloc, &board, seats, work, 0, gate)?;
+    let Ok((seats, answers)) = run_seats(rt, alloc, &board, seats, work, 0, gate) else {
+        return Err(RunFault::NoMemory);
+    };
     if board.finish(seats).stopped {
         return Err(RunFault::Stopped);
     }

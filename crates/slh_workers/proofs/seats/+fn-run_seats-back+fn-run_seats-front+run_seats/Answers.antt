@@ -16,9 +16,9 @@ join-back-requires-after_bounds g t c κs within =
     c.in-Ok.others.items c.requires c.in-Ok.ensures.parts c.in-Ok.ensures.some.1 (omega (arith, c.len-2.ensures)) in
     search rules
 
-pub returns : goal.returns
-returns g t c =
+pub returns-clause-ran : goal.returns-clause-ran
+returns-clause-ran g t c =
     ran_both c.args.board.now (g.G.Gate.may_stop c.args.gate.now) (g.G.Gate.reported c.args.gate.now) (g.W.Work.is_right c.args.work.now) (g.W.Work.jobs c.args.work.now) c.args.first _ _ _ (length c.args.seats.items) _ _ c.append.new.self.items _ _ c.append-2.new.self.items
-    (IfOk-at_ok (λ r. RanSeats c.args.board.now (g.G.Gate.may_stop c.args.gate.now) (g.G.Gate.reported c.args.gate.now) (g.W.Work.is_right c.args.work.now) (g.W.Work.jobs c.args.work.now) _ _ r.0.items r.1.items) c.in_ok-kept.was c.join-back.ensures.second)
-    (IfOk-at_ok (λ r. RanSeats c.args.board.now (g.G.Gate.may_stop c.args.gate.now) (g.G.Gate.reported c.args.gate.now) (g.W.Work.is_right c.args.work.now) (g.W.Work.jobs c.args.work.now) _ _ r.0.items r.1.items) c.in_ok-more_kept.was c.join-back.ensures.first)
-    (omega (arith, c.len-2.ensures)) (grind (arith, common_steps)) c.in_ok-append.ensures.items c.in_ok-append-2.ensures.items
+    (IfOk-at_ok (λ r. RanSeats c.args.board.now (g.G.Gate.may_stop c.args.gate.now) (g.G.Gate.reported c.args.gate.now) (g.W.Work.is_right c.args.work.now) (g.W.Work.jobs c.args.work.now) _ _ r.0.items r.1.items) c.in_ok-kept.was c.join-back.ensures.second.0)
+    (IfOk-at_ok (λ r. RanSeats c.args.board.now (g.G.Gate.may_stop c.args.gate.now) (g.G.Gate.reported c.args.gate.now) (g.W.Work.is_right c.args.work.now) (g.W.Work.jobs c.args.work.now) _ _ r.0.items r.1.items) c.in_ok-more_kept.was c.join-back.ensures.first.0)
+    (omega (arith, c.len-2.ensures)) (grind (arith, common_steps)) c.in-Ok-append.ensures.items c.in-Ok-append-2.ensures.items
