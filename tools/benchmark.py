@@ -5,7 +5,8 @@ It builds the program slh_bench and prints, in milliseconds, the least of severa
 many times the product of the task's compressions and the time of one compression, taken in the same run, that is.
 The compressions are those that tools/count_calls.py counts. Where OPENSSL names an `openssl` of version 3.5 or later,
 its `speed` is run by turns with ours, and the ratio of the least times is printed. Set OPENSSL_ia32cap=:~0x20000000
-to keep that one from the processor's SHA instructions, which this library does not use.
+to keep that one from the processor's SHA instructions, which this library does not use. Set SLH_CPU=x86-64-v3 to build
+ours for processors of that level.
 Needs `rt`. Usage: tools/benchmark.py [SET ..]
        tools/benchmark.py --workers [SET ..]
 
@@ -25,6 +26,7 @@ TASKS = ["keygen", "sign", "verify"]
 ROOT = os.path.dirname(os.path.dirname(os.path.abspath(__file__)))
 PROGRAM = os.path.join(ROOT, "crates", "slh_bench", "out", "slh_bench")
 OPENSSL = os.environ.get("OPENSSL")
+CPU = os.environ.get("SLH_CPU", "x86-64-v2")
 TURNS = 3
 WORKERS = (1, 2, 4)
 WORKERS_TURNS = 10
@@ -46,7 +48,7 @@ COMPRESSIONS = {
 def build():
     """Builds the program where it is missing or older than its sources."""
     folder = os.path.dirname(os.path.dirname(PROGRAM))
-    subprocess.run(["rt", "run"], cwd=folder, check=True, stdout=subprocess.DEVNULL, stderr=subprocess.DEVNULL)
+    subprocess.run(["rt", "run", f"--cpu={CPU}"], cwd=folder, check=True, stdout=subprocess.DEVNULL, stderr=subprocess.DEVNULL)
 
 
 def ours(task, runs, parameter_set, *workers):

@@ -9,7 +9,7 @@
 #
 # usage: tools/library.sh PREFIX
 #
-# `rt lib` builds the archive, which proves what is not proved yet. It needs rt, a C compiler as CC or cc, and ld, ar
+# The code is for processors of the level x86-64-v2, or of the one that SLH_CPU names, as x86-64-v3. `rt lib` builds the archive, which proves what is not proved yet. It needs rt, a C compiler as CC or cc, and ld, ar
 # and strip of GNU binutils.
 set -euo pipefail
 here=$(cd "$(dirname "${BASH_SOURCE[0]}")/.." && pwd)
@@ -22,7 +22,7 @@ prefix=$(cd "$1" && pwd)
 work=$(mktemp -d)
 trap 'rm -rf "$work"' EXIT
 
-(cd "$here/crates/slh_c" && rt lib) >&2
+(cd "$here/crates/slh_c" && rt lib "--cpu=${SLH_CPU:-x86-64-v2}") >&2
 archive=$here/crates/slh_c/out/libslh_c.a
 
 # The linker keeps what the two calls reach, and so drops the other calls.

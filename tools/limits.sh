@@ -85,6 +85,7 @@ root --set $set
 keygen --set $set --workers 64 --xmss-levels 3
 public --key key
 check --key key
+upgrade --key key
 sign --key key --message message $many
 sign --key key --message message --prehash SHA2-512 --context 00ff --workers 64 --xmss-cuts 1,2,3,5 --fors-cuts 1,63
 verify --key public --message message --signature signature
@@ -93,15 +94,19 @@ vectors --file $vectors/smoke-128f.json --workers 64
 vectors --file deep.json
 sign --help
 END
-for set_of_key in 128s 192f 256f; do
-    name=SLH-DSA-SHA2-$set_of_key
-    python3 -c "print(bytes(range(3 * ${set_of_key%[sf]} // 8)).hex())" >seeds
-    "$program" keygen --set "$name" <seeds >"key$set_of_key"
-    # shellcheck disable=SC2086
-    want sign --key "key$set_of_key" --message message --workers 64
+while read -r name n; do
+    python3 -c "print(bytes(range(3 * $n)).hex())" >seeds
+    "$program" keygen --set "$name" <seeds >"key_of_$name"
+    want sign --key "key_of_$name" --message message --workers 64
     tell "ulimit -s 192: sign $name by 64 workers" \
-        "$([ "$(under -s 192 sign --key "key$set_of_key" --message message --workers 64 2>/dev/null)" = right ] && echo yes || echo no)"
-done
+        "$([ "$(under -s 192 sign --key "key_of_$name" --message message --workers 64 2>/dev/null)" = right ] && echo yes || echo no)"
+done <<END
+SLH-DSA-SHA2-128s 16
+SLH-DSA-SHA2-192f 24
+SLH-DSA-SHA2-256f 32
+custom:32,2,1,65,14,64 32
+custom:24,8,1,2,5,7 24
+END
 
 # shellcheck disable=SC2086
 want sign --key key --message message $many
