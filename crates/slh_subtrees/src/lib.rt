@@ -2,10 +2,10 @@
 //! FORS trees.
 //!
 //! The leaves of each tree are cut into ranges, and each range is a job for a worker: it gives the cover of the range,
-//! and those nodes of the signing leaf's path whose leaves lie in it; where the signing leaf of an XMSS tree lies in it,
-//! also values of the chains of that leaf's key, from which the key signs later. The covers of a tree are then gathered
-//! to its root, and the records of path nodes are merged, which gives the whole path. Memory is refused only by
-//! `NoMemory`.
+//! and those nodes of the signing leaf's path whose leaves lie in it. Where an XMSS tree's signing leaf lies in it, it
+//! also gives values of the chains of that leaf's key, from which the key signs later. The covers of a tree are then
+//! gathered to its root, and the records of path nodes are merged, which gives the whole path. Memory is refused only
+//! by `NoMemory`.
 #![tactic(auto)]
 
 mod hashed_range;
