@@ -10,9 +10,9 @@ use std::thread::Threads;
 
 const KEYGEN: [&str; 3] = ["keygen", "--set", "SLH-DSA-SHA2-128f"];
 
-/// The secret key file of the seeds 00, 01, 02, .. , with the root that another implementation has.
+/// The secret key file, of version 2, of the seeds 00, 01, 02, .. , with the root that another implementation has.
 const SECRET: &[u8] =
-    b"slh-dsa-secret 1\nSLH-DSA-SHA2-128f\n000102030405060708090a0b0c0d0e0f101112131415161718191a1b1c1d1e1f202122232425262728292a2b2c2d2e2f3b56e816847f000386aeec2e2bb9e1b5\n";
+    b"slh-dsa-secret 2\nSLH-DSA-SHA2-128f\n000102030405060708090a0b0c0d0e0f101112131415161718191a1b1c1d1e1f202122232425262728292a2b2c2d2e2f3b56e816847f000386aeec2e2bb9e1b5\n";
 
 /// Ways to share the work, whose answers are the same.
 const SHARINGS: [&[&str]; 6] = [
