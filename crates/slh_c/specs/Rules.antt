@@ -85,7 +85,7 @@ abbrev pub sign_internal_rules : ℕ → List ℕ → List ℕ → List ℕ → 
 sign_internal_rules set sk random out =
     in_set set (λ s. secret s sk ∷ randomizer s random ∷ output (sig_len (params s)) out ∷ [])
 
--- a context or a signature out of rule is invalid, and no refusal
+-- a context of over 255 bytes or a signature of another length is invalid, and no refusal
 abbrev pub verify_rules : ℕ → List ℕ → List Rule
 verify_rules set pk = in_set set (λ s. public s pk ∷ [])
 

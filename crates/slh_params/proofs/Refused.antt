@@ -1,4 +1,4 @@
--- A record is valid exactly where no member of it is out of rule.
+-- A record is valid exactly where no member of it is invalid.
 use Rattle.std.proofs.Common.{◌≡◌, ℕ, Bool, true, false, ◌&&◌, cond, IsTrue, List, Option, Some, None, codes, refl, arith}
 use Rattle.slh_params.specs.Params.{Params}
 use Rattle.slh_params.specs.Valid.{IsValid, first_bad, n_fits, lg_w_fits, hp_fits, d_fits, a_fits, k_fits}

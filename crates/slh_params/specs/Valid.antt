@@ -29,7 +29,7 @@ is_valid p = n_fits p && lg_w_fits p && hp_fits p && d_fits p && a_fits p && k_f
 abbrev pub IsValid : Params → Type 0
 IsValid p = IsTrue (is_valid p)
 
--- the name of the first member that is out of rule
+-- the name of the first member that is invalid
 unfoldable pub first_bad : Params → Option (List ℕ)
 first_bad p =
     cond (n_fits p) (cond (lg_w_fits p) (cond (hp_fits p) (cond (d_fits p) (cond (a_fits p) (cond (k_fits p) None

@@ -1,7 +1,7 @@
 use super::*;
 use std::test::Fail;
 
-/// Records n, lg_w, hp, d, a, k that are out of rule, each with its first such member.
+/// Invalid records n, lg_w, hp, d, a, k, each with its first invalid member.
 const REFUSED: [([u32; 6], &str); 21] = [
     ([20, 2, 1, 1, 1, 1], "n"),
     ([16, 3, 1, 1, 1, 1], "lg_w"),

@@ -1,4 +1,4 @@
-//! Parameter sets of any six numbers that are in rule.
+//! Parameter sets of any six numbers that are a valid record.
 ghost use Rattle.std.specs.Prelude.{◌≡◌, ◌↔◌, Some, None, IsOk, IfOk, IfErr, MatchOption, IsTrue, ◌&&◌, nat_le, codes};
 ghost use Rattle.slh_params.specs.Params.{numbers};
 ghost use Rattle.slh_params.specs.ParamSet.{params};
@@ -11,7 +11,7 @@ use thiserror::Error;
 /// Why six numbers are no parameter set.
 #[derive(Clone, Copy, PartialEq, Eq, Debug, Error)]
 pub enum RecordFault {
-    /// A member is out of rule.
+    /// A member is invalid.
     #[error("the member {member} of the parameter set is out of rule")]
     BadRecord {
         /// The first such member, in the order n, lg_w, hp, d, a, k.
@@ -42,7 +42,7 @@ impl RecordFault {
 impl ParamSet {
     /// The set of these numbers: `n` is 16, 24 or 32, `lg_w` 2, 4 or 8, `hp` 1 to 12, `a` 1 to 14 and `k` 1 to 64; `d` is
     /// at least 1, and the trees below the top layer are at most 64 levels high together. Refused with the first member
-    /// that is out of rule.
+    /// that is invalid.
     pub fn custom(
         n: u32,
         lg_w: u32,
@@ -69,7 +69,7 @@ impl ParamSet {
     }
 }
 
-/// The first member that is out of rule.
+/// The first member that is invalid.
 #[tactic(auto, unfolding(crate::specs::Valid::first_bad))]
 fn first_bad(n: u32, lg_w: u32, hp: u32, d: u32, a: u32, k: u32) -> Option<&'static str>
     ensures { let bad = first_bad (numbers n lg_w hp d a k) in
