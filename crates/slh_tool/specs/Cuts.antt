@@ -58,12 +58,12 @@ pub record IsCutting (options : WorkOptions) (set : ParamSet) (cutting : CutTree
 abbrev pub HasCutting : WorkOptions → ParamSet → Type 0
 HasCutting options set = (cutting : CutTrees) × IsCutting options set cutting
 
--- the options ask for a cutting of the set's trees that is out of rule
+-- the options ask for a cutting of the set's trees that is invalid
 abbrev pub IsOutOfRule : WorkOptions → ParamSet → Type 0
 IsOutOfRule options set = (xmss : Cuts) × ((fors : Cuts) × AreCuts options.xmss xmss × AreCuts options.fors fors
     × ((fault : CutFault) × (cut_fault (params set) xmss fors ≡ Some fault)))
 
--- why they give no cutting: a list is not as stated, or the cutting is out of rule
+-- why they give no cutting: a list is no list of cut points, or the cutting is invalid
 abbrev pub RefusesCutting : WorkOptions → ParamSet → Fault → Type 0
 RefusesCutting options set BadOption = (points_of options.xmss.points ≡ None) ⊎ (points_of options.fors.points ≡ None)
 RefusesCutting options set BadCutting = IsOutOfRule options set

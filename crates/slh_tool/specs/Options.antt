@@ -32,7 +32,7 @@ random_of set (Some digits) = option_map (λ bytes. Some bytes) (result_ok (deco
 abbrev pub HasForm : FormOptions → Text → Option PreHash → Type 0
 HasForm form context prehash = (context_of form.context ≡ Some context) × (prehash_of form.prehash ≡ Some prehash)
 
--- why the options give none: memory, or one of them is not as stated
+-- why the options give none: memory, or one of them has an invalid value
 abbrev pub RefusesForm : FormOptions → Fault → Type 0
 RefusesForm form NoMemory = ⊤
 RefusesForm form BadOption = (context_of form.context ≡ None) ⊎ (prehash_of form.prehash ≡ None)

@@ -96,7 +96,7 @@ SignsMessage options files text = (key : Key) × HoldsKey Secret files options.k
 abbrev pub RefusesSignForm : SignOptions → ParamSet → Fault → Type 0
 RefusesSignForm options set fault = RefusesForm options.form fault ⊎ ((fault ≡ BadOption) × (random_of set options.random ≡ None))
 
--- the options of `sign` are as stated, with this context
+-- the options of `sign` have valid values, with this context
 abbrev pub HasSignForm : SignOptions → ParamSet → Text → Type 0
 HasSignForm options set context = ((prehash : Option PreHash) × HasForm options.form context prehash)
     × ((random : Option Text) × (random_of set options.random ≡ Some random))
