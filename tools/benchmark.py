@@ -26,7 +26,7 @@ TASKS = ["keygen", "sign", "verify"]
 ROOT = os.path.dirname(os.path.dirname(os.path.abspath(__file__)))
 PROGRAM = os.path.join(ROOT, "crates", "slh_bench", "out", "slh_bench")
 OPENSSL = os.environ.get("OPENSSL")
-CPU = os.environ.get("SLH_CPU", "x86-64-v2")
+CPU = [f"--cpu={level}" for level in [os.environ.get("SLH_CPU")] if level]
 TURNS = 3
 WORKERS = (1, 2, 4)
 WORKERS_TURNS = 10
@@ -48,7 +48,7 @@ COMPRESSIONS = {
 def build():
     """Builds the program where it is missing or older than its sources."""
     folder = os.path.dirname(os.path.dirname(PROGRAM))
-    subprocess.run(["rt", "run", f"--cpu={CPU}"], cwd=folder, check=True, stdout=subprocess.DEVNULL, stderr=subprocess.DEVNULL)
+    subprocess.run(["rt", "run", *CPU], cwd=folder, check=True, stdout=subprocess.DEVNULL, stderr=subprocess.DEVNULL)
 
 
 def ours(task, runs, parameter_set, *workers):

@@ -22,7 +22,7 @@ prefix=$(cd "$1" && pwd)
 work=$(mktemp -d)
 trap 'rm -rf "$work"' EXIT
 
-(cd "$here/crates/slh_c" && rt lib "--cpu=${SLH_CPU:-x86-64-v2}") >&2
+(cd "$here/crates/slh_c" && rt lib ${SLH_CPU:+"--cpu=$SLH_CPU"}) >&2
 archive=$here/crates/slh_c/out/libslh_c.a
 
 # The linker keeps what the two calls reach, and so drops the other calls.
