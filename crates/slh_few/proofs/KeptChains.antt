@@ -5,13 +5,14 @@ use Rattle.std.proofs.Math.Nat.{div-lt_iff_lt-mul}
 use Rattle.slh_params.specs.declared.param_set.ParamSet.{ParamSet}
 use Rattle.slh_params.specs.ParamSet.{params}
 use Rattle.slh_params.specs.Params.{Params, w, len, ceil_div}
-use Rattle.slh_params.proofs.Bounds.{lg_w_cases, w_low}
+use Rattle.slh_params.proofs.Bounds.{lg_w_cases, n_high, w_low}
 use Rattle.slh_few.specs.Parts.{part}
-use Rattle.slh_few.specs.Wots.{chain, secret}
-use Rattle.slh_few.specs.KeptChains.{spacing, kept_count, kept_value, kept_chain, kept_chains, kept_chain_len, kept_chains_len}
+use Rattle.slh_few.specs.Wots.{chain, digit, secret, signed_chain, wots_sig}
+use Rattle.slh_few.specs.KeptChains.{spacing, kept_count, kept_value, kept_chain, kept_chains, kept_chain_len, kept_chains_len, chain_from_kept, wots_sig_from}
 use Rattle.slh_few.specs.declared.place.Place.{Place}
 use Rattle.slh_few.proofs.Chains.{length-chain, chain-split}
-use Rattle.slh_few.proofs.Ends.{part-end_to_end, length-end_to_end}
+use Rattle.slh_few.proofs.DigitBounds.{digit-small}
+use Rattle.slh_few.proofs.Ends.{part-end_to_end, length-end_to_end, end_to_end-same}
 use Rattle.slh_few.proofs.WotsLaw.{length-secret}
 
 -- the kept values and the steps between them make up a chain
@@ -92,3 +93,18 @@ kept_end s =
 -- a count rounded up, as a program does it
 pub ceil_16 : (x : ℕ) → div_ceil x 16 ≡ ceil_div x 16
 ceil_16 x = omega arith
+
+-- the key's own values make the key's signature
+pub wots_sig_from-own : (s : ParamSet) (sk pk : List ℕ) (at : Place) (m : List ℕ)
+    → wots_sig_from (params s) pk at (kept_chains (params s) sk pk at) m ≡ wots_sig (params s) sk pk at m
+unfolding wots_sig_from wots_sig
+wots_sig_from-own s sk pk at m =
+    let p = params s in
+    let kept = kept_chains p sk pk at in
+    end_to_end-same (chain_from_kept p pk at kept m) (signed_chain p sk pk at m) (len p) (λ c l.
+      let d = digit p m c in
+      let j = d / spacing p in
+      let high : d ≤ w p - 1 = omega (arith, digit-small p m c) in
+      ap (λ (xs : List ℕ). chain p pk at c (part p.n xs j) (j * spacing p) (d % spacing p)) (part-kept_chains p sk pk at c (n_high s) l)
+      ∙ ap (λ (y : List ℕ). chain p pk at c y (j * spacing p) (d % spacing p)) (part-kept_chain p sk pk at c j (n_high s) (kept_below s d high))
+      ∙ kept_run p sk pk at c d (spacing_low s))

@@ -1,9 +1,9 @@
 -- Values of a key's chains that are kept from the making of the key until it signs: ours. Each set keeps at most 16
 -- values of a chain, so that those of a key are about as long as 16 WOTS+ signatures.
-use Rattle.std.specs.Prelude.{ℕ, ◌*◌, ◌/◌, List}
+use Rattle.std.specs.Prelude.{ℕ, ◌*◌, ◌/◌, ◌%◌, List}
 use Rattle.slh_params.specs.Params.{Params, ceil_div, w, len}
-use Rattle.slh_few.specs.Parts.{end_to_end}
-use Rattle.slh_few.specs.Wots.{chain, secret}
+use Rattle.slh_few.specs.Parts.{end_to_end, part}
+use Rattle.slh_few.specs.Wots.{chain, digit, secret}
 use Rattle.slh_few.specs.declared.place.Place.{Place}
 
 -- how many steps lie between two kept values of a chain: 1 where w is 4 or 16, and 16 where w is 256
@@ -32,3 +32,17 @@ kept_chain p sk pk at c = end_to_end (kept_value p sk pk at c) (kept_count p)
 -- those of all chains of a key
 unfoldable pub kept_chains : Params → List ℕ → List ℕ → Place → List ℕ
 kept_chains p sk pk at = end_to_end (kept_chain p sk pk at) (len p)
+
+-- the value of chain c after so many steps, run on from the last value before it among those that are given for the
+-- chain, whatever bytes these are
+abbrev pub run_from_kept : Params → List ℕ → Place → ℕ → List ℕ → ℕ → List ℕ
+run_from_kept p pk at c kept steps =
+    chain p pk at c (part p.n kept (steps / spacing p)) (steps / spacing p * spacing p) (steps % spacing p)
+
+-- part c of the signature of a message that given values make
+abbrev pub chain_from_kept : Params → List ℕ → Place → List ℕ → List ℕ → ℕ → List ℕ
+chain_from_kept p pk at kept m c = run_from_kept p pk at c (part (kept_chain_len p) kept c) (digit p m c)
+
+-- the signature of a message that given values make; by the key's own values, the key's signature
+unfoldable pub wots_sig_from : Params → List ℕ → Place → List ℕ → List ℕ → List ℕ
+wots_sig_from p pk at kept m = end_to_end (chain_from_kept p pk at kept m) (len p)

@@ -5,6 +5,7 @@ pub mod Xmss
 pub mod Hypertree
 pub mod Fors
 pub mod Trees
+pub mod Paths
 -- cited by public clauses
 pub use Rattle.slh_params.specs.Bits
 pub use Rattle.slh_params.specs.Params

@@ -120,6 +120,35 @@ fn root_at(seeded_tree: &SeededForsTree, i: u32, sig: &[u8]) -> Node
     root_from(seeded_tree, i, &sig[start..start + size])
 }
 
+/// The root of tree `tree_no` that its part of a signature, a secret and a path, gives for leaf `index`: n bytes
+/// (Algorithm 17, lines 5 to 20).
+pub fn fors_root_from_sig(
+    public: &Public,
+    idx_tree: u64,
+    idx_leaf: u32,
+    tree_no: u32,
+    index: u32,
+    sig: &[u8],
+) -> Node
+    requires tree { tree_no < (params public.now.set).k }
+    requires leaf { index < 2 ^ (params public.now.set).a }
+    requires sig { length sig.now ≡ fors_part_len (params public.now.set) }
+    ensures value { let p = params public.now.set in let pk = public.now.pk_seed.now in
+        result.items ≡ climb_of (fors_tree p [] pk idx_tree idx_leaf tree_no) index
+        (fors_leaf p pk idx_tree idx_leaf (tree_no * 2 ^ p.a + index) (take p.n sig.now)) (drop p.n sig.now) }
+    ensures len { length result.items ≡ (params public.now.set).n }
+{
+    let seeds = Seeds {
+        set: public.set,
+        sk_seed: &[],
+        pk_seed: public.pk_seed,
+    };
+    let seeded = SeededHash::new(public.set, public.pk_seed);
+    let joins = SeededTreeHash::new(public.set, public.pk_seed);
+    let tree = SeededForsTree::new(&seeded, &joins, &seeds, idx_tree, idx_leaf, tree_no);
+    root_from(&tree, index, sig)
+}
+
 /// The public key that a signature of a digest of md_len bytes, of k * (1 + a) * n bytes itself,
 /// gives: n bytes (Algorithm 17).
 pub fn fors_pk_from_sig(

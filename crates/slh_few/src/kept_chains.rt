@@ -3,8 +3,8 @@ ghost use Rattle.std.specs.Prelude.{◌≡◌, ◌+◌, ◌-◌, ◌*◌, ◌≤
 ghost use Rattle.slh_params.specs.Params.{len, w};
 ghost use Rattle.slh_params.specs.ParamSet.{params};
 ghost use Rattle.slh_hash.specs.Seeded.{IsSeeded};
-ghost use Rattle.slh_few.specs.Wots.{chain, secret, whole_chain, wots_pk, wots_sig};
-ghost use Rattle.slh_few.specs.KeptChains.{spacing as spacing_of, kept_count as kept_count_of, kept_chain_len as chain_len, kept_chains_len as chains_len, kept_chain, kept_chains};
+ghost use Rattle.slh_few.specs.Wots.{whole_chain, wots_pk, wots_sig};
+ghost use Rattle.slh_few.specs.KeptChains.{spacing as spacing_of, kept_count as kept_count_of, kept_chain_len as chain_len, kept_chains_len as chains_len, kept_chain, kept_chains, run_from_kept, wots_sig_from};
 
 use crate::base_w::digits_of;
 use crate::nodes::{node_at, part_at};
@@ -131,12 +131,9 @@ fn value_from_kept(
 ) -> Node
     requires seeded { IsSeeded seeded.now (params seeds.now.set) seeds.now.pk_seed.now }
     requires steps { steps ≤ w (params seeds.now.set) - 1 }
-    requires kept { let p = params seeds.now.set in let sk = seeds.now.sk_seed.now in
-        let pk = seeds.now.pk_seed.now in
-        kept.now ≡ kept_chain p sk pk at c }
-    ensures { let p = params seeds.now.set in let sk = seeds.now.sk_seed.now in
-        let pk = seeds.now.pk_seed.now in
-        result.items ≡ chain p pk at c (secret p sk pk at c) 0 steps }
+    requires kept { length kept.now ≡ chain_len (params seeds.now.set) }
+    ensures value { result.items ≡ run_from_kept (params seeds.now.set) seeds.now.pk_seed.now at c kept.now steps }
+    ensures len { length result.items ≡ (params seeds.now.set).n }
 {
     let every = spacing(seeds.set);
     let j = steps / every;
@@ -145,17 +142,17 @@ fn value_from_kept(
 }
 
 /// Writes the signature of a message of n bytes, len * n bytes (Algorithm 7), from the values of the key's chains that
-/// `wots_pk_keeping` kept. Where w is at most 16, it computes no chain.
+/// `wots_pk_keeping` kept. Other bytes of that length give no signature of the key. Where w is at most 16, it computes
+/// no chain.
 #[tactic(auto, using(crate::proofs::Checksum::chain_bounds))]
 pub fn wots_sign_kept(seeds: &Seeds, at: Place, msg: &Node, kept: &[u8], out: &mut [u8])
     requires msg { length msg.now.items ≡ (params seeds.now.set).n }
-    requires kept { let p = params seeds.now.set in let sk = seeds.now.sk_seed.now in
-        let pk = seeds.now.pk_seed.now in
-        kept.now ≡ kept_chains p sk pk at }
+    requires kept { length kept.now ≡ chains_len (params seeds.now.set) }
     requires out { length out.old ≡ len (params seeds.now.set) * (params seeds.now.set).n }
-    ensures { let p = params seeds.now.set in let sk = seeds.now.sk_seed.now in
+    ensures value { out.new ≡ wots_sig_from (params seeds.now.set) seeds.now.pk_seed.now at kept.now msg.now.items }
+    ensures signature { let p = params seeds.now.set in let sk = seeds.now.sk_seed.now in
         let pk = seeds.now.pk_seed.now in
-        out.new ≡ wots_sig p sk pk at msg.now.items }
+        kept.now ≡ kept_chains p sk pk at → out.new ≡ wots_sig p sk pk at msg.now.items }
 {
     let seeded = SeededHash::new(seeds.set, seeds.pk_seed);
     let digits = digits_of(seeds.set, msg);

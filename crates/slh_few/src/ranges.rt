@@ -1,7 +1,8 @@
 //! The covers of ranges of leaves of the two kinds of trees, for a tree that several calls share.
-ghost use Rattle.std.specs.Prelude.{◌≡◌, ◌^◌, ◌≤◌, ◌<◌, length};
+ghost use Rattle.std.specs.Prelude.{◌≡◌, ℕ, ◌^◌, ◌≤◌, ◌<◌, [], ◌∷◌, length};
 ghost use Rattle.slh_params.specs.ParamSet.{params};
-ghost use Rattle.slh_tree.specs.Cover.{IsCover};
+ghost use Rattle.slh_tree.specs.declared.cover.Placed.{Placed};
+ghost use Rattle.slh_tree.specs.Cover.{IsCover, first_leaf, past_leaf};
 ghost use Rattle.slh_tree.specs.Record.{Gains, LiesInRange};
 ghost use Rattle.slh_few.specs.KeptChains.{kept_chains_len, kept_chains};
 ghost use Rattle.slh_few.specs.Xmss.{xmss_tree};
@@ -26,6 +27,8 @@ pub fn xmss_range(seeds: &Seeds, layer: u8, tree: u64, lo: u32, hi: u32, rec: &m
         IsCover (xmss_tree p sk pk layer tree) lo hi result.nodes.items }
     ensures lo { result.lo ≡ lo }
     ensures hi { result.hi ≡ hi }
+    ensures block { (z i : ℕ) → lo ≡ first_leaf z i → hi ≡ past_leaf z i
+        → (p : Placed) × (result.nodes.items ≡ p ∷ []) × (p.z ≡ z) × (p.i ≡ i) }
     ensures gained { let p = params seeds.now.set in let sk = seeds.now.sk_seed.now in
         let pk = seeds.now.pk_seed.now in
         Gains (xmss_tree p sk pk layer tree) (LiesInRange lo hi rec.old.leaf) rec.old rec.new }
@@ -53,6 +56,8 @@ pub fn xmss_range_keeping(
         IsCover (xmss_tree p sk pk at.layer at.tree) lo hi result.nodes.items }
     ensures lo { result.lo ≡ lo }
     ensures hi { result.hi ≡ hi }
+    ensures block { (z i : ℕ) → lo ≡ first_leaf z i → hi ≡ past_leaf z i
+        → (p : Placed) × (result.nodes.items ≡ p ∷ []) × (p.z ≡ z) × (p.i ≡ i) }
     ensures gained { let p = params seeds.now.set in let sk = seeds.now.sk_seed.now in
         let pk = seeds.now.pk_seed.now in
         Gains (xmss_tree p sk pk at.layer at.tree) (LiesInRange lo hi rec.old.leaf) rec.old rec.new }
@@ -86,6 +91,8 @@ pub fn fors_range(
         IsCover (fors_tree p sk pk idx_tree idx_leaf tree_no) lo hi result.nodes.items }
     ensures lo { result.lo ≡ lo }
     ensures hi { result.hi ≡ hi }
+    ensures block { (z i : ℕ) → lo ≡ first_leaf z i → hi ≡ past_leaf z i
+        → (p : Placed) × (result.nodes.items ≡ p ∷ []) × (p.z ≡ z) × (p.i ≡ i) }
     ensures gained { let p = params seeds.now.set in let sk = seeds.now.sk_seed.now in
         let pk = seeds.now.pk_seed.now in
         Gains (fors_tree p sk pk idx_tree idx_leaf tree_no) (LiesInRange lo hi rec.old.leaf) rec.old rec.new }

@@ -7,7 +7,7 @@ use Rattle.slh_few.specs.Parts.{end_to_end}
 use Rattle.slh_few.proofs.Ends.{end_to_end-same}
 use Rattle.slh_subtrees.specs.Joined.{IsJoined}
 use Rattle.slh_subtrees.specs.declared.joined_tree.JoinedTree.{JoinedTree}
-use Rattle.slh_par.specs.Paths.{node_bytes, bytes_or_none}
+use Rattle.slh_few.specs.Paths.{node_bytes, bytes_or_none}
 
 -- a path is its siblings end to end
 path_below-siblings : (t : MerkleTree) (i k : ℕ) → path_below t i k ≡ end_to_end (sibling t i) k

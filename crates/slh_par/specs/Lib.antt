@@ -1,4 +1,3 @@
-pub mod Paths
 pub mod Parts
 pub mod ParFault
 pub mod Verdicts

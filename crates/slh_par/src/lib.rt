@@ -13,7 +13,6 @@ mod forms;
 mod generation;
 mod layer_messages;
 mod parallel;
-mod path_bytes;
 mod signature_bytes;
 mod signing;
 mod tree_parts;

@@ -6,8 +6,7 @@ ghost use Rattle.slh_subtrees.specs.Answers.{chains_in};
 ghost use Rattle.slh_subtrees.specs.Joined.{IsJoined};
 ghost use Rattle.slh_par.specs.Parts.{params_of, fors_tree_in, fors_part_in, layer_tree_in, layer_leaf_in, layer_part_in};
 
-use crate::path_bytes::put_path;
-use slh_few::{fors_part_len, fors_secret, wots_sig_len, wots_sign_kept, xmss_sig_len};
+use slh_few::{fors_part_len, fors_secret, put_path, wots_sig_len, wots_sign_kept, xmss_sig_len};
 use slh_params::Node;
 use slh_subtrees::{JoinedTree, SigningTrees};
 

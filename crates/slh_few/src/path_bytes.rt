@@ -1,7 +1,7 @@
 //! Paths as bytes of a signature.
 ghost use Rattle.std.specs.Prelude.{◌≡◌, ℕ, ◌+◌, ◌*◌, ◌<◌, ◌≤◌, ◌++◌, length, take};
 ghost use Rattle.slh_few.specs.Parts.{end_to_end};
-ghost use Rattle.slh_par.specs.Paths.{node_bytes};
+ghost use Rattle.slh_few.specs.Paths.{node_bytes};
 
 use slh_params::put_node;
 use slh_tree::PathRec;
@@ -17,7 +17,7 @@ fn put_known(path: &PathRec, level: u32, out: &mut [u8], start: usize)
 }
 
 /// Writes the nodes of a path end to end, from the lowest to the one below `height`, each of n bytes.
-pub(crate) fn put_path(path: &PathRec, height: u32, n: usize, out: &mut [u8])
+pub fn put_path(path: &PathRec, height: u32, n: usize, out: &mut [u8])
     requires nodes { (j : ℕ) → j < height → length (node_bytes path.now j) ≡ n }
     requires out { length out.old ≡ height * n }
     ensures { out.new ≡ end_to_end (node_bytes path.now) height }

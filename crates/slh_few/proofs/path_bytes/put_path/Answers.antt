@@ -1,8 +1,8 @@
 -- After each level the first nodes of the path are written.
 use Rattle.std.proofs.Common.{◌≡◌, ◌*◌, length, take, refl, ap, sym, ◌∙◌, arith}
 use Rattle.slh_few.proofs.Ends.{end_to_end-none, writes-more, part_fits, written_all}
-use Rattle.slh_par.specs.Paths.{node_bytes}
-use Rattle.slh_par.proofs.path_bytes.put_path.Goals as goal
+use Rattle.slh_few.specs.Paths.{node_bytes}
+use Rattle.slh_few.proofs.path_bytes.put_path.Goals as goal
 
 pub loop-level-init : goal.loop-level-init
 loop-level-init c = let zero : 0 * c.args.n ≡ 0 = omega arith in ap (λ k. take k c.args.out.now) zero ∙ sym (end_to_end-none _)
