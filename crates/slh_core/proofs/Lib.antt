@@ -3,3 +3,4 @@ pub mod Lengths
 pub mod Messages
 pub mod Valid
 pub mod Names
+pub mod Assembled

@@ -3,6 +3,8 @@ use Rattle.std.proofs.Common.{◌≡◌, ℕ, zero, suc, ◌+◌, ◌-◌, ◌*�
 use Rattle.std.proofs.lemmas.Bool.{cases_lt}
 use Rattle.std.proofs.lemmas.List.{take-append-le, drop-append-le, length-append, length-drop, drop_at, take_all, get_or-append-add, get_or-replicate, get_or_past, length-replicate, drop-replicate}
 use Rattle.std.proofs.Math.Nat.{mul-le-mul_right}
+use Rattle.slh_tree.specs.Tree.{MerkleTree, sibling}
+use Rattle.slh_tree.specs.Climb.{path_below}
 use Rattle.slh_few.specs.Parts.{end_to_end, part}
 
 -- no part
@@ -84,3 +86,9 @@ zeros_after xs k n j e h =
     ] in
     ap (λ c. get_or (xs ++ drop k (replicate n 0)) c 0) at ∙ get_or-append-add xs (drop k (replicate n 0)) i 0
     ∙ ap (λ ys. get_or ys i 0) (drop-replicate k n 0) ∙ zeros
+
+-- a path is its siblings end to end
+pub path_below-siblings : (t : MerkleTree) (i k : ℕ) → path_below t i k ≡ end_to_end (sibling t i) k
+unfolding path_below end_to_end
+path_below-siblings t i zero = refl
+path_below-siblings t i (suc k) = ap (λ xs. xs ++ sibling t i k) (path_below-siblings t i k)

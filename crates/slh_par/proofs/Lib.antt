@@ -1,3 +1,2 @@
 pub mod PathLaw
 pub mod Joined
-pub mod Assembled

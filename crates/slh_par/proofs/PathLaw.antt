@@ -1,19 +1,13 @@
 -- The nodes that a joined tree's record knows are the path's.
 use Rattle.std.proofs.Common.{◌≡◌, ℕ, zero, suc, ◌<◌, List, ◌++◌, length, refl, ap, sym, ◌∙◌}
 use Rattle.slh_tree.specs.Tree.{MerkleTree, Lawful, sibling, sibling_index}
-use Rattle.slh_tree.specs.Climb.{path, path_below}
+use Rattle.slh_tree.specs.Climb.{path}
 use Rattle.slh_tree.proofs.Authentic.{node_width}
 use Rattle.slh_few.specs.Parts.{end_to_end}
-use Rattle.slh_few.proofs.Ends.{end_to_end-same}
+use Rattle.slh_few.proofs.Ends.{end_to_end-same, path_below-siblings}
 use Rattle.slh_subtrees.specs.Joined.{IsJoined}
 use Rattle.slh_subtrees.specs.declared.joined_tree.JoinedTree.{JoinedTree}
 use Rattle.slh_few.specs.Paths.{node_bytes, bytes_or_none}
-
--- a path is its siblings end to end
-path_below-siblings : (t : MerkleTree) (i k : ℕ) → path_below t i k ≡ end_to_end (sibling t i) k
-unfolding path_below end_to_end
-path_below-siblings t i zero = refl
-path_below-siblings t i (suc k) = ap (λ xs. xs ++ sibling t i k) (path_below-siblings t i k)
 
 -- each node below the tree's height is the sibling there
 pub node-joined : (t : MerkleTree) (i : ℕ) (x : JoinedTree) → IsJoined t i x → (j : ℕ) → j < t.height → node_bytes x.path j ≡ sibling t i j

@@ -6,7 +6,7 @@ use Rattle.slh_few.specs.Fors.{fors_tree, fors_sig, compressed_roots}
 use Rattle.slh_few.specs.Hypertree.{ht_sig}
 use Rattle.slh_core.specs.Cut.{md}
 use Rattle.slh_core.specs.Keys.{Key, sk_seed, public_of, pk_seed}
-use Rattle.slh_par.proofs.Assembled.{signed_parts}
+use Rattle.slh_core.proofs.Assembled.{signed_parts}
 use Rattle.slh_par.proofs.signing.sign_digest_par.Goals as goal
 
 pub returns-clause-signature : goal.returns-clause-signature

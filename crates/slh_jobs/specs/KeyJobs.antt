@@ -1,0 +1,45 @@
+-- The jobs of key generation, the ranges of the XMSS tree of the top layer, and their answers: ours.
+use Rattle.std.specs.Prelude.{◌≡◌, ℕ, ◌-◌, ◌*◌, ◌^◌, ◌<◌, List, ◌++◌}
+use Rattle.slh_params.specs.Bits.{to_byte}
+use Rattle.slh_params.specs.Params.{Params}
+use Rattle.slh_hash.specs.Keyed.{PRF_msg}
+use Rattle.slh_tree.specs.Tree.{MerkleTree, node, root}
+use Rattle.slh_few.specs.Xmss.{xmss_tree}
+use Rattle.slh_jobs.specs.Ranges.{below, given, node_given, tag_given, top_given}
+use Rattle.slh_jobs.specs.Jobs.{params_of}
+use Rattle.slh_jobs.specs.declared.levels.Levels.{Levels}
+use Rattle.slh_jobs.specs.declared.shape.Shape.{Shape}
+
+-- how the tree is cut; an answer is a node and its tag
+abbrev pub key_shape : Levels → Shape
+key_shape c = let p = params_of c in record { n = p.n; height = p.hp; levels = c.xmss; own = 0 }
+
+abbrev pub key_jobs : Levels → ℕ
+key_jobs c = 2 ^ c.xmss
+
+-- the tree, of SK.seed and PK.seed
+abbrev pub key_tree : Levels → List ℕ → List ℕ → MerkleTree
+key_tree c sk pk = xmss_tree (params_of c) sk pk ((params_of c).d - 1) 0
+
+-- The tag of the node that job n answers: PRF_msg under SK.prf (FIPS 205, section 11.2), with the node as its
+-- randomizer, of the levels, the number and PK.seed.
+abbrev pub key_tag : Levels → List ℕ → List ℕ → ℕ → List ℕ → List ℕ
+key_tag c prf pk n node = PRF_msg (params_of c) prf node (to_byte c.xmss 1 ++ to_byte n 4 ++ pk)
+
+-- the answer of job n
+abbrev pub key_answer : Levels → List ℕ → List ℕ → List ℕ → ℕ → List ℕ
+key_answer c sk prf pk n =
+    let x = node (key_tree c sk pk) (below (key_shape c)) n in
+    x ++ key_tag c prf pk n x
+
+-- the bytes are the answers of all jobs, end to end
+abbrev pub AreKeyAnswers : Levels → List ℕ → List ℕ → List ℕ → List ℕ → Type 0
+AreKeyAnswers c sk prf pk bytes = (n : ℕ) → n < key_jobs c → given (key_shape c) bytes n ≡ key_answer c sk prf pk n
+
+-- the root that answers give, whatever bytes they are
+abbrev pub key_root : Levels → List ℕ → List ℕ → List ℕ → List ℕ
+key_root c sk pk bytes = root (top_given (key_tree c sk pk) (key_shape c) bytes 0)
+
+-- each node has its tag
+abbrev pub AreTagged : Levels → List ℕ → List ℕ → List ℕ → Type 0
+AreTagged c prf pk bytes = (n : ℕ) → n < key_jobs c → key_tag c prf pk n (node_given (key_shape c) bytes n) ≡ tag_given (key_shape c) bytes n

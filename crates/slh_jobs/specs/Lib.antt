@@ -1,0 +1,14 @@
+pub mod Ranges
+pub mod Tops
+pub mod Jobs
+pub mod Starts
+pub mod Joined
+pub mod KeyJobs
+pub mod JoinFault
+-- cited by public clauses
+pub use Rattle.slh_params.specs.Params
+pub use Rattle.slh_params.specs.ParamSet
+pub use Rattle.slh_core.specs.Keys
+pub use Rattle.slh_core.specs.Messages
+pub use Rattle.slh_core.specs.Randomizers
+pub use Rattle.slh_core.specs.Signatures

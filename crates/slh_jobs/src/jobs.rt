@@ -1,0 +1,118 @@
+//! The jobs of a signature, and where their answers stand.
+ghost use Rattle.std.specs.Prelude.{◌≡◌, ◌+◌, ◌*◌, ◌^◌, ◌<◌, ◌≤◌};
+ghost use Rattle.slh_jobs.specs.Ranges.{IsShape};
+ghost use Rattle.slh_jobs.specs.Jobs.{xmss_shape, fors_shape, xmss_jobs, fors_jobs, jobs, start_of, len_of, answers_len};
+
+use crate::levels::Levels;
+use crate::shape::Shape;
+use slh_few::kept_chains_len;
+
+impl Levels {
+    /// How the XMSS trees are cut.
+    pub(crate) fn xmss_shape(&self) -> Shape
+        ensures value { result ≡ xmss_shape self.now }
+        ensures shape { IsShape result }
+        ensures own { result.own ≤ 68608 }
+    {
+        let set = self.set;
+        Shape {
+            n: set.n(),
+            height: set.hp(),
+            levels: self.xmss,
+            own: (set.hp() - self.xmss) as usize * set.n() + kept_chains_len(set),
+        }
+    }
+
+    /// How the FORS trees are cut.
+    pub(crate) fn fors_shape(&self) -> Shape
+        ensures value { result ≡ fors_shape self.now }
+        ensures shape { IsShape result }
+        ensures own { result.own ≤ 68608 }
+    {
+        let set = self.set;
+        Shape {
+            n: set.n(),
+            height: set.a(),
+            levels: self.fors,
+            own: (set.a() - self.fors) as usize * set.n() + set.n(),
+        }
+    }
+
+    /// The number of jobs of the XMSS trees.
+    pub(crate) fn xmss_jobs(&self) -> u32
+        ensures value { result ≡ xmss_jobs self.now }
+        ensures few { result ≤ 16640 }
+    {
+        times(self.set.d(), ranges(self.xmss))
+    }
+
+    /// The number of jobs of the FORS trees.
+    pub(crate) fn fors_jobs(&self) -> u32
+        ensures value { result ≡ fors_jobs self.now }
+        ensures few { result ≤ 16640 }
+    {
+        times(self.set.k(), ranges(self.fors))
+    }
+}
+
+/// The number of ranges of a tree that is cut so often.
+pub(crate) fn ranges(levels: u32) -> u32
+    requires { levels ≤ 8 }
+    ensures value { result ≡ 2 ^ levels }
+    ensures few { result ≤ 256 }
+{
+    1 << levels
+}
+
+/// The ranges of so many trees, each cut into as many.
+fn times(trees: u32, ranges: u32) -> u32
+    requires trees { trees ≤ 65 }
+    requires ranges { ranges ≤ 256 }
+    ensures product { result ≡ trees * ranges }
+    ensures few { result ≤ 16640 }
+{
+    trees * ranges
+}
+
+/// The number of jobs of a signature: first the ranges of the XMSS trees, from layer 0 on, and then those of the FORS
+/// trees.
+pub fn sign_jobs(levels: &Levels) -> u32
+    ensures value { result ≡ jobs levels.now }
+    ensures few { result ≤ 33280 }
+{
+    levels.xmss_jobs() + levels.fors_jobs()
+}
+
+/// Where the answer of a job begins among the answers of all jobs, put end to end, in bytes.
+pub fn answer_start(levels: &Levels, job: u32) -> usize
+    requires { job < jobs levels.now }
+    ensures { result ≡ start_of levels.now job }
+{
+    let xmss = levels.xmss_jobs();
+    let xmss_len = levels.xmss_shape().answer_len();
+    if job < xmss {
+        job as usize * xmss_len
+    } else {
+        xmss as usize * xmss_len + (job - xmss) as usize * levels.fors_shape().answer_len()
+    }
+}
+
+/// The length of the answer of a job, in bytes.
+pub fn answer_len(levels: &Levels, job: u32) -> usize
+    requires { job < jobs levels.now }
+    ensures { result ≡ len_of levels.now job }
+{
+    if job < levels.xmss_jobs() {
+        levels.xmss_shape().answer_len()
+    } else {
+        levels.fors_shape().answer_len()
+    }
+}
+
+/// The length of the answers of all jobs, in bytes.
+pub fn answers_len(levels: &Levels) -> usize
+    ensures { result ≡ answers_len levels.now }
+{
+    levels.xmss_jobs() as usize * levels.xmss_shape().answer_len()
+        + levels.fors_jobs() as usize * levels.fors_shape().answer_len()
+}

@@ -1,0 +1,59 @@
+//! How the trees of one kind are cut.
+ghost use Rattle.std.specs.Prelude.{◌≡◌, ◌+◌, ◌*◌, ◌^◌, ◌<◌, ◌≤◌};
+ghost use Rattle.slh_tree.specs.Cover.{first_leaf, past_leaf};
+ghost use Rattle.slh_jobs.specs.Ranges.{below, answer_len, IsShape};
+
+/// How the trees of one kind are cut into ranges of one size, and how long the answer of a range is.
+#[derive(Clone, Copy)]
+pub(crate) struct Shape {
+    /// The length of a node.
+    pub(crate) n: usize,
+    /// The height of the trees.
+    pub(crate) height: u32,
+    /// How often their leaves are halved.
+    pub(crate) levels: u32,
+    /// The bytes of an answer beside a node and its tag.
+    pub(crate) own: usize,
+}
+
+impl Shape {
+    /// The height of a range's node.
+    pub(crate) fn below(&self) -> u32
+        requires { IsShape self.now }
+        ensures { result ≡ below self.now }
+    {
+        self.height - self.levels
+    }
+
+    /// The length of the nodes of a path below a range's node.
+    pub(crate) fn path_len(&self) -> usize
+        requires { IsShape self.now }
+        ensures value { result ≡ below self.now * self.now.n }
+        ensures small { result ≤ 448 }
+    {
+        self.below() as usize * self.n
+    }
+
+    /// The length of an answer.
+    pub(crate) fn answer_len(&self) -> usize
+        requires shape { IsShape self.now }
+        requires own { self.now.own ≤ 68608 }
+        ensures value { result ≡ answer_len self.now }
+        ensures small { result ≤ 68672 }
+    {
+        2 * self.n + self.own
+    }
+
+    /// The first leaf of a range, and the leaf after its last one.
+    pub(crate) fn leaves(&self, range: u32) -> (u32, u32)
+        requires shape { IsShape self.now }
+        requires range { range < 2 ^ self.now.levels }
+        ensures lo { result.0 ≡ first_leaf (below self.now) range }
+        ensures hi { result.1 ≡ past_leaf (below self.now) range }
+        ensures some { result.0 < result.1 }
+        ensures within { result.1 ≤ 2 ^ self.now.height }
+    {
+        let size = 1 << self.below();
+        (range * size, (range + 1) * size)
+    }
+}

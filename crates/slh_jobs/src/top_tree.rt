@@ -1,0 +1,102 @@
+//! What a tree is above its ranges, whose nodes are given.
+ghost use Rattle.std.specs.Prelude.{◌≡◌, ◌+◌, ◌*◌, ◌/◌, ◌<◌, ◌≤◌, ◌^◌, length};
+ghost use Rattle.slh_tree.specs.Tree.{root as root_of};
+ghost use Rattle.slh_tree.specs.Climb.{path as path_of};
+ghost use Rattle.slh_jobs.specs.Ranges.{IsShape, below, answer_len, top_given, auth_given};
+
+use crate::given::Given;
+use slh_params::Node;
+use slh_tree::{Tree, path, root};
+
+/// A tree above its ranges, whose nodes are those of the answers from `first` on. It is cut at least once.
+#[derive(Drop)]
+struct TopTree<'t, 'a, T: Tree> {
+    tree: &'t T,
+    given: &'t Given<'a>,
+    first: u32,
+    ghost few: { first ≤ 16640 },
+    ghost height: { given.now.shape.height ≡ (T.tree tree.now).height },
+    ghost n: { given.now.shape.n ≡ (T.tree tree.now).width },
+    ghost some: { 1 ≤ given.now.shape.levels },
+    ghost levels: { given.now.shape.levels ≤ 8 },
+    ghost there: { (first + 2 ^ given.now.shape.levels) * answer_len given.now.shape ≤ length given.now.bytes.now },
+}
+
+impl<'t, 'a, T: Tree> Tree for TopTree<'t, 'a, T> {
+    ghost use Rattle.slh_jobs.specs.Ranges.{top_given};
+    ghost use Rattle.slh_jobs.specs.Tops.{top-lawful};
+
+    ghost tree = { λ t. top_given (T.tree t.tree.now) t.given.now.shape t.given.now.bytes.now t.first };
+
+    ghost lawful = { λ t. top-lawful (T.tree t.tree.now) (T.lawful t.tree.now) t.given.now.shape t.given.now.bytes.now t.first t.n };
+
+    fn height(&self) -> u32 {
+        self.given.shape.levels
+    }
+
+    fn leaf(&self, i: u32) -> Node {
+        self.given.node((self.first + i) as usize)
+    }
+
+    fn join(&self, z: u32, i: u32, l: &Node, r: &Node) -> Node {
+        self.tree.join(self.given.shape.below() + z, i, l, r)
+    }
+}
+
+/// The root that the ranges of a tree give, whose answers begin with answer `first`: n bytes.
+pub(crate) fn top_root<T: Tree>(tree: &T, given: &Given, first: u32) -> Node
+    requires shape { IsShape given.now.shape }
+    requires few { first ≤ 16640 }
+    requires height { given.now.shape.height ≡ (T.tree tree.now).height }
+    requires n { given.now.shape.n ≡ (T.tree tree.now).width }
+    requires there { (first + 2 ^ given.now.shape.levels) * answer_len given.now.shape ≤ length given.now.bytes.now }
+    ensures value { result.items ≡ root_of (top_given (T.tree tree.now) given.now.shape given.now.bytes.now first) }
+    ensures len { length result.items ≡ given.now.shape.n }
+{
+    if given.shape.levels == 0 {
+        given.node(first as usize)
+    } else {
+        root(&TopTree { tree, given, first })
+    }
+}
+
+/// Writes the path of range `range` in the tree above the ranges, whose answers begin with answer `first`.
+fn put_upper<T: Tree>(tree: &T, given: &Given, first: u32, range: u32, out: &mut [u8])
+    requires shape { IsShape given.now.shape }
+    requires few { first ≤ 16640 }
+    requires height { given.now.shape.height ≡ (T.tree tree.now).height }
+    requires n { given.now.shape.n ≡ (T.tree tree.now).width }
+    requires there { (first + 2 ^ given.now.shape.levels) * answer_len given.now.shape ≤ length given.now.bytes.now }
+    requires range { range < 2 ^ given.now.shape.levels }
+    requires out { length out.old ≡ given.now.shape.levels * given.now.shape.n }
+    ensures { out.new ≡ path_of (top_given (T.tree tree.now) given.now.shape given.now.bytes.now first) range }
+{
+    if given.shape.levels > 0 {
+        path(&TopTree { tree, given, first }, range, out);
+    }
+}
+
+/// Writes the path of leaf `leaf` of a tree, whose answers begin with answer `first`: from its range's answer, and then
+/// from the nodes of the ranges.
+pub(crate) fn put_auth<T: Tree>(
+    tree: &T,
+    given: &Given,
+    first: u32,
+    leaf: u32,
+    out: &mut [u8],
+)
+    requires shape { IsShape given.now.shape }
+    requires few { first ≤ 16640 }
+    requires height { given.now.shape.height ≡ (T.tree tree.now).height }
+    requires n { given.now.shape.n ≡ (T.tree tree.now).width }
+    requires room { below given.now.shape * given.now.shape.n ≤ given.now.shape.own }
+    requires there { (first + 2 ^ given.now.shape.levels) * answer_len given.now.shape ≤ length given.now.bytes.now }
+    requires leaf { leaf < 2 ^ given.now.shape.height }
+    requires out { length out.old ≡ given.now.shape.height * given.now.shape.n }
+    ensures { out.new ≡ auth_given (T.tree tree.now) given.now.shape given.now.bytes.now first leaf }
+{
+    let range = leaf >> given.shape.below();
+    let (lower, upper) = out.split_at_mut(given.shape.path_len());
+    lower.copy_from_slice(given.path((first + range) as usize));
+    put_upper(tree, given, first, range, upper);
+}
