@@ -1,12 +1,19 @@
 -- The ranges of a tree, and the leaves of each.
-use Rattle.std.proofs.Common.{◌≡◌, ℕ, ◌+◌, ◌-◌, ◌*◌, ◌/◌, ◌^◌, ◌<◌, ◌≤◌, List, arith, sym, ap, ◌∙◌}
-use Rattle.std.proofs.Math.Nat.{mul-le-mul_right, mod-lt, div-lt_iff_lt-mul}
+use Rattle.std.proofs.Common.{◌≡◌, ℕ, ◌+◌, ◌-◌, ◌*◌, ◌/◌, ◌^◌, ◌<◌, ◌≤◌, List, inl, inr, arith, sym, subst, ap, ◌∙◌}
+use Rattle.std.proofs.Math.Nat.{mul-le-mul, mul-le-mul_right, mod-lt, div-lt_iff_lt-mul}
 use Rattle.std.proofs.lemmas.Nat.{pow_pos, pow-add}
+use Rattle.std.proofs.lemmas.Bool.{cases_lt}
 use Rattle.slh_params.specs.Params.{Params}
+use Rattle.slh_params.specs.declared.param_set.ParamSet.{ParamSet}
+use Rattle.slh_few.specs.Fors.{fors_part_len}
 use Rattle.slh_core.specs.Cut.{idx_leaf}
 use Rattle.std.proofs.Math.Pow.{pow_mono}
 use Rattle.slh_tree.proofs.Branch.{branch_below}
 use Rattle.slh_jobs.specs.Ranges.{below, IsShape}
+use Rattle.slh_params.specs.ParamSet.{params}
+use Rattle.slh_params.proofs.Bounds.{n_low, n_high, hp_high, a_high}
+use Rattle.slh_jobs.specs.Jobs.{xmss_shape, fors_shape}
+use Rattle.slh_jobs.specs.declared.levels.Levels.{Levels}
 use Rattle.slh_jobs.specs.declared.shape.Shape.{Shape}
 
 -- the range of a leaf is one of the tree's
@@ -53,3 +60,41 @@ ranges_few levels h = pow_mono h
 pub leaf_below : (p : Params) (digest : List ℕ) → idx_leaf p digest < 2 ^ p.hp
 unfolding idx_leaf
 leaf_below p digest = mod-lt _ (pow_pos p.hp)
+
+-- the shapes of both kinds of trees
+pub xmss_is_shape : (c : Levels) → IsShape (xmss_shape c)
+xmss_is_shape c = record {
+  high = omega (arith, hp_high c.set);
+  some = c.xmss_high;
+  few = c.xmss_few;
+  n_low = omega (arith, n_low c.set);
+  n_high = n_high c.set;
+}
+
+pub fors_is_shape : (c : Levels) → IsShape (fors_shape c)
+fors_is_shape c = record {
+  high = a_high c.set;
+  some = c.fors_high;
+  few = c.fors_few;
+  n_low = omega (arith, n_low c.set);
+  n_high = n_high c.set;
+}
+
+-- the answers of one tree are among those of all trees
+pub tree_there : (l trees levels len all : ℕ) → l < trees → trees * 2 ^ levels * len ≤ all → (l * 2 ^ levels + 2 ^ levels) * len ≤ all
+tree_there l trees levels len all lt room =
+    let ranges : (l + 1) * 2 ^ levels ≤ trees * 2 ^ levels = mul-le-mul_right (2 ^ levels) (let le : l + 1 ≤ trees = omega arith in le) in
+    let bytes : (l * 2 ^ levels + 2 ^ levels) * len ≤ trees * 2 ^ levels * len = mul-le-mul_right len (let le : l * 2 ^ levels + 2 ^ levels ≤ trees * 2 ^ levels = omega (arith, ranges) in le) in
+    omega (arith, bytes)
+
+-- a FORS tree's part of a signature has at most 480 bytes
+pub fors_part_few : (s : ParamSet) → fors_part_len (params s) ≤ 480
+fors_part_few s = mul-le-mul {n₂ = 15} (omega (arith, a_high s)) (n_high s)
+
+-- what holds below a number and at it
+pub below_more : (P : ℕ → Type 0) (n : ℕ) → ((i : ℕ) → i < n → P i) → P n → (i : ℕ) → i < n + 1 → P i
+below_more P n all here i lt =
+    elim (cases_lt i n) [
+      | inl less ↦ all i less
+      | inr ge ↦ let same : n ≡ i = omega arith in subst P same here
+    ]

@@ -8,10 +8,12 @@
 //! as the secret key is.
 #![tactic(auto, using(slh_params::proofs::Bounds::bounds))]
 
+mod answered;
 mod answers;
 mod fault;
 mod given;
 mod jobs;
+mod joining;
 mod levels;
 mod shape;
 mod signing;
