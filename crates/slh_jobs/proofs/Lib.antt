@@ -1,3 +1,5 @@
 pub mod Indices
 pub mod Blocks
 pub mod Places
+pub mod Right
+pub mod Assembled
