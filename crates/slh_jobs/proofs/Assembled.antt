@@ -220,22 +220,22 @@ answers_fit c sk start bytes are =
     let digest = digest_in p start in
     record {
       xmss_tags = λ n lt.
-        let whole : n / 2 ^ c.xmss * 2 ^ c.xmss + n % 2 ^ c.xmss ≡ n = omega arith in
-        subst (λ (k : ℕ). tag_of c sk start k (node_given (xmss_shape c) bytes k) ≡ tag_given (xmss_shape c) bytes k) whole
-        (tag-right _ (xmss_shape c) _ _ _ bytes (n / 2 ^ c.xmss * 2 ^ c.xmss) (layer_right c sk start bytes are (n / 2 ^ c.xmss) (tree_of_job n p.d c.xmss lt)) (n % 2 ^ c.xmss) (mod-lt n (pow_pos c.xmss)));
+          let whole : n / 2 ^ c.xmss * 2 ^ c.xmss + n % 2 ^ c.xmss ≡ n = omega arith in
+          subst (λ (k : ℕ). tag_of c sk start k (node_given (xmss_shape c) bytes k) ≡ tag_given (xmss_shape c) bytes k) whole
+          (tag-right _ (xmss_shape c) _ _ _ bytes (n / 2 ^ c.xmss * 2 ^ c.xmss) (layer_right c sk start bytes are (n / 2 ^ c.xmss) (tree_of_job n p.d c.xmss lt)) (n % 2 ^ c.xmss) (mod-lt n (pow_pos c.xmss)));
       fors_tags = λ n lt.
-        let whole : n / 2 ^ c.fors * 2 ^ c.fors + n % 2 ^ c.fors ≡ n = omega arith in
-        subst (λ (k : ℕ). tag_of c sk start (xmss_jobs c + k) (node_given (fors_shape c) (fors_answers c bytes) k) ≡ tag_given (fors_shape c) (fors_answers c bytes) k) whole
-        (tag-right _ (fors_shape c) _ _ _ (fors_answers c bytes) (n / 2 ^ c.fors * 2 ^ c.fors) (fors_right c sk start bytes are (n / 2 ^ c.fors) (tree_of_job n p.k c.fors lt)) (n % 2 ^ c.fors) (mod-lt n (pow_pos c.fors)));
+          let whole : n / 2 ^ c.fors * 2 ^ c.fors + n % 2 ^ c.fors ≡ n = omega arith in
+          subst (λ (k : ℕ). tag_of c sk start (xmss_jobs c + k) (node_given (fors_shape c) (fors_answers c bytes) k) ≡ tag_given (fors_shape c) (fors_answers c bytes) k) whole
+          (tag-right _ (fors_shape c) _ _ _ (fors_answers c bytes) (n / 2 ^ c.fors * 2 ^ c.fors) (fors_right c sk start bytes are (n / 2 ^ c.fors) (tree_of_job n p.k c.fors lt)) (n % 2 ^ c.fors) (mod-lt n (pow_pos c.fors)));
       fors = λ j lt.
-        ap (fors_root p public (idx_tree p digest) (idx_leaf p digest) (md p digest) j) (fors_part-right c sk start bytes are j lt)
-        ∙ fors_root-part c.set secret public (idx_tree p digest) (idx_leaf p digest) (md p digest) j
-        ∙ sym (fors_root-right c sk start bytes are j lt);
+          ap (fors_root p public (idx_tree p digest) (idx_leaf p digest) (md p digest) j) (fors_part-right c sk start bytes are j lt)
+          ∙ fors_root-part c.set secret public (idx_tree p digest) (idx_leaf p digest) (md p digest) j
+          ∙ sym (fors_root-right c sk start bytes are j lt);
       layers = λ l lt.
-        let at : Place = place_in c start l in
-        ap (λ (m : List ℕ). xmss_pk_from_sig p public at m (layer_part_given c sk start bytes l)) (signed-right c sk start bytes are l lt)
-        ∙ ap (xmss_pk_from_sig p public at (signed_of c sk start l)) (layer_part-right c sk start bytes are l lt)
-        ∙ xmss_pk_from_sig-xmss_sig c.set secret public at (signed_of c sk start l) (layer_place-pair p (idx_tree p digest) (idx_leaf p digest) l (leaf_below p digest))
-        ∙ ap (λ (k : ℕ). root (xmss_tree p secret public k at.tree)) (layer_place-layer p (idx_tree p digest) (idx_leaf p digest) l)
-        ∙ sym (layer_root-right c sk start bytes are l lt);
+          let at : Place = place_in c start l in
+          ap (λ (m : List ℕ). xmss_pk_from_sig p public at m (layer_part_given c sk start bytes l)) (signed-right c sk start bytes are l lt)
+          ∙ ap (xmss_pk_from_sig p public at (signed_of c sk start l)) (layer_part-right c sk start bytes are l lt)
+          ∙ xmss_pk_from_sig-xmss_sig c.set secret public at (signed_of c sk start l) (layer_place-pair p (idx_tree p digest) (idx_leaf p digest) l (leaf_below p digest))
+          ∙ ap (λ (k : ℕ). root (xmss_tree p secret public k at.tree)) (layer_place-layer p (idx_tree p digest) (idx_leaf p digest) l)
+          ∙ sym (layer_root-right c sk start bytes are l lt);
     }

@@ -3,3 +3,5 @@ pub mod Blocks
 pub mod Places
 pub mod Right
 pub mod Assembled
+pub mod KeyLaw
+pub mod Begun

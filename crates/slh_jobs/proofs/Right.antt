@@ -77,33 +77,39 @@ rest-right t s v rest tag bytes first is =
     ap (drop (below s * s.n)) (own-right t s v rest tag bytes first is)
     ∙ drop_at (path_below t v (below s)) rest (below s * s.n) (lower_len t is.law s is.width v)
 
--- the nodes above the ranges are the tree's
-top-right : (t : MerkleTree) (s : Shape) (v : ℕ) (rest : List ℕ) (tag : ℕ → List ℕ → List ℕ) (bytes : List ℕ) (first : ℕ) → AreRight t s v rest tag bytes first
+-- where the nodes are the ranges', those above them are the tree's
+top-nodes : (t : MerkleTree) (s : Shape) (bytes : List ℕ) (first : ℕ)
+    → ((r : ℕ) → r < 2 ^ s.levels → node_given s bytes (first + r) ≡ node t (below s) r)
     → (z i : ℕ) → z ≤ s.levels → i < 2 ^ (s.levels - z) → node (top_given t s bytes first) z i ≡ node t (below s + z) i
 unfolding node
-top-right t s v rest tag bytes first is zero i le lt =
+top-nodes t s bytes first own zero i le lt =
     let whole : s.levels - 0 ≡ s.levels = omega arith in
     let none : below s ≡ below s + 0 = omega arith in
-    node-right t s v rest tag bytes first is i (rw whole at lt) ∙ ap (λ (k : ℕ). node t k i) none
-top-right t s v rest tag bytes first is (suc z) i le lt =
+    own i (rw whole at lt) ∙ ap (λ (k : ℕ). node t k i) none
+top-nodes t s bytes first own (suc z) i le lt =
     let next : suc (below s + z) ≡ below s + suc z = omega arith in
     let up : s.levels - z ≡ s.levels - suc z + 1 = omega arith in
     let twice : 2 ^ (s.levels - z) ≡ 2 ^ (s.levels - suc z) * 2 = ap (λ (k : ℕ). 2 ^ k) up ∙ rw add-one (pow-suc 2 (s.levels - suc z)) in
-    let left = top-right t s v rest tag bytes first is z (2 * i) (omega arith) (omega (arith, twice)) in
-    let right = top-right t s v rest tag bytes first is z (2 * i + 1) (omega arith) (omega (arith, twice)) in
+    let left = top-nodes t s bytes first own z (2 * i) (omega arith) (omega (arith, twice)) in
+    let right = top-nodes t s bytes first own z (2 * i + 1) (omega arith) (omega (arith, twice)) in
     ap (λ (x : List ℕ). t.join (below s + suc z) i x (node (top_given t s bytes first) z (2 * i + 1))) left
     ∙ ap (λ (y : List ℕ). t.join (below s + suc z) i (node t (below s + z) (2 * i)) y) right
     ∙ ap (λ (k : ℕ). t.join k i (node t (below s + z) (2 * i)) (node t (below s + z) (2 * i + 1))) (sym next)
     ∙ ap (λ (k : ℕ). node t k i) next
 
--- so the root that the ranges give is the tree's
-pub root-right : (t : MerkleTree) (s : Shape) (v : ℕ) (rest : List ℕ) (tag : ℕ → List ℕ → List ℕ) (bytes : List ℕ) (first : ℕ) → AreRight t s v rest tag bytes first
+-- so the root that they give is the tree's
+pub root-nodes : (t : MerkleTree) (s : Shape) (bytes : List ℕ) (first : ℕ) → s.levels ≤ s.height → s.height ≡ t.height
+    → ((r : ℕ) → r < 2 ^ s.levels → node_given s bytes (first + r) ≡ node t (below s) r)
     → root (top_given t s bytes first) ≡ root t
-root-right t s v rest tag bytes first is =
+root-nodes t s bytes first some height own =
     let one : s.levels - s.levels ≡ 0 = omega arith in
     let first_node : 0 < 2 ^ (s.levels - s.levels) = rw one (omega arith) in
-    let high : below s + s.levels ≡ t.height = omega (arith, is.shape.some, is.height) in
-    top-right t s v rest tag bytes first is s.levels 0 (omega arith) first_node ∙ ap (λ (k : ℕ). node t k 0) high
+    let high : below s + s.levels ≡ t.height = omega (arith, some, height) in
+    top-nodes t s bytes first own s.levels 0 (omega arith) first_node ∙ ap (λ (k : ℕ). node t k 0) high
+
+pub root-right : (t : MerkleTree) (s : Shape) (v : ℕ) (rest : List ℕ) (tag : ℕ → List ℕ → List ℕ) (bytes : List ℕ) (first : ℕ) → AreRight t s v rest tag bytes first
+    → root (top_given t s bytes first) ≡ root t
+root-right t s v rest tag bytes first is = root-nodes t s bytes first is.shape.some is.height (node-right t s v rest tag bytes first is)
 
 -- and the path of the leaf's range, after that below it, the leaf's
 above-right : (t : MerkleTree) (s : Shape) (v : ℕ) (rest : List ℕ) (tag : ℕ → List ℕ → List ℕ) (bytes : List ℕ) (first : ℕ) → AreRight t s v rest tag bytes first
@@ -119,7 +125,7 @@ above-right t s v rest tag bytes first is (suc j) le =
     let one : 1 < 2 ^ (s.levels - j) = pow_below 0 (s.levels - j) (omega arith) in
     let inside : bit_xor (r / 2 ^ j) 1 < 2 ^ (s.levels - j) = xor_lt (s.levels - j) (r / 2 ^ j) 1 own one in
     let here : sibling top r j ≡ sibling t v (below s + j) =
-    top-right t s v rest tag bytes first is j (bit_xor (r / 2 ^ j) 1) (omega arith) inside
+    top-nodes t s bytes first (node-right t s v rest tag bytes first is) j (bit_xor (r / 2 ^ j) 1) (omega arith) inside
     ∙ ap (λ (k : ℕ). node t (below s + j) (bit_xor k 1)) (shr-shr v (below s) j) in
     sym (append_assoc (path_below t v (below s)) (path_below top r j) (sibling top r j))
     ∙ ap (λ (xs : List ℕ). xs ++ sibling top r j) (above-right t s v rest tag bytes first is j (omega arith))
