@@ -1,6 +1,5 @@
 -- Where all answers are right, they fit together, and the signature that they give is the standard's.
-use Rattle.std.proofs.Common.{◌≡◌, ℕ, zero, suc, ◌+◌, ◌-◌, ◌*◌, ◌/◌, ◌%◌, ◌^◌, ◌<◌, ◌≤◌, nat_lt, true, false, List, ◌++◌, length, take, drop, refl, ap, sym, subst, ◌∙◌, arith, rules}
-use Rattle.std.proofs.lemmas.Bool.{cond-true, cond-false}
+use Rattle.std.proofs.Common.{◌≡◌, ℕ, zero, suc, ◌+◌, ◌-◌, ◌*◌, ◌/◌, ◌%◌, ◌^◌, ◌<◌, ◌≤◌, nat_lt, true, false, List, ◌++◌, take, drop, refl, ap, sym, subst, ◌∙◌, arith, rules}
 use Rattle.std.proofs.lemmas.List.{drop-drop}
 use Rattle.std.proofs.lemmas.Nat.{div-mul-add, mod-mul-add, pow_pos}
 use Rattle.std.proofs.Math.Nat.{mul-le-mul_right, mod-lt}
@@ -11,10 +10,9 @@ use Rattle.slh_params.specs.Address.{address}
 use Rattle.slh_hash.specs.Hash.{T}
 use Rattle.slh_hash.proofs.Lengths.{length-PRF_msg}
 use Rattle.slh_tree.specs.Tree.{root}
-use Rattle.slh_tree.specs.Climb.{path}
 use Rattle.slh_few.specs.Fors.{fors_tree, fors_part, fors_root, fors_sig, compressed_roots}
 use Rattle.slh_few.specs.Hypertree.{layer_sig, ht_sig, signed_at}
-use Rattle.slh_few.specs.KeptChains.{kept_chains, wots_sig_from}
+use Rattle.slh_few.specs.KeptChains.{wots_sig_from}
 use Rattle.slh_few.specs.Parts.{end_to_end}
 use Rattle.slh_few.specs.Trees.{xmss_tree-lawful, fors_tree-lawful}
 use Rattle.slh_few.specs.Wots.{wots_sig}
@@ -28,10 +26,9 @@ use Rattle.slh_few.proofs.Layers.{layer_place-layer, layer_place-pair}
 use Rattle.slh_few.proofs.XmssLaw.{xmss_pk_from_sig-xmss_sig}
 use Rattle.slh_core.specs.Cut.{md, idx_tree, idx_leaf}
 use Rattle.slh_core.specs.Keys.{Key, sk_seed, public_of, pk_seed}
-use Rattle.slh_core.specs.Signatures.{signature_of_digest}
 use Rattle.slh_core.proofs.Assembled.{signed_parts}
 use Rattle.slh_jobs.specs.Ranges.{below, answer_len, given, node_given, tag_given, rest_given, auth_given}
-use Rattle.slh_jobs.specs.Jobs.{params_of, xmss_shape, fors_shape, xmss_jobs, fors_jobs, jobs, start_of, len_of, answer_of, layer_answer, fors_answer, tag_of, digest_in, r_in, place_in, layer_tree, chains_of, fors_tree_of, index_in, secret_of, AreAnswers}
+use Rattle.slh_jobs.specs.Jobs.{params_of, xmss_shape, fors_shape, xmss_jobs, fors_jobs, layer_answer, fors_answer, tag_of, digest_in, r_in, place_in, layer_tree, chains_of, fors_tree_of, index_in, secret_of, AreAnswers}
 use Rattle.slh_jobs.specs.Joined.{fors_answers, layer_root, fors_root_given, pk_fors_given, signed_given, fors_part_given, layer_part_given, signature_given, FitTogether}
 use Rattle.slh_jobs.specs.Starts.{signature_from}
 use Rattle.slh_jobs.specs.declared.levels.Levels.{Levels}

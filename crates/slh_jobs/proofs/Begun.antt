@@ -1,5 +1,5 @@
 -- The signature with the R of a message, of its digest, is the message's.
-use Rattle.std.proofs.Common.{◌≡◌, ℕ, List, ◌++◌, length, take, drop, ap, ◌∙◌}
+use Rattle.std.proofs.Common.{◌≡◌, ℕ, List, ◌++◌, length, drop, ap, ◌∙◌}
 use Rattle.std.proofs.lemmas.List.{drop_at}
 use Rattle.slh_params.specs.ParamSet.{params}
 use Rattle.slh_params.proofs.Bounds.{n_high}

@@ -1,16 +1,15 @@
 -- Where all answers of key generation are right, each node has its tag, and the root is the key's.
-use Rattle.std.proofs.Common.{◌≡◌, ℕ, ◌+◌, ◌-◌, ◌^◌, ◌<◌, List, ◌++◌, length, take, drop, replicate, refl, ap, sym, ◌∙◌, arith}
-use Rattle.std.proofs.lemmas.List.{append_assoc, append-nil, drop_at, take_all}
+use Rattle.std.proofs.Common.{◌≡◌, ℕ, ◌+◌, ◌-◌, ◌<◌, List, ◌++◌, length, take, drop, replicate, refl, ap, sym, ◌∙◌, arith}
+use Rattle.std.proofs.lemmas.List.{append_assoc, drop_at, take_all}
 use Rattle.slh_params.specs.Bits.{to_byte}
-use Rattle.slh_params.specs.ParamSet.{params}
 use Rattle.slh_params.proofs.Bounds.{n_high}
 use Rattle.slh_hash.proofs.Lengths.{length-PRF_msg}
-use Rattle.slh_tree.specs.Tree.{node, root}
+use Rattle.slh_tree.specs.Tree.{node}
 use Rattle.slh_tree.proofs.Authentic.{node_width}
 use Rattle.slh_few.specs.Trees.{xmss_tree-lawful}
 use Rattle.slh_few.proofs.XmssLaw.{take_front}
 use Rattle.slh_core.specs.Keys.{top_root}
-use Rattle.slh_jobs.specs.KeyJobs.{key_shape, key_jobs, key_tree, key_tag, key_answer, key_root, AreKeyAnswers, AreTagged}
+use Rattle.slh_jobs.specs.KeyJobs.{key_shape, key_jobs, key_tree, key_tag, key_root, AreKeyAnswers, AreTagged}
 use Rattle.slh_jobs.specs.Jobs.{params_of}
 use Rattle.slh_jobs.specs.Ranges.{below, node_given, tag_given}
 use Rattle.slh_jobs.specs.declared.levels.Levels.{Levels}

@@ -1,5 +1,5 @@
 -- The trees of a signature, as a program reads them from seeds and a place.
-use Rattle.std.proofs.Common.{◌≡◌, ℕ, List, ap, ◌∙◌, refl}
+use Rattle.std.proofs.Common.{◌≡◌, ℕ, List, ap, refl}
 use Rattle.slh_params.specs.ParamSet.{params}
 use Rattle.slh_few.specs.Fors.{fors_tree}
 use Rattle.slh_few.specs.Xmss.{xmss_tree}

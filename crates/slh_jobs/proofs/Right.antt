@@ -1,15 +1,15 @@
 -- Where the answers of a tree's ranges are right, what is read from them is the tree's own.
-use Rattle.std.proofs.Common.{◌≡◌, ℕ, zero, suc, ◌+◌, ◌-◌, ◌*◌, ◌/◌, ◌%◌, ◌^◌, ◌<◌, ◌≤◌, eqb, bit_xor, List, ◌++◌, length, take, drop, replicate, refl, ap, sym, subst, ◌∙◌, arith, add-one}
+use Rattle.std.proofs.Common.{◌≡◌, ℕ, zero, suc, ◌+◌, ◌-◌, ◌*◌, ◌/◌, ◌^◌, ◌<◌, ◌≤◌, eqb, bit_xor, List, ◌++◌, length, take, drop, replicate, refl, ap, sym, ◌∙◌, arith, add-one}
 use Rattle.std.proofs.lemmas.Bool.{cond-true, eq-eqb}
-use Rattle.std.proofs.lemmas.List.{append_assoc, append-nil, drop_at, length-append, take_all}
-use Rattle.std.proofs.lemmas.Nat.{shr-shr, xor_lt, pow_below, pow-add}
+use Rattle.std.proofs.lemmas.List.{append_assoc, append-nil, drop_at, length-append}
+use Rattle.std.proofs.lemmas.Nat.{shr-shr, xor_lt, pow_below}
 use Rattle.std.proofs.Math.Nat.{pow-suc}
-use Rattle.slh_tree.specs.Tree.{MerkleTree, Lawful, node, root, sibling, sibling_index}
+use Rattle.slh_tree.specs.Tree.{MerkleTree, Lawful, node, root, sibling}
 use Rattle.slh_tree.specs.Climb.{path, path_below}
 use Rattle.slh_tree.proofs.Authentic.{node_width, length-path_below}
 use Rattle.slh_tree.proofs.Branch.{branch_below}
 use Rattle.slh_few.proofs.XmssLaw.{take_front}
-use Rattle.slh_jobs.specs.Ranges.{IsShape, below, answer_len, own_part, range_answer, given, node_given, tag_given, path_given, rest_given, top_given, auth_given}
+use Rattle.slh_jobs.specs.Ranges.{IsShape, below, own_part, range_answer, given, node_given, tag_given, path_given, rest_given, top_given, auth_given}
 use Rattle.slh_jobs.specs.declared.shape.Shape.{Shape}
 use Rattle.slh_jobs.proofs.Indices.{range_below}
 

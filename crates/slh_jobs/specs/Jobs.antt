@@ -12,7 +12,7 @@ use Rattle.slh_few.specs.Xmss.{xmss_tree}
 use Rattle.slh_few.specs.declared.place.Place.{Place}
 use Rattle.slh_core.specs.Cut.{md, idx_tree, idx_leaf}
 use Rattle.slh_core.specs.Keys.{Key, sk_seed, sk_prf, public_of, pk_seed}
-use Rattle.slh_jobs.specs.Ranges.{below, answer_len, range_answer}
+use Rattle.slh_jobs.specs.Ranges.{answer_len, range_answer}
 use Rattle.slh_jobs.specs.declared.levels.Levels.{Levels}
 use Rattle.slh_jobs.specs.declared.shape.Shape.{Shape}
 

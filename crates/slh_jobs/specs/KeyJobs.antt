@@ -1,7 +1,6 @@
 -- The jobs of key generation, the ranges of the XMSS tree of the top layer, and their answers: ours.
-use Rattle.std.specs.Prelude.{◌≡◌, ℕ, ◌-◌, ◌*◌, ◌^◌, ◌<◌, List, ◌++◌}
+use Rattle.std.specs.Prelude.{◌≡◌, ℕ, ◌-◌, ◌^◌, ◌<◌, List, ◌++◌}
 use Rattle.slh_params.specs.Bits.{to_byte}
-use Rattle.slh_params.specs.Params.{Params}
 use Rattle.slh_hash.specs.Keyed.{PRF_msg}
 use Rattle.slh_tree.specs.Tree.{MerkleTree, node, root}
 use Rattle.slh_few.specs.Xmss.{xmss_tree}

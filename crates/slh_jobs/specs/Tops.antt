@@ -1,5 +1,5 @@
 -- The tree above ranges whose nodes are given, as a tree whose nodes have n bytes: ours.
-use Rattle.std.proofs.Common.{◌≡◌, ℕ, ◌+◌, List, ◌++◌, length, take, replicate, length-take-le, length-append, ◌∙◌, arith}
+use Rattle.std.proofs.Common.{◌≡◌, ℕ, ◌+◌, List, ◌++◌, length, replicate, length-take-le, length-append, arith}
 use Rattle.std.proofs.lemmas.List.{length-replicate}
 use Rattle.slh_tree.specs.Tree.{MerkleTree, Lawful}
 use Rattle.slh_jobs.specs.Ranges.{given, node_given, top_given, below}

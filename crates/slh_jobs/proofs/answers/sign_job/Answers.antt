@@ -1,5 +1,5 @@
 -- The tree of a job is one of the signature's.
-use Rattle.std.proofs.Common.{◌≡◌, ℕ, ◌-◌, ◌*◌, ◌/◌, ◌^◌, ◌<◌, arith}
+use Rattle.std.proofs.Common.{◌-◌, ◌*◌, ◌^◌, ◌<◌, arith}
 use Rattle.slh_params.specs.ParamSet.{params}
 use Rattle.slh_jobs.proofs.Indices.{tree_of_job}
 use Rattle.slh_jobs.proofs.answers.sign_job.Goals as goal

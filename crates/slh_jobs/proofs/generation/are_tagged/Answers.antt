@@ -1,9 +1,8 @@
 -- After each job the nodes so far have their tags.
-use Rattle.std.proofs.Common.{◌≡◌, ℕ, ◌+◌, ◌*◌, ◌<◌, ◌≤◌, List, length, rules, arith, sym, ap, ◌∙◌}
+use Rattle.std.proofs.Common.{◌≡◌, ℕ, ◌+◌, ◌*◌, ◌≤◌, List, rules, arith, sym, ap, ◌∙◌}
 use Rattle.std.proofs.Math.Nat.{mul-le-mul_right}
 use Rattle.slh_jobs.specs.KeyJobs.{key_shape, key_tag, key_jobs}
 use Rattle.slh_jobs.specs.Ranges.{answer_len, node_given, tag_given}
-use Rattle.slh_jobs.specs.declared.shape.Shape.{Shape}
 use Rattle.slh_jobs.proofs.Indices.{below_more}
 use Rattle.slh_jobs.proofs.generation.are_tagged.Goals as goal
 

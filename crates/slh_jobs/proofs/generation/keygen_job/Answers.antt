@@ -1,5 +1,5 @@
 -- A node has n bytes.
-use Rattle.std.proofs.Common.{◌≡◌, length, ap, ◌∙◌, sym, rules}
+use Rattle.std.proofs.Common.{◌≡◌, length, ap, ◌∙◌, rules}
 use Rattle.slh_params.specs.ParamSet.{params}
 use Rattle.slh_tree.proofs.Authentic.{node_width}
 use Rattle.slh_few.specs.Trees.{xmss_tree-lawful}

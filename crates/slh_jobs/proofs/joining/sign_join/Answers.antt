@@ -1,7 +1,7 @@
 -- Right answers fit together, and give the standard's signature.
-use Rattle.std.proofs.Common.{◌≡◌, ℕ, List, rules, ◌∙◌}
+use Rattle.std.proofs.Common.{◌≡◌, rules, ◌∙◌}
 use Rattle.std.specs.Bool.{IsTrue}
-use Rattle.slh_jobs.specs.Joined.{FitTogether, signature_given}
+use Rattle.slh_jobs.specs.Joined.{signature_given}
 use Rattle.slh_jobs.proofs.Assembled.{answers_fit, signature-right}
 use Rattle.slh_jobs.proofs.Begun.{begun}
 use Rattle.slh_jobs.proofs.joining.sign_join.Goals as goal

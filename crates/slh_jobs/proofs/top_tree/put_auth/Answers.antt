@@ -1,5 +1,5 @@
 -- The lower nodes of the path are those of the range's answer, the upper ones those of the tree above the ranges.
-use Rattle.std.proofs.Common.{◌≡◌, ℕ, ◌/◌, ◌^◌, ◌<◌, arith}
+use Rattle.std.proofs.Common.{◌/◌, ◌^◌, ◌<◌, arith}
 use Rattle.slh_jobs.proofs.Indices.{range_below, answer_there, ranges_few, path_lengths}
 use Rattle.slh_jobs.proofs.top_tree.put_auth.Goals as goal
 

@@ -1,5 +1,5 @@
 -- The path in a tree of height 0 has no nodes.
-use Rattle.std.proofs.Common.{◌≡◌, ℕ, ◌*◌, List, [], length, ap, sym, ◌∙◌, arith, refl}
+use Rattle.std.proofs.Common.{◌≡◌, ◌*◌, ap, ◌∙◌, arith}
 use Rattle.std.proofs.lemmas.List.{nil_from_length}
 use Rattle.slh_tree.specs.Climb.{path_below}
 use Rattle.slh_jobs.proofs.top_tree.put_upper.Goals as goal

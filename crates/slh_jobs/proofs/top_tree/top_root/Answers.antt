@@ -1,7 +1,7 @@
 -- A tree that is not cut has one range, whose node is its root.
-use Rattle.std.proofs.Common.{◌≡◌, ℕ, ◌+◌, ap, sym, ◌∙◌, arith, refl}
+use Rattle.std.proofs.Common.{◌≡◌, ◌+◌, ap, ◌∙◌, arith}
 use Rattle.slh_tree.specs.Tree.{node}
-use Rattle.slh_jobs.specs.Ranges.{node_given, top_given}
+use Rattle.slh_jobs.specs.Ranges.{node_given}
 use Rattle.slh_jobs.proofs.top_tree.top_root.Goals as goal
 
 pub returns-then-given-eq0-clause-value : goal.returns-then-given-eq0-clause-value

@@ -1,5 +1,5 @@
 -- After each tree the roots so far are the same.
-use Rattle.std.proofs.Common.{◌≡◌, ℕ, ◌<◌, rules, arith, sym, ◌∙◌}
+use Rattle.std.proofs.Common.{◌≡◌, ℕ, rules, sym, ◌∙◌}
 use Rattle.slh_few.specs.Fors.{fors_root}
 use Rattle.slh_core.specs.Cut.{md, idx_tree, idx_leaf}
 use Rattle.slh_core.specs.Keys.{public_of, pk_seed}

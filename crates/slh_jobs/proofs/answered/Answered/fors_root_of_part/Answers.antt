@@ -1,5 +1,5 @@
 -- The buffer has room for the part of any set.
-use Rattle.std.proofs.Common.{◌≡◌, ◌≤◌, length, length-take-le, arith, rules, sym, ◌∙◌}
+use Rattle.std.proofs.Common.{◌≤◌, length-take-le, arith, sym, ◌∙◌}
 use Rattle.slh_jobs.proofs.Indices.{fors_part_few}
 use Rattle.slh_jobs.proofs.answered.Answered.fors_root_of_part.Goals as goal
 

@@ -1,5 +1,5 @@
 -- The range of the leaf that signs is one of its tree's.
-use Rattle.std.proofs.Common.{◌≡◌, ℕ, ◌/◌, ◌^◌, ◌<◌, arith, refl}
+use Rattle.std.proofs.Common.{ℕ, ◌/◌, ◌^◌, ◌<◌, arith, refl}
 use Rattle.slh_params.specs.ParamSet.{params}
 use Rattle.slh_jobs.specs.Jobs.{xmss_shape}
 use Rattle.slh_jobs.specs.Ranges.{answer_len}

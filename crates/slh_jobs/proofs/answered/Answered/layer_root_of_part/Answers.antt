@@ -1,5 +1,5 @@
 -- The buffer has room for the part of any set.
-use Rattle.std.proofs.Common.{◌≡◌, ◌≤◌, length, length-take-le, arith, rules, sym, ◌∙◌}
+use Rattle.std.proofs.Common.{◌≤◌, length-take-le, arith, sym, ◌∙◌}
 use Rattle.slh_few.proofs.Sizes.{xmss_sig_len_small}
 use Rattle.slh_jobs.proofs.answered.Answered.layer_root_of_part.Goals as goal
 

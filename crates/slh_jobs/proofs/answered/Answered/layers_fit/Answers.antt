@@ -1,5 +1,5 @@
 -- After each layer the roots so far are the same, and the next layer signs the last of them.
-use Rattle.std.proofs.Common.{◌≡◌, ℕ, ◌+◌, ◌<◌, length, rules, arith, add-one, ◌∙◌, sym}
+use Rattle.std.proofs.Common.{◌≡◌, ℕ, ◌+◌, rules, add-one, ◌∙◌, sym}
 use Rattle.slh_few.specs.Xmss.{xmss_pk_from_sig}
 use Rattle.slh_core.specs.Keys.{public_of, pk_seed}
 use Rattle.slh_jobs.specs.Jobs.{params_of, place_in}

@@ -1,7 +1,6 @@
 -- After each tree the stream has absorbed the roots so far.
-use Rattle.std.proofs.Common.{◌≡◌, ℕ, ◌+◌, ◌<◌, ◌++◌, List, sym, subst, ap, ◌∙◌, arith}
+use Rattle.std.proofs.Common.{◌≡◌, ℕ, ◌+◌, ◌++◌, List, sym, subst, ap, ◌∙◌}
 use Rattle.slh_params.specs.Address.{address}
-use Rattle.slh_params.specs.ParamSet.{params}
 use Rattle.slh_hash.specs.Stream.{HasAbsorbed}
 use Rattle.slh_few.specs.Parts.{end_to_end}
 use Rattle.slh_few.proofs.Ends.{end_to_end-none, end_to_end-more}

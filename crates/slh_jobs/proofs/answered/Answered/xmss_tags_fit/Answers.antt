@@ -1,6 +1,6 @@
 -- The first of these jobs has number 0.
-use Rattle.std.proofs.Common.{◌≡◌, ℕ, ◌+◌, ◌<◌, List, subst, sym, arith}
-use Rattle.slh_jobs.specs.Jobs.{xmss_shape, xmss_jobs, tag_of}
+use Rattle.std.proofs.Common.{◌≡◌, ℕ, ◌+◌, List, subst, sym, arith}
+use Rattle.slh_jobs.specs.Jobs.{xmss_shape, tag_of}
 use Rattle.slh_jobs.specs.Ranges.{node_given, tag_given}
 use Rattle.slh_jobs.proofs.answered.Answered.xmss_tags_fit.Goals as goal
 

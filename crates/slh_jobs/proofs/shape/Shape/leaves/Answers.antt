@@ -1,4 +1,4 @@
-use Rattle.std.proofs.Common.{◌≡◌, ℕ, ◌+◌, ◌*◌, ◌%◌, ◌^◌, ◌<◌, ◌≤◌, ap, arith}
+use Rattle.std.proofs.Common.{◌≡◌, ◌+◌, ◌*◌, ◌%◌, ◌^◌, ◌<◌, ap, arith}
 use Rattle.std.proofs.lemmas.Nat.{one_shl}
 use Rattle.slh_jobs.specs.Ranges.{below}
 use Rattle.slh_jobs.proofs.Indices.{range_within}

@@ -1,4 +1,4 @@
-use Rattle.std.proofs.Common.{ℕ, ◌^◌, ◌<◌, sym, subst, ap, ◌∙◌}
+use Rattle.std.proofs.Common.{◌^◌, ◌<◌, sym, subst, ap, ◌∙◌}
 use Rattle.slh_params.specs.ParamSet.{params}
 use Rattle.slh_few.specs.declared.place.Place.{Place}
 use Rattle.slh_few.proofs.Layers.{layer_place-layer, layer_place-pair}

@@ -1,6 +1,5 @@
-use Rattle.std.proofs.Common.{◌≡◌, length, ap, ◌∙◌}
+use Rattle.std.proofs.Common.{length, ap, ◌∙◌}
 use Rattle.slh_tree.proofs.Authentic.{node_width}
-use Rattle.slh_params.specs.ParamSet.{params}
 use Rattle.slh_few.specs.Trees.{xmss_tree-lawful}
 use Rattle.slh_jobs.proofs.signing.Signing.put_layer_answer.Goals as goal
 

@@ -1,10 +1,9 @@
 -- The record knows the path below the range's node.
-use Rattle.std.proofs.Common.{◌≡◌, ℕ, ◌/◌, ◌^◌, ◌<◌, ◌≤◌, ◌++◌, List, length, ap, sym, ◌∙◌, arith, rules}
+use Rattle.std.proofs.Common.{◌≡◌, ℕ, ◌/◌, ◌^◌, ◌<◌, ◌++◌, List, ap, sym, ◌∙◌, arith, rules}
 use Rattle.slh_params.specs.ParamSet.{params}
-use Rattle.slh_tree.specs.Tree.{MerkleTree, node}
+use Rattle.slh_tree.specs.Tree.{MerkleTree}
 use Rattle.slh_tree.specs.Climb.{path_below}
 use Rattle.slh_tree.specs.Cover.{first_leaf, past_leaf}
-use Rattle.slh_few.specs.Paths.{node_bytes}
 use Rattle.slh_few.specs.Trees.{fors_tree-lawful}
 use Rattle.slh_few.specs.Fors.{fors_tree}
 use Rattle.slh_few.specs.declared.place.Seeds.{Seeds}

@@ -1,11 +1,10 @@
 -- The record knows the path below the range's node.
-use Rattle.std.proofs.Common.{◌≡◌, ℕ, ◌/◌, ◌^◌, ◌<◌, ◌≤◌, ◌++◌, List, length, ap, sym, ◌∙◌, arith, subst}
+use Rattle.std.proofs.Common.{◌≡◌, ℕ, ◌/◌, ◌^◌, ◌<◌, ◌++◌, List, ap, sym, ◌∙◌, arith}
 use Rattle.slh_params.specs.ParamSet.{params}
-use Rattle.slh_tree.specs.Tree.{MerkleTree, node}
+use Rattle.slh_tree.specs.Tree.{MerkleTree}
 use Rattle.slh_tree.specs.Climb.{path_below}
 use Rattle.slh_tree.specs.Cover.{first_leaf, past_leaf}
 use Rattle.slh_few.specs.KeptChains.{kept_chains}
-use Rattle.slh_few.specs.Paths.{node_bytes}
 use Rattle.slh_few.specs.Trees.{xmss_tree-lawful}
 use Rattle.slh_few.specs.Xmss.{xmss_tree}
 use Rattle.slh_few.specs.declared.place.Place.{Place}
