@@ -21,7 +21,7 @@ pub trait Source {
         ensures failed { CountsFailure (state self.old).failures (state self.new).failures result };
 }
 
-/// Fills the room, or takes what is left where that is less, and says how many bytes it took. It refuses where a
+/// Fills the buffer, or takes what is left where that is less, and says how many bytes it took. It refuses where a
 /// read failed.
 pub fn take_up_to<S: Source>(input: &mut S, room: &mut [u8]) -> Result<usize, FetchFault>
     ensures count { IfOk result (λ n. n ≤ length room.new) }
