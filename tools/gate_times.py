@@ -5,8 +5,8 @@ usage: tools/gate_times.py COMMAND..
 
 As tools/gate_times.py tools/test.sh. What the command prints is passed on. Each half second the processes below it are
 looked at; the time of one that names a crate counts for that crate, as an edit where it runs on a copy of the sources,
-as tests where it checks or builds them, else as proof. All else is the last row. Then come the minutes on the clock, the
-processor minutes of all processes that ended, and the command's status, which is also that of this script.
+as tests where it checks or builds them, else as proof. All else is the last row. Then come the minutes on the clock,
+the processor minutes of all processes that ended, and the command's status, which is also that of this script.
 """
 import collections
 import os

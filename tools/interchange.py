@@ -107,7 +107,7 @@ def record_signs(record, test):
 
 
 def record_results(record):
-    """Whether the keys of a record and each of its signatures are as they stand there; None where one is passed over."""
+    """Whether the keys of a record and each of its signatures are as they stand there; None where one is skipped."""
     root = record["pk"][len(record["pk"]) // 2 :]
     yield makes_keys(record["label"], record["seeds"], record["seeds"] + root, record["pk"])
     for test in record["signatures"]:

@@ -3,10 +3,10 @@
 
 usage: tools/library_cost.py PREFIX
 
-PREFIX is where tools/library.sh installed. A C program makes a key, signs "abc" and verifies under valgrind's callgrind,
-for each set. A row has the instructions of slh_keygen, slh_sign and slh_verify, and of them those outside the one function
-of slh_core that does the work: top_root, sign_internal and verify_internal. The counts do not depend on the machine, but
-for those in memcpy. It needs valgrind and a C compiler as CC or cc.
+PREFIX is where tools/library.sh installed. A C program makes a key, signs "abc" and verifies under valgrind's
+callgrind, for each set. A row has the instructions of slh_keygen, slh_sign and slh_verify, and of them those outside
+the one function of slh_core that does the work: top_root, sign_internal and verify_internal. The counts do not depend
+on the machine, but for those in memcpy. It needs valgrind and a C compiler as CC or cc.
 """
 import os
 import pathlib
