@@ -183,7 +183,8 @@ uint32_t slh_hash_verify(uint32_t set, uint32_t function, const uint8_t *pk, siz
 
 /*
  * slh_hash_sign for a message whose digest under the function the caller has computed (Algorithm 23 after its
- * pre-hash): 28 bytes for SHA2-224 and SHA2-512/224, 32 for SHA2-256 and SHA2-512/256, 48 for SHA2-384, 64 for SHA2-512.
+ * pre-hash): 28 bytes for SHA2-224 and SHA2-512/224, 32 for SHA2-256 and SHA2-512/256, 48 for SHA2-384, 64 for
+ * SHA2-512.
  * Answers: those of slh_hash_sign; SLH_BAD_DIGEST_LENGTH.
  */
 uint32_t slh_hash_sign_digest(uint32_t set, uint32_t function, const uint8_t *sk, size_t sk_len,
@@ -215,9 +216,9 @@ uint32_t slh_verify_internal(uint32_t set, const uint8_t *pk, size_t pk_len, con
                              const uint8_t *sig, size_t sig_len);
 
 /*
- * The name of a refusal's number, as "BadLength", in ASCII and without a zero byte inside: writes it into name, and zero
- * bytes from there to the end of name. name must have room for one zero byte at least; SLH_MAX_NAME bytes are enough for
- * each name. SLH_DONE and SLH_INVALID are not refusals.
+ * The name of a refusal's number, as "BadLength", in ASCII and without a zero byte inside: writes it into name, and
+ * zero bytes from there to the end of name. name must have room for one zero byte at least; SLH_MAX_NAME bytes are
+ * enough for each name. SLH_DONE and SLH_INVALID are not refusals.
  * Answers: SLH_DONE; SLH_NO_SUCH_REFUSAL, SLH_BAD_OUTPUT_LENGTH where name is too short.
  */
 uint32_t slh_refusal_name(uint32_t refusal, char *name, size_t name_len);

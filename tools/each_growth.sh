@@ -43,7 +43,8 @@ check() {
     if [ $bad = 0 ] && [ $passed_over -le "$over" ] && [ $refused -ge "$least" ] && [ $n -lt 20000 ]; then
         answer=yes
     fi
-    tell "growths $((n - 1)), refused $refused, passed over $passed_over, wrong $bad, status $status0: $(head -c 200 <<<"$*")" $answer
+    local counts="growths $((n - 1)), refused $refused, passed over $passed_over, wrong $bad, status $status0"
+    tell "$counts: $(head -c 200 <<<"$*")" $answer
 }
 
 set=SLH-DSA-SHA2-128f
@@ -76,7 +77,8 @@ check 0 50 check --key key
 check 0 50 upgrade --key key
 check 0 50 upgrade --key public
 check 0 50 sign --key key --message message
-check 8 50 sign --key key --message message --context "$context" --random 000102030405060708090a0b0c0d0e0f --workers 2 --xmss-levels 1 --fors-levels 1
+check 8 50 sign --key key --message message --context "$context" --random 000102030405060708090a0b0c0d0e0f \
+    --workers 2 --xmss-levels 1 --fors-levels 1
 check 12 50 sign --key key --message message --prehash SHA2-512/256 --workers 3 --xmss-cuts 3,5 --fors-cuts 5
 check 0 50 verify --key public --message message --signature signature
 check 0 50 verify --key public --message message --signature hash_signature --prehash SHA2-256 --context 00

@@ -48,7 +48,8 @@ def main():
     with tempfile.TemporaryDirectory() as work:
         source, program, profile = (f"{work}/{it}" for it in ("program.c", "program", "profile"))
         pathlib.Path(source).write_text(PROGRAM)
-        cc = [os.environ.get("CC", "cc"), "-O1", "-I", f"{prefix}/include", source, f"{prefix}/lib/libslh.a", "-o", program]
+        cc = [os.environ.get("CC", "cc"), "-O1", "-I", f"{prefix}/include", source]
+        cc += [f"{prefix}/lib/libslh.a", "-o", program]
         subprocess.run([*cc, "-Wl,-z,now"], check=True)
         for number, name in enumerate(("128s", "128f", "192s", "192f", "256s", "256f"), 1):
             under = ["valgrind", "-q", "--tool=callgrind", f"--callgrind-out-file={profile}", program, str(number)]

@@ -99,9 +99,10 @@ END
 while read -r name n; do
     python3 -c "print(bytes(range(3 * $n)).hex())" >seeds
     "$program" keygen --set "$name" <seeds >"key_of_$name"
-    want sign --key "key_of_$name" --message message --workers 64
+    signing=(sign --key "key_of_$name" --message message --workers 64)
+    want "${signing[@]}"
     tell "ulimit -s 192: sign $name by 64 workers" \
-        "$([ "$(under -s 192 sign --key "key_of_$name" --message message --workers 64 2>/dev/null)" = right ] && echo yes || echo no)"
+        "$([ "$(under -s 192 "${signing[@]}" 2>/dev/null)" = right ] && echo yes || echo no)"
 done <<END
 SLH-DSA-SHA2-128s 16
 SLH-DSA-SHA2-192f 24

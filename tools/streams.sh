@@ -55,7 +55,8 @@ printf 'consistent\n' >consistent
 printf 'passed 0 failed 0\n' >no_tests
 printf '[]' >tests
 head -c 20000 /dev/zero >zeros
-test_of_none='{"kind":"verify","set":"SLH-DSA-SHA2-128f","pk":"'$(printf '0%.0s' {1..64})'","form":"pure","message":"","context":"","signature":"","valid":false}'
+test_of_none='{"kind":"verify","set":"SLH-DSA-SHA2-128f","pk":"'$(printf '0%.0s' {1..64})'",'
+test_of_none+='"form":"pure","message":"","context":"","signature":"","valid":false}'
 set=SLH-DSA-SHA2-128f
 sign="sign --key secret --message abc"
 
