@@ -20,10 +20,10 @@
  * Each call answers SLH_DONE (0), SLH_INVALID (1, only slh_check and the verify calls), or a refusal's number. What is
  * not valid is judged in this order, and the first is answered:
  *
- *   SLH_NO_SUCH_SET            the number is no set's
- *   SLH_NO_SUCH_FUNCTION       the number is no pre-hash function's
+ *   SLH_NO_SUCH_SET            the number is not a set's
+ *   SLH_NO_SUCH_FUNCTION       the number is not a pre-hash function's
  *   SLH_BAD_LENGTH             the key has another length than the set's keys
- *   SLH_BAD_SEED_LENGTH        a seed has not n bytes
+ *   SLH_BAD_SEED_LENGTH        a seed has another length than n bytes
  *   SLH_BAD_DIGEST_LENGTH      the digest has another length than the function's digests
  *   SLH_BAD_RANDOMIZER_LENGTH  the randomizer has neither 0 nor n bytes
  *   SLH_BAD_OUTPUT_LENGTH      the output has another length than what is written
@@ -183,7 +183,8 @@ uint32_t slh_hash_verify(uint32_t set, uint32_t function, const uint8_t *pk, siz
 
 /*
  * slh_hash_sign for a message whose digest under the function the caller has computed (Algorithm 23 after its
- * pre-hash): 28 bytes for SHA2-224 and SHA2-512/224, 32 for SHA2-256 and SHA2-512/256, 48 for SHA2-384, 64 for SHA2-512.
+ * pre-hash): 28 bytes for SHA2-224 and SHA2-512/224, 32 for SHA2-256 and SHA2-512/256, 48 for SHA2-384, 64 for
+ * SHA2-512.
  * Answers: those of slh_hash_sign; SLH_BAD_DIGEST_LENGTH.
  */
 uint32_t slh_hash_sign_digest(uint32_t set, uint32_t function, const uint8_t *sk, size_t sk_len,
@@ -215,9 +216,9 @@ uint32_t slh_verify_internal(uint32_t set, const uint8_t *pk, size_t pk_len, con
                              const uint8_t *sig, size_t sig_len);
 
 /*
- * The name of a refusal's number, as "BadLength", in ASCII and without a zero byte inside: writes it into name, and zero
- * bytes from there to the end of name. name must have room for one zero byte at least; SLH_MAX_NAME bytes are enough for
- * each name. SLH_DONE and SLH_INVALID are no refusals.
+ * The name of a refusal's number, as "BadLength", in ASCII and without a zero byte inside: writes it into name, and
+ * zero bytes from there to the end of name. name must have room for one zero byte at least; SLH_MAX_NAME bytes are
+ * enough for each name. SLH_DONE and SLH_INVALID are not refusals.
  * Answers: SLH_DONE; SLH_NO_SUCH_REFUSAL, SLH_BAD_OUTPUT_LENGTH where name is too short.
  */
 uint32_t slh_refusal_name(uint32_t refusal, char *name, size_t name_len);

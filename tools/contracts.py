@@ -1,7 +1,7 @@
 #!/usr/bin/env python3
 """Writes the tables of docs/PROVED.md from the sources: for each crate the calls that other crates have, the clauses of
-their contracts, and the must-fail edits of their bodies. A private function is listed where an edit turns it. It also looks
-whether the code on docs/CALLING.md is that of crates/slh_examples.
+their contracts, and the must-fail edits of their bodies. A private function is listed where an edit turns it. It also
+looks whether the code on docs/CALLING.md is that of crates/slh_examples.
 
 Usage: tools/contracts.py           writes the tables
        tools/contracts.py --check   fails where a table or the code is not what the sources say
@@ -53,8 +53,8 @@ def owner_of(line):
 
 
 def functions(crate, path):
-    """The functions of a file: line, name, whether other crates can call it, and its clauses by name, a short one without
-    a name by its text."""
+    """The functions of a file: line, name, whether other crates can call it, and its clauses by name, a short one
+    without a name by its text."""
     text = read(crate, path)
     names, owner, found = exported(crate), "", []
     for number, line in enumerate(text.split("\n")):
@@ -99,8 +99,8 @@ def table(crate):
 
 
 def strange_code():
-    """Of docs/CALLING.md the first lines of code that stands in no file of slh_examples, and the lines of crates.txt that
-    are not there."""
+    """Of docs/CALLING.md the first lines of code that stands in no file of slh_examples, and the lines of crates.txt
+    that are not there."""
     files = [read("slh_examples", path) for path in sources("slh_examples")]
     with open(os.path.join(ROOT, "crates.txt")) as crates, open(CALLING) as page:
         known, text = crates.read().split("\n"), page.read()

@@ -11,8 +11,8 @@ tell() {
     echo "$1: $2"
 }
 
-# Adds the counts of a command that ended with STATUS, from the last line of FILE, which it printed: 'N passed, M failed'.
-# A command that ended otherwise, or with another status than its counts say, has failed.
+# Adds the counts of a command that ended with STATUS, from the last line of FILE, which it printed: 'N passed, M
+# failed'. A command that ended otherwise, or with another status than its counts say, has failed.
 add_counts() {
     local status=$1
     if [[ $(tail -n 1 "$2") =~ ^([0-9]+)\ passed,\ ([0-9]+)\ failed$ ]]; then

@@ -1,13 +1,13 @@
 #!/usr/bin/env bash
-# Runs each command of the program `slh`, with each kind of option, once for each growth of memory that it asks for, with that
-# growth refused, until a run meets no refusal.
+# Runs each command of the program `slh`, with each kind of option, once for each growth of memory that it asks for,
+# with that growth refused, until a run meets no refusal.
 #
 # usage: tools/each_growth.sh [PROGRAM]
 #
-# Each run must end with status 2, nothing on standard output and `slh: 1 NoMemory` on standard error, or with what the program
-# gives without any refusal, where it passes a refused growth over: the start of a thread, or a text of `clap` about words that
-# are refused anyway. PROGRAM is crates/slh/out/slh without it. The last line has the counts, and the status is 0 where
-# nothing failed. It needs a C compiler, as CC or cc.
+# Each run must end with status 2, nothing on standard output and `slh: 1 NoMemory` on standard error, or with what the
+# program gives without any refusal, where it goes on without a refused growth: the start of a thread, or a text of
+# `clap` about arguments that are refused anyway. PROGRAM is crates/slh/out/slh without it. The last line has the
+# counts, and the status is 0 where nothing failed. It needs a C compiler, as CC or cc.
 set -u
 here=$(cd "$(dirname "${BASH_SOURCE[0]}")/.." && pwd)
 program=$(realpath "${1:-$here/crates/slh/out/slh}")
@@ -18,8 +18,8 @@ cd "$work" || exit 1
 source "$here/tools/counts.sh"
 echo "slh: 1 NoMemory" >told
 
-# The command of these words, with each growth refused. At most so many refused growths may be passed over, and so many growths
-# there are at least.
+# check OVER LEAST ARGUMENT..: runs a command with each growth refused in turn. At most OVER refused growths may leave
+# its answer as it is, and at least LEAST must refuse it.
 check() {
     local over=$1 least=$2 status status0 n refused=0 passed_over=0 bad=0
     shift 2
@@ -43,7 +43,8 @@ check() {
     if [ $bad = 0 ] && [ $passed_over -le "$over" ] && [ $refused -ge "$least" ] && [ $n -lt 20000 ]; then
         answer=yes
     fi
-    tell "growths $((n - 1)), refused $refused, passed over $passed_over, wrong $bad, status $status0: $(head -c 200 <<<"$*")" $answer
+    local counts="growths $((n - 1)), refused $refused, passed over $passed_over, wrong $bad, status $status0"
+    tell "$counts: $(head -c 200 <<<"$*")" $answer
 }
 
 set=SLH-DSA-SHA2-128f
@@ -68,15 +69,16 @@ check 0 50 params
 check 0 50 params --set $set
 check 0 50 root --set $set
 check 0 50 keygen --set $set
-# Each thread that a run starts asks for a growth, without which the work is done on the thread that asked. Where several
-# threads ask, one of these growths may have another number in each run, and be met more than once.
+# Each thread that a run starts asks for a growth, without which the work is done on the thread that asked. Where
+# several threads ask, one of these growths may have another number in each run, and be met more than once.
 check 4 50 keygen --set $set --workers 2 --xmss-levels 1 --fors-levels 1
 check 0 50 public --key key
 check 0 50 check --key key
 check 0 50 upgrade --key key
 check 0 50 upgrade --key public
 check 0 50 sign --key key --message message
-check 8 50 sign --key key --message message --context "$context" --random 000102030405060708090a0b0c0d0e0f --workers 2 --xmss-levels 1 --fors-levels 1
+check 8 50 sign --key key --message message --context "$context" --random 000102030405060708090a0b0c0d0e0f \
+    --workers 2 --xmss-levels 1 --fors-levels 1
 check 12 50 sign --key key --message message --prehash SHA2-512/256 --workers 3 --xmss-cuts 3,5 --fors-cuts 5
 check 0 50 verify --key public --message message --signature signature
 check 0 50 verify --key public --message message --signature hash_signature --prehash SHA2-256 --context 00

@@ -5,8 +5,8 @@ usage: tools/gate_times.py COMMAND..
 
 As tools/gate_times.py tools/test.sh. What the command prints is passed on. Each half second the processes below it are
 looked at; the time of one that names a crate counts for that crate, as an edit where it runs on a copy of the sources,
-as tests where it checks or builds them, else as proof. All else is the last row. Then come the minutes on the clock, the
-processor minutes of all processes that ended, and the command's status, which is also that of this script.
+as tests where it checks or builds them, else as proof. All else is the last row. Then come the minutes on the clock,
+the processor minutes of all processes that ended, and the command's status, which is also that of this script.
 """
 import collections
 import os
@@ -68,9 +68,11 @@ def main():
         table[crate][kind] += ticks / TICK / 60
     print("| crate | " + " | ".join(KINDS) + " | sum |\n|---|---|---|---|---|")
     for crate in sorted(table, key=lambda name: (name == "other", -sum(table[name].values()))):
-        print(f"| {crate} | " + " | ".join(f"{table[crate][kind]:.1f}" for kind in KINDS) + f" | {sum(table[crate].values()):.1f} |")
+        minutes = [table[crate][kind] for kind in KINDS] + [sum(table[crate].values())]
+        print(f"| {crate} | " + " | ".join(f"{it:.1f}" for it in minutes) + " |")
     used = resource.getrusage(resource.RUSAGE_CHILDREN)
-    print(f"{(time.time() - began) / 60:.1f} minutes, {(used.ru_utime + used.ru_stime) / 60:.1f} processor minutes, status {command.returncode}")
+    clock, processor = (time.time() - began) / 60, (used.ru_utime + used.ru_stime) / 60
+    print(f"{clock:.1f} minutes, {processor:.1f} processor minutes, status {command.returncode}")
     sys.exit(command.returncode)
 
 

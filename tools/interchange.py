@@ -55,7 +55,8 @@ def form_words(test):
 
 
 def verdict(test, digits, signature):
-    words = ["verify", "--key", key_file("public", test, digits), "--message", put("message", bytes.fromhex(test["message"]))]
+    words = ["verify", "--key", key_file("public", test, digits)]
+    words += ["--message", put("message", bytes.fromhex(test["message"]))]
     words += ["--signature", put("signature", signature), *form_words(test)]
     return slh(*words)
 
@@ -81,7 +82,8 @@ def keygen_passes(test):
 
 
 def sign_passes(test):
-    words = ["sign", "--key", key_file("secret", test, test["sk"]), "--message", put("message", bytes.fromhex(test["message"]))]
+    words = ["sign", "--key", key_file("secret", test, test["sk"])]
+    words += ["--message", put("message", bytes.fromhex(test["message"]))]
     words += form_words(test) + (["--random", test["random"]] if test["random"] else [])
     answer = slh(*words)
     if len(test["context"]) > 510:
@@ -107,7 +109,7 @@ def record_signs(record, test):
 
 
 def record_results(record):
-    """Whether the keys of a record and each of its signatures are as they stand there; None where one is passed over."""
+    """Whether the keys of a record and each of its signatures are as they stand there; None where one is skipped."""
     root = record["pk"][len(record["pk"]) // 2 :]
     yield makes_keys(record["label"], record["seeds"], record["seeds"] + root, record["pk"])
     for test in record["signatures"]:

@@ -9,8 +9,9 @@
 #
 # usage: tools/library.sh PREFIX
 #
-# The code is for processors of the level x86-64-v2, or of the one that SLH_CPU names, as x86-64-v3. `rt lib` builds the archive, which proves what is not proved yet. It needs rt, a C compiler as CC or cc, and ld, ar
-# and strip of GNU binutils.
+# The code is for processors of the level x86-64-v2, or of the one that SLH_CPU names, as x86-64-v3. `rt lib` builds the
+# archive, which proves what is not proved yet. It needs rt, a C compiler as CC or cc, and ld, ar and strip of GNU
+# binutils.
 set -euo pipefail
 here=$(cd "$(dirname "${BASH_SOURCE[0]}")/.." && pwd)
 if [ $# != 1 ]; then

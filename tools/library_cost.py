@@ -3,10 +3,10 @@
 
 usage: tools/library_cost.py PREFIX
 
-PREFIX is where tools/library.sh installed. A C program makes a key, signs "abc" and verifies under valgrind's callgrind,
-for each set. A row has the instructions of slh_keygen, slh_sign and slh_verify, and of them those outside the one function
-of slh_core that does the work: top_root, sign_internal and verify_internal. The counts do not depend on the machine, but
-for those in memcpy. It needs valgrind and a C compiler as CC or cc.
+PREFIX is where tools/library.sh installed. A C program makes a key, signs "abc" and verifies under valgrind's
+callgrind, for each set. A row has the instructions of slh_keygen, slh_sign and slh_verify, and of them those outside
+the one function of slh_core that does the work: top_root, sign_internal and verify_internal. The counts do not depend
+on the machine, but for those in memcpy. It needs valgrind and a C compiler as CC or cc.
 """
 import os
 import pathlib
@@ -48,7 +48,8 @@ def main():
     with tempfile.TemporaryDirectory() as work:
         source, program, profile = (f"{work}/{it}" for it in ("program.c", "program", "profile"))
         pathlib.Path(source).write_text(PROGRAM)
-        cc = [os.environ.get("CC", "cc"), "-O1", "-I", f"{prefix}/include", source, f"{prefix}/lib/libslh.a", "-o", program]
+        cc = [os.environ.get("CC", "cc"), "-O1", "-I", f"{prefix}/include", source]
+        cc += [f"{prefix}/lib/libslh.a", "-o", program]
         subprocess.run([*cc, "-Wl,-z,now"], check=True)
         for number, name in enumerate(("128s", "128f", "192s", "192f", "256s", "256f"), 1):
             under = ["valgrind", "-q", "--tool=callgrind", f"--callgrind-out-file={profile}", program, str(number)]

@@ -1,7 +1,7 @@
 /*
- * Measures the most bytes of stack that slh_keygen, slh_sign and slh_verify of each set take: each runs in a thread whose
- * stack was filled with one byte value, and what no longer has it was used. What a thread takes that does nothing is
- * taken off. The last line tells whether all are below the limits, 64 KB and 32 KB for slh_verify.
+ * Measures the most bytes of stack that slh_keygen, slh_sign and slh_verify of each set take: each runs in a thread
+ * whose stack was filled with one byte value, and what no longer has it was used. What a thread takes that does nothing
+ * is taken off. The last line tells whether all are below the limits, 64 KB and 32 KB for slh_verify.
  */
 #define _GNU_SOURCE
 #include <slh.h>

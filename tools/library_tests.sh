@@ -46,7 +46,8 @@ has_symbols() {
     local file=$1
     shift
     nm "$@" "$file" | awk 'NF == 2 { print $1, $2 } NF == 3 { print $2, $3 }' | sed 's/@.*//' |
-        grep -Ev '^[a-z] |^[wW] (_ITM_|__cxa_finalize|__gmon_start__)|^U (memcmp|bcmp)$' | LC_ALL=C sort >"$work/symbols"
+        grep -Ev '^[a-z] |^[wW] (_ITM_|__cxa_finalize|__gmon_start__)|^U (memcmp|bcmp)$' |
+        LC_ALL=C sort >"$work/symbols"
     diff "$work/symbols" -
 }
 

@@ -1,6 +1,7 @@
 #!/usr/bin/env bash
-# Runs the program `slh` with little stack and little address space. Whatever the limit, a command gives the bytes that it
-# gives without one, or the refusal `1 NoMemory`; a limit under which the system does not start the program counts for nothing.
+# Runs the program `slh` with little stack and little address space. Whatever the limit, a command gives the bytes that
+# it gives without one, or the refusal `1 NoMemory`; a limit under which the system does not start the program counts
+# for nothing.
 #
 # usage: tools/limits.sh [PROGRAM]
 #
@@ -15,8 +16,8 @@ cd "$work" || exit 1
 source "$here/tools/counts.sh"
 echo "slh: 1 NoMemory" >no_memory
 
-# Runs a command under one limit, `-s` or `-v` in KB, and says what came of it: right, refused, unstarted or the fault. The bytes
-# that are right are in the file `wanted`, its status in `status`.
+# Runs a command under one limit, `-s` or `-v` in KB, and says what came of it: right, refused, unstarted or the fault.
+# The bytes that are right are in the file `wanted`, its status in `status`.
 under() {
     local option=$1 limit=$2 status
     shift 2
@@ -39,8 +40,8 @@ want() {
     echo $? >status
 }
 
-# Goes over limits FROM, FROM + STEP, up to TO, and counts what came of them. Of refusals and of right answers there has to be
-# one at least, where SOME is yes.
+# Goes over limits FROM, FROM + STEP, up to TO, and counts what came of them. Of refusals and of right answers there has
+# to be one at least, where SOME is yes.
 sweep() {
     local name=$1 option=$2 from=$3 to=$4 step=$5 some=$6 limit came right=0 refused=0 bad=0
     shift 6
@@ -72,7 +73,8 @@ printf 'a message\n' >message
 # Objects of objects, as deep as they may nest.
 python3 -c 'print("[" + "{\"a\":" * 126 + "1" + "}" * 126 + "]")' >deep.json
 
-# Each command, with 64 workers where it takes workers, under the least limit of the stack, and under every limit below it.
+# Each command, with 64 workers where it takes workers, under the least limit of the stack, and under every limit below
+# it.
 many="--workers 64 --xmss-levels 3 --fors-levels 3"
 while read -r words; do
     # shellcheck disable=SC2086
@@ -97,9 +99,10 @@ END
 while read -r name n; do
     python3 -c "print(bytes(range(3 * $n)).hex())" >seeds
     "$program" keygen --set "$name" <seeds >"key_of_$name"
-    want sign --key "key_of_$name" --message message --workers 64
+    signing=(sign --key "key_of_$name" --message message --workers 64)
+    want "${signing[@]}"
     tell "ulimit -s 192: sign $name by 64 workers" \
-        "$([ "$(under -s 192 sign --key "key_of_$name" --message message --workers 64 2>/dev/null)" = right ] && echo yes || echo no)"
+        "$([ "$(under -s 192 "${signing[@]}" 2>/dev/null)" = right ] && echo yes || echo no)"
 done <<END
 SLH-DSA-SHA2-128s 16
 SLH-DSA-SHA2-192f 24

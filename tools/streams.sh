@@ -27,7 +27,7 @@ check() {
     fi
 }
 
-# Runs the program with these words, and leaves its output, its errors and its status in files.
+# Runs the program with these arguments, and leaves its output, its errors and its status in files.
 run() {
     timeout 60 "$program" "$@" >output 2>errors
     echo $? >status
@@ -55,7 +55,8 @@ printf 'consistent\n' >consistent
 printf 'passed 0 failed 0\n' >no_tests
 printf '[]' >tests
 head -c 20000 /dev/zero >zeros
-test_of_none='{"kind":"verify","set":"SLH-DSA-SHA2-128f","pk":"'$(printf '0%.0s' {1..64})'","form":"pure","message":"","context":"","signature":"","valid":false}'
+test_of_none='{"kind":"verify","set":"SLH-DSA-SHA2-128f","pk":"'$(printf '0%.0s' {1..64})'",'
+test_of_none+='"form":"pure","message":"","context":"","signature":"","valid":false}'
 set=SLH-DSA-SHA2-128f
 sign="sign --key secret --message abc"
 
@@ -101,7 +102,7 @@ check "an unknown set is refused" refused "12 UnknownSet"
 run --help
 check "help is written, and no error" [ -s output -a ! -s errors -a "$(cat status)" = 0 ]
 
-# ---- files that are none
+# ---- paths that are not files
 run sign --key none --message abc
 check "a key that is missing" refused "32 ReadFailed"
 run sign --key secret --message none

@@ -1,8 +1,8 @@
 #!/usr/bin/env bash
 # All that is proved and tested: `rt ci` (every proof from nothing, the must-fail edits, the tests and the stored runs),
 # whether docs/PROVED.md is what the sources say, and then the program that `rt ci` has built, over the vectors of other
-# implementations, over pipes and broken streams, with each growth of memory refused, and with little stack and address space;
-# and the library for C. The last line has the counts of all, and the status is 0 where nothing failed.
+# implementations, over pipes and broken streams, with each growth of memory refused, and with little stack and address
+# space; and the library for C. The last line has the counts of all, and the status is 0 where nothing failed.
 set -uo pipefail
 here=$(cd "$(dirname "${BASH_SOURCE[0]}")/.." && pwd)
 cd "$here"

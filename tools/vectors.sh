@@ -27,11 +27,12 @@ one_failed() {
         sed "\$s/.*/passed $(($2 - 1)) failed 1/"
 }
 
-# The script slh builds the program where it is missing, and prints what that prints; so it runs once before any report is read.
+# The script slh builds the program where it is missing, and prints what that prints. So it runs once before any report
+# is read.
 "$program" params >"$work/report" 2>"$work/errors"
 
 for file in "$vectors"/*.json; do
-    # Its rows are of free records, which no vector file names: slh_conformance has them.
+    # Its rows are of parameter records, which no vector file names: slh_conformance tests them.
     [ "${file##*/}" != records.json ] || continue
     name=$(basename "$file")
     tests=$(grep -c '"kind":' "$file")

@@ -1,5 +1,7 @@
--- `Refusing::granted` at a call, after the toolchain's own proof for the handle `Later` of std_collections. Assumes `Logic`.
---     Grants, at_granted, granted_goes, granted_Gives      its contract, what it is handed, and the inner allocator that it shows, if it grants
+-- `Refusing::granted` at a call, after the toolchain's own proof for the handle `Later` of std_collections. Assumes
+-- `Logic`.
+--     Grants, at_granted, granted_goes, granted_Gives      its contract, what it is handed, and the inner allocator
+--                                                          that it shows, if it grants
 use mathlib.Core.Path.{◌≡◌, refl, ap, ◌∙◌}
 use mathlib.Core.List.{List, [], ◌∷◌, ◌++◌}
 use lib.Dec.{T, lit<}

@@ -1,5 +1,6 @@
 -- What the proofs of `allocate` and `deallocate` share. Assumes `Logic`.
---     args, self, Said      the types that the code stands at, the reference to the wrapper, and the size and the alignment of the block's type
+--     args, self, Said      the types that the code stands at, the reference to the wrapper, and the size and the
+--                           alignment of the block's type
 use mathlib.Core.Path.{◌≡◌}
 use Prim.Native.Nat.{ℕ}
 use mathlib.Core.List.{[], ◌∷◌}

@@ -11,7 +11,7 @@ use std::thread::Threads;
 use std::{env, io};
 
 /// The least limit of the stack, in bytes, under which each command has room on the first thread and on all others. A
-/// stack that is used up ends a program without a word, so `main` looks at the limit before anything else.
+/// program that overflows its stack is ended without a message, so `main` looks at the limit before anything else.
 const LEAST_STACK: u64 = 192 * 1024;
 
 fn main(rt: HostRuntime) -> ExitCode {
@@ -36,7 +36,7 @@ fn stack_limit<R: Files>(rt: &R) -> Option<u64> {
     line.split_whitespace().next()?.parse().ok()
 }
 
-/// The command that the words of the program ask for, over the files of the system. It is kept out of `main`, which has
+/// The command that the program's arguments ask for, over the files of the system. It is kept out of `main`, which has
 /// to have room on a stack that is too small for any command.
 #[inline(never)]
 fn run<R: AllocGlobal + Env + Files + Threads + Sync>(
@@ -60,7 +60,7 @@ fn run<R: AllocGlobal + Env + Files + Threads + Sync>(
     )
 }
 
-/// The words after the program's name. A word that is no UTF-8 is no word of a command.
+/// The arguments after the program's name. Refused with `BadWords` where one of them is not UTF-8.
 fn words_of<R: Env + AllocGlobal>(rt: &R) -> Result<Vec<String>, Fault> {
     let args = env::args(rt).map_err(|error| fault_of(&error))?;
     let mut words = Vec::new(rt.alloc());

@@ -10,7 +10,7 @@ use Rattle.clap.specs.declared.Command.TheViews.{out-Command as fields_of}
 abbrev pub optional : Text → Rule
 optional name = record (new_rule name) { long = Some name; value_names = 1 }
 
--- the same, and the words must give it
+-- the same, and the arguments must give it
 abbrev pub required : Text → Rule
 required name = record (optional name) { required = true }
 
@@ -91,7 +91,7 @@ abbrev pub with_subcommands : App → List Shape → App
 with_subcommands a [] = a
 with_subcommands a (s ∷ rest) = with_subcommands (with_subcommand a s) rest
 
--- the program: its words are those after its own name
+-- the program: its arguments are those after its own name
 abbrev pub no_command : App
 no_command = on_top (λ s. record s { no_binary_name = true }) (new_app (codes "slh"))
 

@@ -17,7 +17,7 @@ pub(crate) fn optional<'a>(alloc: Global, name: &'a str, value: &'a str, help: &
         .help(help)
 }
 
-/// An option that the words must give.
+/// An option that the arguments must give.
 pub(crate) fn required<'a>(alloc: Global, name: &'a str, value: &'a str, help: &'a str) -> Arg<'a>
     ensures rule { rule_of result ≡ required name.entry.now }
     ensures local { result.global ≡ false }

@@ -96,7 +96,7 @@ fn sign_alone(sk: &SecretKey) -> bool {
     sign_message(sk, &mut buffer)
 }
 
-/// Signs the message once in each of so many threads.
+/// Signs the message once in each of this many threads.
 pub fn sign_in_each<R: Threads + Sync>(rt: &R, sk: &SecretKey, threads: u8) -> bool {
     if threads <= 1 {
         return sign_alone(sk);

@@ -1,15 +1,15 @@
 //! Times key generation, signing or verifying of a parameter set, in one thread or by several workers, or the hash
 //! functions below them. `tools/benchmark.py` runs it, and `tools/count_calls.py` does so under a profiler.
 //!
-//! Its words are a task, a number of runs and a set's name. It prints the nanoseconds of the shortest run; one of
-//! `sha256` or `sha512` hashes 65536 bytes. Without these three words it prints nothing. The tasks are
+//! Its arguments are a task, a number of runs and a set's name. It prints the nanoseconds of the shortest run; one of
+//! `sha256` or `sha512` hashes 65536 bytes. Without these three it prints nothing. The tasks are
 //!
 //! - in one thread `keygen`, `sign`, `verify`, `sha256` and `sha512`;
-//! - by several workers `keygen_par`, `sign_par`, `verify_all` (of 64 signatures) and `independent` (so many threads of
-//!   which each signs the message alone, as long as all of them take).
+//! - by several workers `keygen_par`, `sign_par`, `verify_all` (of 64 signatures) and `independent` (that many threads,
+//!   each of which signs the message alone, as long as all of them take).
 //!
-//! A fourth word is the number of workers, 1 where there is none, and a fifth the levels by which the XMSS trees and
-//! the FORS trees are cut. Where there is no fifth word, they are cut so that each worker gets many jobs. Where no run
+//! A fourth argument is the number of workers, 1 where it is left out, and a fifth the levels by which the XMSS trees
+//! and the FORS trees are cut. Where there is no fifth, they are cut so that each worker gets many jobs. Where no run
 //! ends as it should, as with more levels than the trees have, it prints over 2^63 seconds.
 #![tactic(auto, using(slh_params::proofs::Bounds::bounds))]
 

@@ -21,7 +21,7 @@ pub struct Sharing {
     pub fors: u32,
 }
 
-/// The least levels, at most `height` and 8, that cut so many trees into as many jobs as are wanted, or else the most.
+/// The least levels, at most `height` and 8, that cut this many trees into as many jobs as asked for, or else the most.
 fn levels_for(jobs: u32, trees: u32, height: u32) -> u32 {
     (0..height.min(MOST_LEVELS))
         .find(|&levels| trees.saturating_mul(1 << levels) >= jobs)
@@ -29,7 +29,7 @@ fn levels_for(jobs: u32, trees: u32, height: u32) -> u32 {
 }
 
 impl Sharing {
-    /// By so many workers, with trees cut by these levels or else by suitable ones. None where there are not 1 to 64
+    /// By that many workers, with trees cut by these levels or else by suitable ones. None where there are not 1 to 64
     /// workers.
     pub fn new(set: ParamSet, workers: u8, levels: Option<u32>) -> Option<Sharing> {
         let workers = Workers::new(workers)?;

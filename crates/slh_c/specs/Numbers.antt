@@ -18,10 +18,10 @@ set_numbered number = at_place sets number
 unfoldable pub function_numbered : ℕ → Option PreHash
 function_numbered number = at_place functions number
 
--- a number is a set's, of which this is so
+-- a number is a set's, of which P holds
 abbrev pub InSet : ℕ → (ParamSet → Type 0) → Type 0
 InSet number P = IsSomeAnd (set_numbered number) P
 
--- a number is a function's, of which this is so
+-- a number is a function's, of which P holds
 abbrev pub WithFunction : ℕ → (PreHash → Type 0) → Type 0
 WithFunction number P = IsSomeAnd (function_numbered number) P

@@ -10,7 +10,7 @@ use Rattle.slh_c.specs.Refusals.{number, name, refusal_numbered}
 use Rattle.slh_c.specs.declared.refusal.Refusal.{Refusal}
 use Rattle.slh_c.specs.declared.refusal.Refusal.TheVariants.{ContextTooLong, BadLength, NoSuchSet, NoSuchFunction, BadSeedLength, BadDigestLength, BadRandomizerLength, BadOutputLength, NoSuchRefusal}
 
--- what is asked of an argument, and the refusal where it is not so
+-- what is asked of an argument, and the refusal where it does not hold
 pub record Rule : Type 0 where
   pub is_met : Bool
   pub refusal : Refusal

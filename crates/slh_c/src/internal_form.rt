@@ -13,7 +13,7 @@ use crate::refusal::{DONE, INVALID, Refusal};
 use slh_core::{PublicKey, SecretKey, sign_internal, verify_internal};
 
 /// Signs M' as it is (FIPS 205, Algorithm 19). The lengths are those of `slh_sign`. Refused, with nothing written,
-/// by `sign_internal_rules`: a number of no set, a key, randomizer or output of another length.
+/// by `sign_internal_rules`: a number that is not a set's, a key, randomizer or output of another length.
 #[unsafe(no_mangle)]
 pub extern "C" fn slh_sign_internal(
     set: u32,

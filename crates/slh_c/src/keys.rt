@@ -11,7 +11,7 @@ use crate::refusal::{DONE, INVALID, Refusal};
 use slh_core::{SecretKey, check_pair, keygen_internal};
 
 /// Writes the lengths of a set's public keys, secret keys and signatures in bytes, and n. Refused, with nothing
-/// written, by `lengths_rules`: where the number is no set's.
+/// written, by `lengths_rules`: where the number is not a set's.
 #[unsafe(no_mangle)]
 pub extern "C" fn slh_lengths(
     set: u32,
@@ -37,7 +37,7 @@ pub extern "C" fn slh_lengths(
 }
 
 /// Writes the secret key, 4n bytes, of three seeds of n bytes each (FIPS 205, Algorithm 18). Refused, with nothing
-/// written, by `keygen_rules`: a number of no set, a seed or an output of another length.
+/// written, by `keygen_rules`: a number that is not a set's, a seed or an output of another length.
 #[unsafe(no_mangle)]
 pub extern "C" fn slh_keygen(
     set: u32,
@@ -67,7 +67,7 @@ pub extern "C" fn slh_keygen(
 }
 
 /// Writes the public key, 2n bytes, of a secret key of 4n bytes: its second half. Refused, with nothing written, by
-/// `public_rules`: a number of no set, a key or an output of another length.
+/// `public_rules`: a number that is not a set's, a key or an output of another length.
 #[unsafe(no_mangle)]
 pub extern "C" fn slh_public(set: u32, sk: &[u8], pk: &mut [u8]) -> u32
     ensures answer { result ≡ first_refusal (public_rules set sk.now pk.old) }
@@ -88,7 +88,7 @@ pub extern "C" fn slh_public(set: u32, sk: &[u8], pk: &mut [u8]) -> u32
 }
 
 /// Whether PK.root of a secret key of 4n bytes is the root that its seeds give. Refused by `check_rules`: a number
-/// of no set, a key of another length.
+/// that is not a set's, a key of another length.
 #[unsafe(no_mangle)]
 pub extern "C" fn slh_check(set: u32, sk: &[u8]) -> u32
     ensures generated { (result ≡ DONE) ↔ InSet set (λ s.

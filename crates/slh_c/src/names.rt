@@ -5,7 +5,7 @@ ghost use Rattle.slh_c.specs.Rules.{first_refusal, name_rules};
 use crate::refusal::{DONE, Refusal};
 
 /// Writes the name of a refusal's number, and zero bytes from there to the end, at least one. Refused, with nothing
-/// written, by `name_rules`: a number of no refusal, no room for a zero byte.
+/// written, by `name_rules`: a number that is not a refusal's, no room for a zero byte.
 #[unsafe(no_mangle)]
 pub extern "C" fn slh_refusal_name(refusal: u32, out: &mut [u8]) -> u32
     ensures answer { result ≡ first_refusal (name_rules refusal out.old) }

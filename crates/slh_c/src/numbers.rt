@@ -14,7 +14,7 @@ const FUNCTIONS: [PreHash; 6] = [
     PreHash::Sha512_256,
 ];
 
-/// The parameter set of a number. `None` where it is no set's.
+/// The parameter set of a number. `None` where it is not a set's.
 #[tactic(auto, unfolding(crate::specs::Numbers::set_numbered))]
 pub fn set_of(number: u32) -> Option<ParamSet>
     ensures { result ≡ set_numbered number }
@@ -22,7 +22,7 @@ pub fn set_of(number: u32) -> Option<ParamSet>
     at_place(&ParamSet::all(), number)
 }
 
-/// The pre-hash function of a number. `None` where it is no function's.
+/// The pre-hash function of a number. `None` where it is not a function's.
 #[tactic(auto, unfolding(crate::specs::Numbers::function_numbered))]
 pub fn function_of(number: u32) -> Option<PreHash>
     ensures { result ≡ function_numbered number }

@@ -19,7 +19,7 @@ use slh_core::{
 
 /// Signs a message by its digest under a pre-hash function, and under a context (FIPS 205, Algorithm 23). The lengths
 /// are those of `slh_sign`. Refused, with nothing written, by `hash_sign_rules`: as `slh_sign` is, and for a number
-/// of no function.
+/// that is not a function's.
 #[unsafe(no_mangle)]
 pub extern "C" fn slh_hash_sign(
     set: u32,
@@ -60,8 +60,8 @@ pub extern "C" fn slh_hash_sign(
 }
 
 /// Whether the bytes are a valid signature of a message by its digest under a pre-hash function, and under a
-/// context (FIPS 205, Algorithm 25). Invalid as in `slh_verify`. Refused by `hash_verify_rules`: a number of no set or
-/// no function, a key of another length.
+/// context (FIPS 205, Algorithm 25). Invalid as in `slh_verify`. Refused by `hash_verify_rules`: a number that
+/// is not a set's or not a function's, a key of another length.
 #[unsafe(no_mangle)]
 pub extern "C" fn slh_hash_verify(
     set: u32,

@@ -14,8 +14,8 @@ use crate::refusal::{DONE, INVALID, Refusal};
 use slh_core::{PublicKey, SecretKey, sign, verify};
 
 /// Signs a message under a context (FIPS 205, Algorithm 22), writing `sig_len` bytes. `sk` has 4n bytes, the
-/// randomizer n, or none in the deterministic variant. Refused, with nothing written, by `sign_rules`: a number of
-/// no set, a key, randomizer or output of another length, a context of over 255 bytes.
+/// randomizer n, or none in the deterministic variant. Refused, with nothing written, by `sign_rules`: a number that
+/// is not a set's, a key, randomizer or output of another length, a context of over 255 bytes.
 #[unsafe(no_mangle)]
 pub extern "C" fn slh_sign(
     set: u32,
@@ -53,7 +53,7 @@ pub extern "C" fn slh_sign(
 
 /// Whether the bytes are a valid signature of a message under a context (FIPS 205, Algorithm 24). `pk` has 2n bytes.
 /// Invalid where the context has over 255 bytes or the signature not `sig_len`. Refused by `verify_rules`: a number
-/// of no set, a key of another length.
+/// that is not a set's, a key of another length.
 #[unsafe(no_mangle)]
 pub extern "C" fn slh_verify(set: u32, pk: &[u8], msg: &[u8], ctx: &[u8], sig: &[u8]) -> u32
     ensures valid { (result ≡ DONE) ↔ InSet set (λ s.

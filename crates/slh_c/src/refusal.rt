@@ -14,19 +14,19 @@ pub enum Refusal {
     ContextTooLong,
     /// A key of another length than the set's.
     BadLength,
-    /// A number that is no parameter set's.
+    /// A number that is not a parameter set's.
     NoSuchSet,
-    /// A number that is no pre-hash function's.
+    /// A number that is not a pre-hash function's.
     NoSuchFunction,
-    /// A seed that has not n bytes.
+    /// A seed of another length than n bytes.
     BadSeedLength,
     /// A digest of another length than the function's.
     BadDigestLength,
     /// A randomizer that has neither 0 nor n bytes.
     BadRandomizerLength,
-    /// An output that has not as many bytes as are written.
+    /// An output of another length than what is written.
     BadOutputLength,
-    /// A number that is no refusal's.
+    /// A number that is not a refusal's.
     NoSuchRefusal,
 }
 
@@ -65,7 +65,7 @@ impl Refusal {
         }
     }
 
-    /// The refusal of a number. `None` where it is no refusal's.
+    /// The refusal of a number. `None` where it is not a refusal's.
     #[tactic(auto, unfolding(crate::specs::Refusals::refusal_numbered))]
     pub fn from_number(number: u32) -> Option<Refusal>
         ensures { result ≡ refusal_numbered number }

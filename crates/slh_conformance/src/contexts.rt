@@ -112,7 +112,7 @@ fn signature_lengths(rt: HostRuntime) -> Result<(), Fail> {
     Ok(())
 }
 
-/// A signature of one form is none of the other.
+/// A signature of one form is not one of the other.
 #[test]
 fn forms(rt: HostRuntime) -> Result<(), Fail> {
     let sk = key(ParamSet::S128f);

@@ -5,7 +5,7 @@ use slh_few::layer_place;
 use slh_params::{ParamSet, base_2b};
 use std::test::Fail;
 
-/// Bytes that name no key pair by their pattern: the message digests below are their front.
+/// Bytes that name no key pair by their pattern: the message digests below are prefixes of them.
 const ANY: [u8; 49] = [
     0xb1, 0x97, 0xa2, 0xa3, 0xb0, 0xbf, 0xf4, 0x45, 0x22, 0xc0, 0x9a, 0x8e, 0x92, 0x04, 0x92, 0x47,
     0xae, 0x8f, 0xd1, 0x8f, 0xbd, 0x9a, 0xd1, 0x2b, 0x75, 0x67, 0x1a, 0xd8, 0xbd, 0x7b, 0xeb, 0xc6,
@@ -13,7 +13,7 @@ const ANY: [u8; 49] = [
     0x4a,
 ];
 
-/// The key pairs of three digests: ff, ff, ..; 00, 01, ..; and the front of `ANY`.
+/// The key pairs of three digests: ff, ff, ..; 00, 01, ..; and a prefix of `ANY`.
 #[test]
 fn key_pairs(rt: HostRuntime) {
     for (set, ones, up, any) in [

@@ -8,6 +8,7 @@ use sha2::{Digest, Sha256};
 use slh_few::{Public, Seeds, xmss_sig_len};
 use slh_params::ParamSet;
 
+mod custom_wots_values;
 mod digit_values;
 mod fors;
 mod fors_values;

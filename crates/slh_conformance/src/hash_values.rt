@@ -118,7 +118,7 @@ pub(crate) const HMAC: [(&str, &str, &str, &str); 19] = [
     ),
 ];
 
-/// Seed, and so many bytes of MGF1-SHA-256 and MGF1-SHA-512.
+/// Seed, and the first bytes of MGF1-SHA-256 and MGF1-SHA-512.
 pub(crate) const MGF1: [(&str, &str, &str); 11] = [
     ("626172", "", ""),
     ("626172", "38", "86"),

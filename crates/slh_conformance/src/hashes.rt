@@ -127,7 +127,7 @@ fn seeds(set: ParamSet) -> [Node; 3] {
     }
 }
 
-/// T over so many nodes, whose bytes are all 0, all 1, and so on.
+/// T over this many nodes, whose bytes are all 0, all 1, and so on.
 fn t_of(set: ParamSet, pk_seed: &[u8], adrs: &Adrs, count: usize) -> Node {
     let mut stream = TStream::new(set, pk_seed, adrs);
     for i in 0..count {

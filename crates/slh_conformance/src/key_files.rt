@@ -6,7 +6,7 @@ use slh_params::ParamSet;
 use std::process::Abort;
 use std::test::Fail;
 
-/// Whether the file was written as it should be; if not, memory was wanting.
+/// Whether the file was written as it should be; if not, memory ran out.
 fn is_written(rt: &impl Abort, written: Result<String<&LocalHeap>, FileFault>, file: &str) -> bool {
     match written {
         Ok(text) => assert_eq!(rt; text.as_str(), file),

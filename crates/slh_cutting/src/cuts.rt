@@ -38,8 +38,8 @@ pub(crate) fn leaf_count(height: u32) -> u32
     1 << height
 }
 
-/// The cut points of the trees of one kind, which have this height. Refused where the levels or the points are out of
-/// rule.
+/// The cut points of the trees of one kind, which have this height. Refused where the levels or the points are
+/// invalid.
 pub(crate) fn points_of(tree: CutTree, height: u32, cuts: Cuts<'_>) -> Result<CutPoints, CutFault>
     requires { height ≤ 14 }
     ensures points { IfOk result (λ v. v.items ≡ cut_points height cuts.entry) }

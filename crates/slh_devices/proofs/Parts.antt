@@ -11,7 +11,7 @@ use borrow.Rule.Slice.PartMut.{post_of, put_mid}
 rest_whole : (bytes : List ℕ) (at : ℕ) → take (length bytes - at) (drop at bytes) ≡ drop at bytes
 rest_whole bytes at = grind (arith, common_steps)
 
--- a front that was put, and then the front of the rest
+-- a prefix that was put, and then the prefix of the rest
 pub more_put : (a b c : Option (List ℕ)) (bytes : List ℕ) (at n : ℕ) → Appends a b (take at bytes)
     → Appends b c (take n (take (length bytes - at) (drop at bytes))) → Appends a c (take (at + n) bytes)
 more_put a b c bytes at n p q =
@@ -21,12 +21,12 @@ more_put a b c bytes at n p q =
 pub rest_length : (bytes : List ℕ) (at : ℕ) → length (take (length bytes - at) (drop at bytes)) ≡ length bytes - at
 rest_length bytes at = rw (rest_whole bytes at) (length-drop at bytes)
 
--- a part that came in lies within the room
+-- a part that came in lies within the buffer
 pub part_within : (a k n : ℕ) (xs ys : List ℕ) → a ≤ length xs → length ys ≡ k → n ≤ k → a + n ≤ length (put_mid a k xs ys)
 part_within a k n xs ys within same few =
     omega (arith, length-append (take a xs) (ys ++ post_of a k xs), length-append ys (post_of a k xs), length-take-le a xs within)
 
--- the front of a room after a write to its part from a on
+-- the front of a buffer after a write to its part from a on
 pub part_taken : (a k n : ℕ) (xs ys : List ℕ) → a ≤ length xs → length ys ≡ k → n ≤ k → take (a + n) (put_mid a k xs ys) ≡ take a xs ++ take n ys
 part_taken a k n xs ys within same few =
     let z = ys ++ post_of a k xs in
@@ -34,7 +34,7 @@ part_taken a k n xs ys within same few =
     subst (λ (m : ℕ). take (m + n) (take a xs ++ z) ≡ take a xs ++ take n z) e (take-append-add (take a xs) z n)
     ∙ ap (λ (t : List ℕ). take a xs ++ t) (take-append-le n ys (post_of a k xs) (omega arith))
 
--- a front that was taken, and then the front of the rest
+-- a prefix that was taken, and then the prefix of the rest
 pub more_taken : (a b c : Option (List ℕ)) (room out : List ℕ) (at k n : ℕ) → at ≤ length room → length out ≡ k → n ≤ k
     → Consumes a b (take at room) → Consumes b c (take n out) → Consumes a c (take (at + n) (put_mid at k room out))
 more_taken a b c room out at k n within same few p q =

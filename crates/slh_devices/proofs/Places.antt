@@ -6,7 +6,7 @@ use Rattle.std.specs.Io.{ReadsAtMost}
 use Rattle.std.specs.Io.KnownBytes.{ReadConsumes}
 use Rattle.slh_devices.specs.Places.{IsLeftFrom}
 
--- after the front of the rest, the rest of the rest
+-- after the prefix of the rest, the rest of the rest
 rest_after : (whole front rest : List ℕ) (at : ℕ) → drop at whole ≡ front ++ rest → rest ≡ drop (at + length front) whole
 rest_after whole front rest at e = sym (drop-append_seam front rest) ∙ ap (λ (xs : List ℕ). drop (length front) xs) (sym e) ∙ grind (arith, common_steps)
 

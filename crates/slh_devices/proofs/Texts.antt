@@ -10,14 +10,14 @@ use Rattle.std.specs.Io.KnownBytes.{Appends}
 use Rattle.std.proofs.KnownBytes.{Appends-trans}
 use Rattle.slh_devices.specs.Devices.{LetsThrough, Puts}
 
--- what went through of a text, with more text to come
+-- what was written of a text, with more text to come
 through_more : (a b : Option (List ℕ)) (x y : List ℕ) → LetsThrough a b x → LetsThrough a b (x ++ y)
 through_more a b x y p = elim (cases_lt p.0 (length x)) [
   | inl lt ↦ (p.0, rw (take-append-le p.0 x y (omega arith)) p.1)
   | inr ge ↦ (length x, rw (take-append_seam x y) (rw (take_all p.0 x ge) at p.1))
 ]
 
--- what went through after a whole text
+-- what was written after a whole text
 through_after : (a b c : Option (List ℕ)) (x y : List ℕ) → Appends a b x → LetsThrough b c y → LetsThrough a c (x ++ y)
 through_after a b c x y p q = (length x + q.0, rw (take-append-add x y q.0) (Appends-trans a b c x (take q.0 y) p q.1))
 
@@ -33,7 +33,7 @@ stopped (Err e) a b x y is p = through_more a b x y p
 pub ended : {T E : Type 0} (r : Result T E) (a b c : Option (List ℕ)) (x y : List ℕ) → Appends a b x → Puts b c r y → Puts a c r (x ++ y)
 ended r a b c x y p q = puts_after r a b c x y p q
 
--- a text was put whole, and of the next a front
+-- a text was put whole, and of the next a prefix
 pub stopped_after : {T E : Type 0} (r : Result T E) (a b c : Option (List ℕ)) (x y z : List ℕ) → IsErr r → Appends a b x → LetsThrough b c y → Puts a c r (x ++ y ++ z)
 stopped_after r a b c x y z is p q = stopped r a c (x ++ y) z is (through_after a b c x y p q)
 

@@ -25,11 +25,11 @@ Grew before after = (before < after) ⊎ ((before ≡ 2 ^ 64 - 1) × (after ≡ 
 abbrev pub CountsFailure : {T E : Type 0} → ℕ → ℕ → Result T E → Type 0
 CountsFailure before after r = MatchResult r (λ _. after ≡ before) (λ _. Grew before after)
 
--- a failed write let a front of the bytes through
+-- a write failed after a prefix of the bytes was written
 abbrev pub LetsThrough : Option (List ℕ) → Option (List ℕ) → List ℕ → Type 0
 LetsThrough old new bytes = (k : ℕ) × Appends old new (take k bytes)
 
--- at most so many bytes were taken
+-- at most this many bytes were taken
 abbrev pub TakesAtMost : Option (List ℕ) → Option (List ℕ) → ℕ → Type 0
 TakesAtMost left rest limit = (bytes : List ℕ) × Consumes left rest bytes × (length bytes ≤ limit)
 
@@ -43,6 +43,6 @@ abbrev pub EndsBy : Option (List ℕ) → ℕ → Type 0
 EndsBy None at = ⊤
 EndsBy (Some whole) at = length whole ≤ at
 
--- a text was put, or a front of it where a write failed
+-- a text was put, or a prefix of it where a write failed
 abbrev pub Puts : {T E : Type 0} → Option (List ℕ) → Option (List ℕ) → Result T E → List ℕ → Type 0
 Puts old new r text = MatchResult r (λ _. Appends old new text) (λ _. LetsThrough old new text)

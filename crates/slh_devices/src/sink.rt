@@ -14,7 +14,7 @@ pub trait Sink {
     // What contracts know of the sink.
     ghost state: { Self → SinkState };
 
-    /// Takes a front of the bytes, and says how many; at least one, unless there are none.
+    /// Takes a prefix of the bytes, and says how many; at least one, unless there are none.
     fn put(&mut self, bytes: &[u8]) -> Result<usize, WriteFault>
         ensures count { IfOk result (λ n. n ≤ length bytes.now) }
         ensures some { 0 < length bytes.now → IfOk result (λ n. 0 < n) }
@@ -22,7 +22,7 @@ pub trait Sink {
         ensures failed { CountsFailure (state self.old).failures (state self.new).failures result };
 }
 
-/// Puts all the bytes, or what goes through before a failure.
+/// Puts all the bytes, or a prefix of them where a write failed.
 pub fn put_all<W: Sink>(output: &mut W, bytes: &[u8]) -> Result<(), WriteFault>
     ensures ok { OnOk result (Appends (W.state output.old).contents (W.state output.new).contents bytes.now) }
     ensures err { OnErr result (LetsThrough (W.state output.old).contents (W.state output.new).contents bytes.now) }

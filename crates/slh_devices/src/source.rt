@@ -14,14 +14,14 @@ pub trait Source {
     // What contracts know of the source.
     ghost state: { Self → SourceState };
 
-    /// Writes the next bytes to the front of `out`, and says how many. None are the end, unless `out` is empty.
+    /// Writes the next bytes to the front of `out`, and says how many: 0 only at the end, or where `out` is empty.
     fn take(&mut self, out: &mut [u8]) -> Result<usize, FetchFault>
         ensures count { IfOk result (λ n. n ≤ length out.new) }
         ensures bytes { ReadConsumes (state self.old).left (state self.new).left result out.new }
         ensures failed { CountsFailure (state self.old).failures (state self.new).failures result };
 }
 
-/// Fills the room, or takes what is left where that is less, and says how many bytes it took. It refuses where a
+/// Fills the buffer, or takes what is left where that is less, and says how many bytes it took. It refuses where a
 /// read failed.
 pub fn take_up_to<S: Source>(input: &mut S, room: &mut [u8]) -> Result<usize, FetchFault>
     ensures count { IfOk result (λ n. n ≤ length room.new) }

@@ -59,7 +59,7 @@ fn workers(number: u8) -> Result<Workers, Fail> {
     Ok(Workers::new(number).ok_or("no such number of workers")?)
 }
 
-/// The first 48 bytes of ChaCha20 under the key of 32 bytes 00 (RFC 8439, appendix A.1) are the seeds; PK.root is that of a
+/// The first 48 bytes of ChaCha20 under the key of 32 bytes 00 (RFC 8439, appendix A.1) are the seeds; PK.root is by a
 /// reference in Python, which gives the roots of OpenSSL 3.5 for other seeds.
 #[test]
 fn key_from_a_generator(rt: HostRuntime) -> Result<(), Fail> {

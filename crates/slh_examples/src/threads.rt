@@ -22,8 +22,8 @@ fn halves(sk: &SecretKey) -> Cutting
     }
 }
 
-/// Signs a message with no context by so many workers. The bytes are those that one thread writes. Refused, with nothing
-/// written, where a growth of memory was refused.
+/// Signs a message with no context by that many workers. The bytes are those that one thread writes. Refused, with
+/// nothing written, where a growth of memory was refused.
 pub fn sign_by_threads<R: Threads + Sync, A: Allocator + Clone + Send + Sync>(
     rt: &R,
     alloc: A,
@@ -53,8 +53,8 @@ pub fn sign_by_threads<R: Threads + Sync, A: Allocator + Clone + Send + Sync>(
     )
 }
 
-/// Signs a message with no context by so many workers, unless another thread raises the flag: then each worker ends with
-/// the job that it runs. Refused, with nothing written, where a growth of memory was refused or the flag was raised.
+/// Signs a message with no context by that many workers, unless another thread raises the flag: then each worker ends
+/// after its current job. Refused, with nothing written, where a growth of memory was refused or the flag was raised.
 pub fn sign_unless_stopped<R: Threads + Sync, A: Allocator + Clone + Send + Sync>(
     rt: &R,
     alloc: A,

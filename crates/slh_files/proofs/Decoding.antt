@@ -18,7 +18,7 @@ decoded_whole s n r out len hex h =
     let written = rw (decode_sized-twice s n len, d.1) at h in
     d.1 ∙ ap Ok (sym written.1)
 
--- a line feed is no digit
+-- a line feed is not a digit
 pub digit_no_feed : (b : ℕ) → is_hex_digit b ≡ true → no_feed b ≡ true
 digit_no_feed b h = elim (cases_eq b 10) [ inl e ↦ cc (rw e at h) | inr ne ↦ grind (arith, nat_tests) ]
 

@@ -1,4 +1,5 @@
--- A file longer than any key file: its fault depends on its front and on the first byte after it that is no digit.
+-- A file longer than any key file: its fault depends on its front, the first 512 bytes, and on the first byte after
+-- them that is not a digit.
 use Rattle.std.proofs.Common.{◌≡◌, ℕ, suc, ◌+◌, ◌*◌, ◌<◌, ◌≤◌, ◌==◌, Bool, true, false, not, cond, inl, inr, [], ◌∷◌, ◌++◌, length, take, drop, get_or, Option, Some, None, Result, Ok, Err, refl, sym, ap, ◌∙◌, arith, append_assoc, append-nil, drop-cons, length-append, subst, codes}
 use Rattle.std.proofs.Math.Seq.{get_or-append_seam}
 use Rattle.std.proofs.lemmas.Bool.{cases_eq, cases_lt, eqb-true}
@@ -188,7 +189,7 @@ first_alike kind front s t long e (first line rest g f) =
 file_alike : (kind : KeyKind) (front s t : Text) → 512 ≤ length front → goes_on s ≡ goes_on t → key_file kind (front ++ s) ≡ key_file kind (front ++ t)
 file_alike kind front s t long e = rw (first_alike kind front s t (omega arith) e (feeds front)) refl
 
--- ---- the first byte that is no digit
+-- ---- the first byte that is not a digit
 
 goes_on-digit : (b : ℕ) (bs : Text) → is_hex_digit b ≡ true → goes_on (b ∷ bs) ≡ goes_on bs
 goes_on-digit b bs h =
@@ -204,7 +205,7 @@ goes_on-other b s t h = elim (cases_eq b 10) [
   ) refl
 ]
 
--- the first byte that is no digit, if there is one
+-- the first byte that is not a digit, if there is one
 abbrev pub first_other : Text → Text
 first_other part = cons_option (find (λ b. not (is_hex_digit b)) part) []
 
@@ -247,7 +248,7 @@ held_alike front part held long kind more =
     ∙ file_alike kind near (c ∷ more) (c ∷ (part ++ more)) (omega (arith, length-take-le 512 front (omega arith))) (goes_on-other c more (part ++ more) (held.last long))
     ∙ ap (λ (t : Text). key_file kind t) (sym (append_assoc near (c ∷ []) (part ++ more)) ∙ ap (λ (t : Text). t ++ (part ++ more)) (sym whole) ∙ sym (append_assoc front part more))
 
--- what is found is no digit
+-- what is found is not a digit
 found_other : (part : Text) (b : ℕ) → find (λ b. not (is_hex_digit b)) part ≡ Some b → is_hex_digit b ≡ false
 found_other [] b h = cc h
 found_other (x ∷ xs) b h = chosen (is_hex_digit x) refl h (found_other xs b)
@@ -257,7 +258,7 @@ found_other (x ∷ xs) b h = chosen (is_hex_digit x) refl h (found_other xs b)
     chosen true e k again = again k
     chosen false e k again = let same : x ≡ b = cc k in ap is_hex_digit (sym same) ∙ e
 
--- with a byte that is no digit it is held as stated
+-- with one more byte that is not a digit it may be held
 pub still_front : (front part : Text) (b : ℕ) → length front ≤ 512 → find (λ b. not (is_hex_digit b)) part ≡ Some b → IsKeyFront (front ++ b ∷ [])
 still_front front part b few found = record {
   at_most = omega (arith, length-append front (b ∷ []));

@@ -240,7 +240,7 @@ written_again kind key k = file_again kind (key_text kind key) key (written kind
 
 -- ---- keys of either kind
 
--- a secret key's file is no public key's
+-- a secret key's file is not a public key's
 not_public : (file : Text) (key : Key) → IsKeyFile Secret file key → key_file Public file ≡ Err NotAKeyFile
 not_public file key f =
     let rest : Text = label key.set ++ 10 ∷ (f.digits ++ f.ending) in

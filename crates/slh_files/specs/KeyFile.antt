@@ -91,7 +91,7 @@ abbrev pub after_set : Version → Option (Text × Text) → Result (ParamSet ×
 after_set version None = Err UnknownSet
 after_set version (Some parts) = with_rest (set_of_line version parts.0) parts.1 UnknownSet
 
--- the digits of a key of so many bytes, where they are the third line and nothing follows it
+-- the digits of a key of this many bytes, where they are the third line and nothing follows it
 abbrev pub key_digits : ℕ → Text × Text → Result Text FileFault
 key_digits len parts = if not (list_all is_hex_digit parts.0) then Err BadHex
     else (if not (length parts.0 == 2 * len) then Err BadKeyLength
@@ -124,7 +124,7 @@ abbrev pub IsAnyKeyFile : Text → AnyKey → Type 0
 IsAnyKeyFile file (any.Public key) = IsKeyFile Public file key
 IsAnyKeyFile file (any.Secret key) = IsKeyFile Secret file key
 
--- the public key of a file, or where it is no public key's, the secret key
+-- the public key of a file, or where it is not a public key's, the secret key
 abbrev pub or_secret : Result Key FileFault → Result Key FileFault → Result AnyKey FileFault
 or_secret (Ok key) secret = Ok (any.Public key)
 or_secret (Err NotAKeyFile) secret = secret >>= λ key. Ok (any.Secret key)
@@ -136,7 +136,7 @@ any_key_file file = or_secret (key_file Public file) (key_file Secret file)
 
 -- ---- files that are longer than any key file
 
--- what is held of a file: at most 512 bytes, or so many and one more, which is no digit
+-- what is held of a file: at most 512 bytes, or 512 and one more, which is not a digit
 pub record IsKeyFront (bytes : Text) : Type 0 where
   pub at_most : length bytes ≤ 513
   pub last : 512 < length bytes → is_hex_digit (get_or bytes 512 0) ≡ false

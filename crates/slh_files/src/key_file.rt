@@ -25,9 +25,9 @@ pub enum AnyKey {
 /// The public key in a key file of either version.
 ///
 /// Any other bytes are refused with their first fault, in this order: another first line (`NotAKeyFile`), a second line
-/// that is no set's label, or under version 1 no name of one of the standard's sets (`UnknownSet`), a byte of the third
-/// line that is no hexadecimal digit (`BadHex`), another number of digits than twice the length of a public key of the
-/// set (`BadKeyLength`), bytes after the third line (`TrailingBytes`).
+/// that is not a set's label, or under version 1 not the name of one of the standard's sets (`UnknownSet`), a byte of
+/// the third line that is not a hexadecimal digit (`BadHex`), another number of digits than twice the length of a
+/// public key of the set (`BadKeyLength`), bytes after the third line (`TrailingBytes`).
 pub fn read_public(bytes: &[u8]) -> Result<PublicKey, FileFault>
     ensures accepted { (key : Key) → (result ≡ Ok key) ↔ IsKeyFile Public bytes.now key }
     ensures first_fault { result ≡ key_file Public bytes.now }

@@ -12,8 +12,8 @@ const MOST: usize = 512;
 /// Pushes the next bytes of a key file to what is held of those before, as far as its key or its first fault depends on
 /// them.
 ///
-/// A file of over 512 bytes is no key file, and which fault it has depends only on its first 512 bytes and on the first
-/// one after them that is no hexadecimal digit. So no more than 513 bytes are held.
+/// A file of over 512 bytes is not a key file, and which fault it has depends only on its first 512 bytes and on the
+/// first one after them that is not a hexadecimal digit. So no more than 513 bytes are held.
 pub fn push_key_bytes<A: Allocator>(front: &mut Vec<u8, A>, part: &[u8]) -> Result<(), AllocError>
     requires front { IsKeyFront front.old.items }
     ensures front { OnOk result (IsKeyFront front.new.items) }
@@ -30,7 +30,7 @@ pub fn push_key_bytes<A: Allocator>(front: &mut Vec<u8, A>, part: &[u8]) -> Resu
     }
 }
 
-/// The first byte that is no hexadecimal digit.
+/// The first byte that is not a hexadecimal digit.
 fn first_other(bytes: &[u8]) -> Option<u8>
     ensures { result ≡ find (λ byte. not (is_hex_digit byte)) bytes.now }
 {

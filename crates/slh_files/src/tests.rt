@@ -88,7 +88,7 @@ fn reads_both_versions(rt: HostRuntime) -> Result<(), Fail> {
     Ok(())
 }
 
-/// A set that is none of the standard's is written by its label, and read in version 2 alone.
+/// A set that is not one of the standard's is written by its label, and read in version 2 alone.
 #[test]
 fn reads_sets_of_other_numbers(rt: HostRuntime) -> Result<(), Fail> {
     let set = ParamSet::custom(16, 2, 1, 1, 1, 1)?;

@@ -71,7 +71,7 @@ pub fn workers(number: u8) -> Result<Workers, Fail>
     Ok(Workers::new(number).ok_or("no such number of workers")?)
 }
 
-/// Trees with one range each. Those of 128f are 22 XMSS trees and 33 FORS trees, so the jobs of a signature are 0 to 54.
+/// Trees with one range each. 128f has 22 XMSS trees and 33 FORS trees, so the jobs of a signature are 0 to 54.
 pub fn whole_trees(set: ParamSet) -> Result<Cutting, Fail>
     ensures { IfOk result (λ cutting. cutting.set ≡ set) }
 {

@@ -38,7 +38,7 @@ fn keygen_par_refuses_at_each_growth(rt: HostRuntime) -> Result<(), Fail> {
     Ok(())
 }
 
-/// Signs by so many workers with each growth refused in turn.
+/// Signs by that many workers with each growth refused in turn.
 fn refuse_signing<R: Abort + Threads + Sync>(
     rt: &R,
     alloc: Global,
@@ -93,7 +93,7 @@ fn verify_all_refuses_at_each_growth(rt: HostRuntime) -> Result<(), Fail> {
         sig,
     };
     let items = [item(b""), item(good.as_slice())];
-    // A worker more asks for growths of its own, so their count tells whether the number of workers is handed on.
+    // One more worker asks for growths of its own, so their count tells whether the number of workers is handed on.
     let mut before = 0u64;
     for number in [1u8, 2] {
         let mut refusals = 0u64;

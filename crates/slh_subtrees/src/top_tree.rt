@@ -50,7 +50,7 @@ fn top_range(seeds: &Seeds<'_>, lo: u32, hi: u32) -> Cover
     ensures lo { result.lo ≡ lo }
     ensures hi { result.hi ≡ hi }
 {
-    // The nodes of a path are wanted of no leaf.
+    // No leaf's path is needed.
     let mut path = PathRec::for_leaf(seeds.set.hp(), 0);
     let top = seeds.set.d() as u8 - 1;
     xmss_range(seeds, top, 0, lo, hi, &mut path)

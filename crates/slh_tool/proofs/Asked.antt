@@ -1,4 +1,4 @@
--- Words that `clap` takes ask for a command.
+-- Arguments that `clap` takes ask for a command.
 use Rattle.std.proofs.Common.{◌≡◌, ◌&&◌, ◌||◌, Bool, true, false, not, cond, List, [], ◌∷◌, Option, Some, None, refl, sym, ◌∙◌, subst}
 use Rattle.std.proofs.lemmas.Slice.Eq.{bytes_eq-Decides}
 use Rattle.std.specs.Prelude.{codes, drop, find, option_map}
@@ -56,7 +56,7 @@ value_of s words id all n e =
 
 -- ---- each subcommand
 
--- a subcommand that is named by a word other than `help`, and takes the words after it, asks for a command
+-- a subcommand that is named by an argument other than `help`, and takes the arguments after it, asks for a command
 abbrev AsksAt : Shape → Type 0
 AsksAt s = (name : Text) (words : List Text) → bytes_eq name (codes "help") ≡ false → answers_to name (label_of s) ≡ true
     → level_fault s [] nothing_held words false [] ≡ [] → asked_in s.name (rows_after s.rules [] words) ≡ None → ⊥
@@ -160,6 +160,6 @@ built_asks a words all enabled fault none =
     let below = or_nil (entered_fault a stop) _ walking.1 in
     entered_asks a stop all (walk-no_help a.top (names_of a) (walk_from nothing_held) words enabled walking.0 tt) below.0 none
 
--- words without a fault ask for a command
+-- arguments without a fault ask for a command
 pub some_asked : (words : List Text) → fault_of slh_app words ≡ [] → asked_by (subcommand_of slh_app words) ≡ None → ⊥
 some_asked words fault none = built_asks (built slh_app) words all_ask refl fault none

@@ -19,7 +19,7 @@ same_digits (c ∷ cs) = rw (same_digits cs) refl
 own : IsNumeralModel (λ ds. all_ascii_digits ds ≡ true) (digits_value 10)
 own = numerals_by_value _ tells_all_ascii_digits
 
--- over 9 bytes are no number
+-- over 9 bytes are not a number
 pub too_long : (text : Text) → 9 < length text → None ≡ number_in text
 unfolding number_in
 too_long text long = let b : is_number text ≡ false = grind (arith, nat_tests) in rw b refl
@@ -78,7 +78,7 @@ no_numbers : (b : Bool) (r : Option (List ℕ)) → r ≡ None → None ≡ (if 
 no_numbers true r e = sym e
 no_numbers false r e = refl
 
--- a part is no number
+-- a part is not a number
 pub part_fails : (text : Text) (points : List ℕ) (part : Text) → HasRead (parts_of text) points → length points < length (parts_of text)
     → part ≡ get_or (parts_of text) (length points) part → number_in part ≡ None → None ≡ points_in text
 unfolding points_in

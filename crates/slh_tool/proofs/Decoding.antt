@@ -20,7 +20,7 @@ pub decoded : (text : List ℕ) (l k : ℕ) (r : Result (Unit {0}) FromHexError)
     → Some out ≡ result_ok (decode_sized text k)
 decoded text l k r out e h ok = rw (← e) (of_answer (decode_sized text l) r out h ok)
 
--- the text is not the digits of so many bytes
+-- the text is not the digits of this many bytes
 pub not_decoded : (text : List ℕ) (l k : ℕ) (r : Result (Unit {0}) FromHexError) (out : List ℕ) → l ≡ k
     → MatchResult (decode_sized text l) (λ bytes. (r ≡ Ok tt) × (out ≡ bytes)) (λ e. r ≡ Err e) → is_err r ≡ true
     → None ≡ result_ok (decode_sized text k)

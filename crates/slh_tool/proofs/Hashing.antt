@@ -5,7 +5,7 @@ use Rattle.slh_core.specs.declared.pre_hash.PreHash.{PreHash}
 use Rattle.slh_core.specs.declared.pre_hasher.PreHasher.{PreHasher}
 use Rattle.slh_devices.specs.Devices.{FilesState, HasPart}
 
--- so many bytes of the file were hashed
+-- this many bytes of the file were hashed
 pub record HasHashed (files : FilesState) (path : List ℕ) (hasher : PreHasher) (function : PreHash) (at : ℕ) : Type 0 where
   pub bytes : List ℕ
   pub fed : HasFed hasher function bytes

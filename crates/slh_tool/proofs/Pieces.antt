@@ -19,19 +19,19 @@ use Rattle.slh_tool.specs.Keys.{HoldsAnyKey, HoldsKey, RefusesAnyKey, RefusesKey
 use Rattle.slh_tool.specs.Reading.{IsFile, IsFrontOfFile, IsFrontOfKeyFile, file_limit}
 use Rattle.slh_tool.specs.declared.fault.Fault.{Fault}
 
--- a front of a file, and then the part that follows it
+-- a prefix of a file, and then the part that follows it
 pub more_read : (known : Option (List ℕ)) (front part : List ℕ) → HasPart known 0 front → HasPart known (length front) part → HasPart known 0 (front ++ part)
 more_read None front part f p = tt
 more_read (Some whole) front part f p =
     ap₂ (λ (a b : List ℕ). a ++ b) f p ∙ sym (take-add (length front) (length part) whole)
     ∙ ap (λ (n : ℕ). take n whole) (sym (length-append front part))
 
--- a front of a file that ends there
+-- a prefix of a file that ends there
 pub all_read : (known : Option (List ℕ)) (front : List ℕ) → HasPart known 0 front → EndsBy known (length front) → IfSome known (λ whole. front ≡ whole)
 all_read None front f e = tt
 all_read (Some whole) front f e = f ∙ take_all (length front) whole e
 
--- a front of a file is no longer than the file
+-- a prefix of a file is no longer than the file
 pub too_long : (known : Option (List ℕ)) (front : List ℕ) → HasPart known 0 front → file_limit < length front → IfSome known (λ whole. file_limit < length whole)
 too_long None front f e = tt
 too_long (Some whole) front f e = omega (arith, ap (λ (xs : List ℕ). length xs) f, length-take (length front) whole)
@@ -78,14 +78,14 @@ is_zero n b e t = (Decides-eqb n 0).0 (sym e ∙ t)
 pub not_zero : (n : ℕ) (b : Bool) → b ≡ (n == 0) → b ≡ false → 0 < n
 not_zero n b e t = let other : (n ≡ 0 → ⊥) = not_from_Decides (n == 0) (Decides-eqb n 0) (sym e ∙ t) in omega arith
 
--- of so many bytes of the file that were read a front is held
+-- of the bytes of the file that were read a prefix is held
 pub record HasKept (files : FilesState) (path front : List ℕ) (most at : ℕ) : Type 0 where
   pub bytes : List ℕ
   pub held : front ≡ take most bytes
   pub sized : length bytes ≡ at
   pub begins : HasPart (files.bytes_at path) 0 bytes
 
--- a front of some bytes, and then of the part that follows them
+-- a prefix of some bytes, and then of the part that follows them
 pub front_more : (most : ℕ) (bytes part : List ℕ) → take most bytes ++ take (most - length (take most bytes)) part ≡ take most (bytes ++ part)
 front_more most bytes part = elim (cases_lt most (length bytes)) [
   | inl lt ↦
@@ -99,14 +99,14 @@ front_more most bytes part = elim (cases_lt most (length bytes)) [
       ∙ ap (λ (n : ℕ). take n (bytes ++ part)) split
 ]
 
--- what is true of bytes of one length alone is true of a front of that length and one more where it is true of the whole
+-- what holds only of bytes of length n holds of the first n + 1 bytes exactly where it holds of the whole
 pub front_decides : (P : List ℕ → Type 0) (n : ℕ) (whole : List ℕ) → ((bytes : List ℕ) → P bytes → length bytes ≡ n) → P (take (n + 1) whole) ↔ P whole
 front_decides P n whole sized = (
   λ p. subst P (take_all (n + 1) whole (omega (arith, length-take (n + 1) whole, sized (take (n + 1) whole) p))) p,
   λ p. subst P (sym (take_all (n + 1) whole (omega (arith, sized whole p)))) p,
 )
 
--- so a signature is valid where its front is
+-- so a signature is valid where its prefix is
 pub judged_by_front : (answer : Bool) (context : List ℕ) (key : Key) (msg whole front : List ℕ) → front ≡ take (sig_len (params key.set) + 1) whole
     → (IsTrue answer ↔ ((length context ≤ 255) × IsValid key msg front)) → IsTrue answer ↔ ((length context ≤ 255) × IsValid key msg whole)
 judged_by_front answer context key msg whole front e h =
@@ -125,7 +125,7 @@ pub file_whole : {T E : Type 0} (files : FilesState) (path : List ℕ) (items : 
 file_whole files path items (Ok bytes) read = front_whole files path (items bytes) read
 file_whole files path items (Err e) read = tt
 
--- what is held of so many bytes of a key file that were read
+-- what is held of the bytes of a key file that were read
 pub record HasKeptKey (files : FilesState) (path front : List ℕ) (at : ℕ) : Type 0 where
   pub bytes : List ℕ
   pub alike : AreReadAlike front bytes
@@ -146,7 +146,7 @@ pub alike_whole : (front bytes : List ℕ) → AreReadAlike front bytes → (kin
 alike_whole front bytes alike kind =
     ap (λ (t : List ℕ). key_file kind t) (sym (append-nil front)) ∙ alike kind [] ∙ ap (λ (t : List ℕ). key_file kind t) (append-nil bytes)
 
--- what is read of a front of a key file is read of the file
+-- what is read of a prefix of a key file is read of the file
 pub key_held : (kind : KeyKind) (files : FilesState) (path front : List ℕ) (key : Key) → IsFrontOfKeyFile files path front → key_file kind front ≡ Ok key → HoldsKey kind files path key
 key_held kind files path front key read e = (read.whole, read.read, sym (read.alike kind) ∙ e)
 

@@ -1,4 +1,4 @@
--- A walk of `clap` over words without a fault leaves no row that has no value, and does not stop at `help`.
+-- A walk of `clap` over arguments without a fault leaves no row without a value, and does not stop at `help`.
 use Rattle.std.proofs.Common.{◌≡◌, ℕ, zero, suc, ◌&&◌, Bool, true, false, not, cond, List, [], ◌∷◌, ◌++◌, length, Option, Some, None, IfSome, refl, sym, ap, ◌∙◌}
 use Rattle.std.proofs.lemmas.Bool.{and_parts}
 use Rattle.std.specs.Prelude.{codes, find, fold, is_some, slice_get, nat_lt, option_and_then}
@@ -104,7 +104,7 @@ used_as-filled _ a values rows fills range f = absurd fills
 used-filled : (again : Bool) (a : Rule) (values : List Text) (rows : List Row) → Fills a → use_fault again a values rows ≡ [] → Filled rows → Filled (used a values rows)
 used-filled again a values rows fills e f = used_as-filled (action_of a) a values rows fills (or_nil _ _ e).0 f
 
--- ---- what is held between two words
+-- ---- what is held between two arguments
 
 found-fills : (test : Rule → Bool) (c : List Rule) → AllFill c → IfSome (find test c) Fills
 found-fills test [] all = tt
@@ -185,7 +185,7 @@ bundle-filled c again (suc k) flags skip so_far h all e f =
     bundle_step-filled c again (slice_get (chars flags) 0) flags skip so_far h (flags_fault c again k) (bundle_met c k) all
     (λ flags skip so_far h. bundle-filled c again k flags skip so_far h all) e f
 
--- ---- words
+-- ---- arguments
 
 option_word-rows : (o : Option Rule) (id word : Text) (h : Held) → Filled h.rows → Filled (option_word o id word h).0.rows
 option_word-rows None id word h f = f
@@ -321,7 +321,7 @@ given_first id rows f = found (find (λ r. bytes_eq r.id id) rows) (found-filled
 
 -- ---- where the walk stops
 
--- a stop that is none at `help`
+-- a stop that is not at `help`
 abbrev pub IsNoHelp : Option (Text × List Text) → Type 0
 IsNoHelp stopped = IfSome stopped (λ p. bytes_eq p.0 (codes "help") ≡ false)
 

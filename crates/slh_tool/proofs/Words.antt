@@ -1,4 +1,4 @@
--- From what `clap` answers to what the words ask for.
+-- From what `clap` answers to what the arguments ask for.
 use Rattle.std.proofs.Common.{arith, [], List, ◌⊎◌, inl, inr, subst, ◌≡◌, ◌≢◌, ◌∙◌, ℕ, true, Option, Some, None, Result, Ok, Err, unwrap_or, refl, sym}
 use Rattle.std.specs.Option.{option_map_or}
 use Rattle.std.specs.Str.Parse.{ParsesUnsigned}

@@ -46,7 +46,7 @@ abbrev pub AreCuts : CutOptions → Cuts → Type 0
 AreCuts options (Levels level) = (points_of options.points ≡ Some None) × (level ≡ options.levels)
 AreCuts options (Points points) = points_of options.points ≡ Some (Some points.now)
 
--- the options ask for this cutting of the set's trees, which is in rule
+-- the options ask for this cutting of the set's trees, which is valid
 pub record IsCutting (options : WorkOptions) (set : ParamSet) (cutting : CutTrees) : Type 0 where
   pub xmss : Cuts
   pub fors : Cuts
@@ -63,7 +63,7 @@ abbrev pub IsOutOfRule : WorkOptions → ParamSet → Type 0
 IsOutOfRule options set = (xmss : Cuts) × ((fors : Cuts) × AreCuts options.xmss xmss × AreCuts options.fors fors
     × ((fault : CutFault) × (cut_fault (params set) xmss fors ≡ Some fault)))
 
--- why they give no cutting: a list is no list of cut points, or the cutting is invalid
+-- why they give no cutting: a list is not a list of cut points, or the cutting is invalid
 abbrev pub RefusesCutting : WorkOptions → ParamSet → Fault → Type 0
 RefusesCutting options set BadOption = (points_of options.xmss.points ≡ None) ⊎ (points_of options.fors.points ≡ None)
 RefusesCutting options set BadCutting = IsOutOfRule options set

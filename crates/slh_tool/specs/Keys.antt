@@ -20,7 +20,7 @@ use Rattle.slh_tool.specs.declared.fault.Fault.TheVariants.{NoMemory, UnknownSet
 abbrev pub HoldsKey : KeyKind → FilesState → Text → Key → Type 0
 HoldsKey kind files path key = (bytes : Text) × IsFile files path bytes × (key_file kind bytes ≡ Ok key)
 
--- why no key was read: the file is not read, or it is no such key file
+-- why no key was read: the file is not read, or it is not such a key file
 abbrev pub RefusesKey : KeyKind → FilesState → FilesState → Text → Fault → Type 0
 RefusesKey kind old new path fault = RefusesFile old new path fault
     ⊎ ((bytes : Text) × IsFile old path bytes × ((e : FileFault) × (key_file kind bytes ≡ Err e) × (fault ≡ of_file e)))

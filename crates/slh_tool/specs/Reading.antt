@@ -17,7 +17,7 @@ pub record IsFile (files : FilesState) (path bytes : List ℕ) : Type 0 where
   pub known : IfSome (files.bytes_at path) (λ whole. bytes ≡ whole)
   pub at_most : length bytes ≤ file_limit
 
--- the first bytes of the file at this path: so many and one more, or all where it has fewer
+-- the first bytes of the file at this path: one more than this many, or all where it has fewer
 abbrev pub IsFrontOfFile : FilesState → List ℕ → ℕ → List ℕ → Type 0
 IsFrontOfFile files path most bytes = (whole : List ℕ) × IsFile files path whole × (bytes ≡ take (most + 1) whole)
 

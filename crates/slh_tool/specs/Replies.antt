@@ -176,7 +176,7 @@ IsRefusal (requests.sign options) before after old new fault = RefusesSign optio
 IsRefusal (requests.verify options) before after old new fault = RefusesVerify options before after fault
 IsRefusal (requests.vectors path workers) before after old new fault = RefusesVectors path before after fault
 
--- so many bytes of the input a command takes at most
+-- the most bytes of the input that a command takes
 abbrev pub limit_of_set : Option ParamSet → ℕ
 limit_of_set (Some set) = seeds_limit set
 limit_of_set None = 0
@@ -186,11 +186,11 @@ input_limit (Some (requests.root name)) = limit_of_set (set_of_label name)
 input_limit (Some (requests.keygen options)) = limit_of_set (set_of_label options.set)
 input_limit other = 0
 
--- none where `clap` refuses the words or shows help, else as many as the command takes
+-- none where `clap` refuses the arguments or shows help, else as many as the command takes
 abbrev pub limit_where : Kinds → Option Asked → ℕ
 limit_where [] a = input_limit a
 limit_where (kind ∷ kinds) a = 0
 
--- so many bytes of the input a run with these words takes at most
+-- the most bytes of the input that a run with these arguments takes
 abbrev pub words_limit : List Text → ℕ
 words_limit words = limit_where (fault_of slh_app words) (asked_by (subcommand_of slh_app words))

@@ -1,4 +1,4 @@
--- What the words ask for.
+-- What the arguments ask for.
 use Rattle.std.specs.Prelude.{◌≡◌, ◌≢◌, ⊤, ℕ, List, [], Option, Some, None, if◌then◌else◌, option_map, codes}
 use Rattle.std.specs.Option.{option_and_then, option_map_or}
 use Rattle.std.specs.Str.{bytes_eq}
@@ -97,7 +97,7 @@ asked (request.Vectors path workers) = vectors path.now workers
 abbrev pub form_in : List Row → FormOptions
 form_in rows = record { context = first_of (codes "context") rows; prehash = first_of (codes "prehash") rows }
 
--- the number that an option has, as the words or its default give it
+-- the number that an option has, as the arguments or its default give it
 abbrev pub number_of : Text → List Row → ℕ
 number_of name rows = option_map_or byte_or_zero (one_of name rows) 0
 
@@ -153,19 +153,19 @@ abbrev pub asked_by : Option (Text × List Row) → Option Asked
 asked_by None = Some (params None)
 asked_by (Some p) = asked_in p.0 p.1
 
--- `clap` takes the words, and they ask for this
+-- `clap` takes the arguments, and they ask for this
 abbrev pub Asks : List Text → Asked → Type 0
 Asks words a = (fault_of slh_app words ≡ []) × (asked_by (subcommand_of slh_app words) ≡ Some a)
 
--- `clap` refuses the words for another cause than a request for help
+-- `clap` refuses the arguments for another cause than a request for help
 abbrev pub AreBad : List Text → Type 0
 AreBad words = (k : ErrorKind) × IsAmong k (fault_of slh_app words) × (k ≢ DisplayHelp)
 
--- the words ask for help
+-- the arguments ask for help
 abbrev pub AskHelp : List Text → Type 0
 AskHelp words = IsAmong DisplayHelp (fault_of slh_app words)
 
--- why no request was read of the words
+-- why no request was read from the arguments
 abbrev pub IsGround : List Text → Refusal → Type 0
 IsGround words (refusal.Help e) = AskHelp words
 IsGround words refusal.BadWords = AreBad words

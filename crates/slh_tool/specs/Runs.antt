@@ -8,17 +8,17 @@ use Rattle.slh_tool.specs.Requests.{AreBad, AskHelp, Asked, Asks}
 use Rattle.slh_tool.specs.declared.fault.Fault.{Fault}
 use Rattle.slh_tool.specs.declared.fault.Fault.TheVariants.{BadWords, NoMemory}
 
--- the status and the output that the words, the files and the input give, or the help that the words ask for
+-- the status and the output that the arguments, the files and the input give, or the help that the arguments ask for
 abbrev pub Replies : List Text → FilesState → SourceState → SourceState → ℕ → Text → Type 0
 Replies words files old new status text = ((a : Asked) × Asks words a × IsReply a files old new status text) ⊎ ((status ≡ 0) × AskHelp words)
 
--- a refusal of the words
+-- a refusal of the arguments
 abbrev pub RefusesWords : List Text → Fault → Type 0
 RefusesWords words BadWords = AreBad words
 RefusesWords words NoMemory = ⊤
 RefusesWords words fault = ⊥
 
--- the refusal that the words, the files and the input give
+-- the refusal that the arguments, the files and the input give
 abbrev pub Refuses : List Text → FilesState → FilesState → SourceState → SourceState → Fault → Type 0
 Refuses words before after old new fault = ((a : Asked) × Asks words a × IsRefusal a before after old new fault) ⊎ RefusesWords words fault
 

@@ -14,15 +14,15 @@ use Rattle.slh_tool.specs.declared.fault.Fault.TheVariants.{BadSeeds, ReadFailed
 abbrev pub without_line_feed : List ℕ → List ℕ
 without_line_feed text = if bytes_eq (drop (length text - 1) text) (10 ∷ []) then take (length text - 1) text else text
 
--- SK.seed, SK.prf and PK.seed, n bytes each: their hexadecimal digits, then a line feed or nothing
+-- SK.seed, SK.prf and PK.seed, n bytes each: their hexadecimal digits, and at most one line feed
 unfoldable pub seeds_of : ParamSet → List ℕ → Option (List ℕ)
 seeds_of set text = result_ok (decode_sized (without_line_feed text) (3 * (params set).n))
 
--- so many bytes are read for them at most: a line feed and one byte more than the digits
+-- the most bytes that are read for them: the digits, a line feed and one more byte
 abbrev pub seeds_limit : ParamSet → ℕ
 seeds_limit set = 6 * (params set).n + 2
 
--- the bytes that a source handed out: at most so many, and all that it had where they are fewer
+-- the bytes that a source handed out: at most this many, and all that it had where they are fewer
 pub record IsInput (old new : SourceState) (limit : ℕ) (bytes : List ℕ) : Type 0 where
   pub taken : Consumes old.left new.left bytes
   pub at_most : length bytes ≤ limit

@@ -34,7 +34,7 @@ pub(crate) fn cutting_of(set: ParamSet, words: WorkWords<'_>) -> Result<Cutting,
     }
 }
 
-/// So many workers. `clap` takes no number that is not from 1 to 64.
+/// That many workers. `clap` takes no number that is not from 1 to 64.
 pub(crate) fn workers_of(number: u8) -> Workers
     ensures { 1 ≤ number → number ≤ 64 → result ≡ number }
 {

@@ -101,7 +101,7 @@ impl Fault {
         }
     }
 
-    /// The program's name, the number and the name. It is a constant, since a refusal for want of memory has none
+    /// The program's name, the number and the name. It is a constant, since a refusal for lack of memory has none
     /// to write with.
     pub(crate) fn head(&self) -> &'static str
         ensures { result.now ≡ head self.now }

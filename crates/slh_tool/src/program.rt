@@ -24,7 +24,7 @@ use slh_devices::{Files, Sink, Source, put_all};
 use std::alloc::{AllocError, Allocator, Global};
 use std::thread::Threads;
 
-/// Runs the command of the words after the program's name, and gives the exit status: 0 for done, valid,
+/// Runs the command of the arguments after the program's name, and gives the exit status: 0 for done, valid,
 /// consistent or all tests passed, 1 for invalid, inconsistent or a failed test, 2 for refused.
 ///
 /// `clap` and `serde_json` take their memory from the runtime, and all else takes it from `alloc`. `keygen`, `sign` and
@@ -45,20 +45,20 @@ pub fn command<
     output: &mut O,
     errors: &mut E,
 ) -> u8
-    // The output is what the words, the files and the input give, and the status is the one of that answer.
+    // The output is what the arguments, the files and the input give, and the status is the one of that answer.
     ensures done { result ≢ 2 → (text : Text)
         × Replies (map string_bytes words.now) (F.state files.old) (S.state input.old) (S.state input.new) result text
         × Appends (O.state output.old).contents (O.state output.new).contents text
         × (errors.new ≡ errors.old) }
 
-    // The refusal has its cause, and nothing was written; or a write failed, and let a front of the answer through.
+    // The refusal has its cause, and nothing was written; or a write failed, after a prefix of the answer was written.
     ensures refused { result ≡ 2 → (fault : Fault) × IsTold (E.state errors.old) (E.state errors.new) (line fault)
         × ((Refuses (map string_bytes words.now) (F.state files.old) (F.state files.new) (S.state input.old) (S.state input.new) fault × (output.new ≡ output.old))
         ⊎ ((fault ≡ WriteFailed) × Grew (O.state output.old).failures (O.state output.new).failures
         × ((status : ℕ) × ((text : Text) × Replies (map string_bytes words.now) (F.state files.old) (S.state input.old) (S.state input.new) status text
         × LetsThrough (O.state output.old).contents (O.state output.new).contents text)))) }
 
-    // Of the input no more is taken than the command reads, and none where the words are refused or ask for help.
+    // Of the input no more is taken than the command reads, and none where the arguments are refused or ask for help.
     ensures at_most { TakesAtMost (S.state input.old).left (S.state input.new).left (words_limit (map string_bytes words.now)) }
 {
     match respond(rt, alloc, words, files, input) {
@@ -70,7 +70,7 @@ pub fn command<
     }
 }
 
-/// Tells the errors of a refusal, and passes over a failure of that.
+/// Writes a refusal to the errors, and ignores a failure of that write.
 pub fn refuse<E: Sink>(errors: &mut E, fault: Fault) -> u8
     ensures status { result ≡ 2 }
     ensures told { IsTold (E.state errors.old) (E.state errors.new) (line fault) }
@@ -79,7 +79,7 @@ pub fn refuse<E: Sink>(errors: &mut E, fault: Fault) -> u8
     2
 }
 
-/// The answer to the words, or the refusal.
+/// The answer to the arguments, or the refusal.
 fn respond<
     R: AllocGlobal + Threads + Sync,
     A: Allocator + Clone + Send + Sync,
@@ -98,7 +98,7 @@ fn respond<
     }
 }
 
-/// The help that the words ask for.
+/// The help that the arguments ask for.
 fn help<A: Allocator>(global: Global, alloc: A, error: &clap::Error) -> Result<Reply<A>, AllocError>
     ensures { IfOk result (λ r. r.status ≡ 0) }
 {

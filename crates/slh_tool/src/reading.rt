@@ -56,7 +56,7 @@ pub(crate) fn read_front<A: Allocator, F: Files>(
     Err(Fault::FileTooLong)
 }
 
-/// Pushes a front of the bytes, so that no more than `most` are held.
+/// Pushes a prefix of the bytes, so that no more than `most` are held.
 fn push_front<A: Allocator>(
     front: &mut Vec<u8, A>,
     part: &[u8],

@@ -7,7 +7,7 @@ use clap::error::ErrorKind;
 use slh_arguments::slh_command;
 use std::alloc::Global;
 
-/// What the words ask for.
+/// What the arguments ask for.
 #[derive(Clone, Copy)]
 pub(crate) enum Request<'a> {
     Params(Option<&'a str>),
@@ -69,7 +69,7 @@ pub(crate) struct VerifyWords<'a> {
     pub(crate) form: FormWords<'a>,
 }
 
-/// Why no request is read of the words.
+/// Why no request is read from the arguments.
 #[derive(Drop)]
 pub(crate) enum Refusal {
     Help(clap::Error),
@@ -77,7 +77,7 @@ pub(crate) enum Refusal {
     NoMemory,
 }
 
-/// The request of the words after the program's name.
+/// The request of the arguments after the program's name.
 pub(crate) fn parsed<'a>(alloc: Global, words: &'a [String]) -> Result<Request<'a>, Refusal>
     ensures ok { IfOk result (λ r. Asks (map string_bytes words.entry.now) (asked r)) }
     ensures err { IfErr result (IsGround (map string_bytes words.entry.now)) }

@@ -11,8 +11,8 @@ use slh_params::ParamSet;
 /// Room for three seeds of any set.
 pub(crate) type Seeds = ArrayVec<u8, 96>;
 
-/// The seeds SK.seed, SK.prf and PK.seed, which the input spells as 6n hexadecimal digits and a line feed or
-/// nothing. At most 6n + 2 bytes are taken.
+/// The seeds SK.seed, SK.prf and PK.seed, which the input spells as 6n hexadecimal digits and at most one line
+/// feed. At most 6n + 2 bytes are taken.
 pub(crate) fn read_seeds<S: Source>(set: ParamSet, input: &mut S) -> Result<Seeds, Fault>
     ensures seeds { IfOk result (λ v. AreSeeds set (S.state input.old) (S.state input.new) v.items) }
     ensures len { IfOk result (λ v. length v.items ≡ 3 * (params set).n) }

@@ -1,4 +1,4 @@
--- What words ask for, as `clap` reads them.
+-- What arguments ask for, as `clap` reads them.
 use Rattle.std.proofs.Common.{◌≡◌, inl, inr, ℕ, List, [], ◌∷◌, None, refl, sym, subst, ◌∙◌, codes}
 use Rattle.clap.specs.Faults.{defaults_fault, walk_fault}
 use Rattle.clap.specs.Kinds.{IsAmong, Kinds}
@@ -31,7 +31,7 @@ pub verify_asked : Asks verify_words (verify verify_options)
 unfolding walk_fault walked defaults_fault
 verify_asked = (refl, refl)
 
--- words that ask for a command are answered by it
+-- arguments that ask for a command are answered by it
 pub reply_of : (words : List Text) (a : Asked) (files : FilesState) (old new : SourceState) (status : ℕ) (text : Text)
     → Asks words a → Replies words files old new status text → IsReply a files old new status text
 reply_of words a files old new status text asks (inl reply) =

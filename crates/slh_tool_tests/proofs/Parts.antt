@@ -15,7 +15,7 @@ in_place whole part rest at from n f few e =
     let front : take n (part ++ rest) ≡ part = take-append-le n part rest (omega arith) ∙ take_all n part (omega arith) in
     rw front (rw len (e ∙ same_part whole at from n f few))
 
--- what a fetch put at the front of its room is a part of the file
+-- what a fetch put at the front of its buffer is a part of the file
 pub part_of : (known : Option (List ℕ)) (whole part rest : List ℕ) (at from n k : ℕ) → Some whole ≡ known → from ≡ min at (length whole) → n ≡ min k (length whole - from)
     → part ≡ take (from + n - from) (drop from whole) → HasPart known at (take n (part ++ rest))
 part_of known whole part rest at from n k is f m e =

@@ -15,7 +15,7 @@ use Rattle.slh_tool_tests.specs.Folder.{NamedFile, bytes_in}
 abbrev pub files_of : List NamedFile → FilesState
 files_of files = record { bytes_at = bytes_in files; failures = 0 }
 
--- the status and the output are those that the words and the files give, whatever the input
+-- the status and the output are those that the arguments and the files give, whatever the input
 pub record RepliesOver (words : List Text) (files : List NamedFile) (status : ℕ) (text : Text) : Type 0 where
   pub old : SourceState
   pub new : SourceState

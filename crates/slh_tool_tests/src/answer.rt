@@ -15,7 +15,7 @@ pub struct Answer {
     pub errors: Vec<u8>,
 }
 
-/// Copies of the words.
+/// Copies of the arguments.
 pub fn words_of(alloc: Global, words: &[&str]) -> Result<Vec<String>, AllocError>
     ensures { IfOk result (λ list. map string_bytes list.items ≡ map (λ word. word.now) words.now) }
 {

@@ -42,7 +42,7 @@ kind_again n d kinds.Keygen h = rw (text_again n members.Kind d (kind_name kinds
 kind_again n d kinds.Sign h = rw (text_again n members.Kind d (kind_name kinds.Sign) h) refl
 kind_again n d kinds.Verify h = rw (text_again n members.Kind d (kind_name kinds.Verify) h) refl
 
--- the name of a pre-hash function is no other form's
+-- the name of a pre-hash function is not another form's
 form_of_function : (n : ℕ) (p : PreHash) → or_fault (form_named (pre_hash.name p)) (Bad n members.Form) ≡ Ok (External (forms.PreHash p))
 form_of_function n Sha224 = ap (λ (o : Option PreHash). or_fault (option_map pre_hashed o) (Bad n members.Form)) (function_named-name Sha224)
 form_of_function n Sha256 = ap (λ (o : Option PreHash). or_fault (option_map pre_hashed o) (Bad n members.Form)) (function_named-name Sha256)

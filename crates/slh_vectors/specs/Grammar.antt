@@ -22,7 +22,7 @@ pub record HasHex (d : Data) (name bytes : List ℕ) : Type 0 where
   pub text : HasText d name digits
   pub spells : decode_of digits ≡ Ok bytes
 
--- and there are so many of them
+-- and there are this many of them
 pub record HasBytes (d : Data) (name : List ℕ) (len : ℕ) (bytes : List ℕ) : Type 0 where
   pub hex : HasHex d name bytes
   pub sized : length bytes ≡ len

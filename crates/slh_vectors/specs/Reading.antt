@@ -28,7 +28,7 @@ abbrev pub or_fault : {A : Type 0} → Option A → VectorFault → Result A Vec
 or_fault (Some x) f = Ok x
 or_fault None f = Err f
 
--- a fault is what reading gives, but for want of memory
+-- a fault is what reading gives, unless memory ran out
 abbrev pub Fails : {Y : Type 0} → VectorFault → Result Y VectorFault → Type 0
 Fails NoMemory reading = Unit {0}
 Fails NotJson reading = reading ≡ Err NotJson

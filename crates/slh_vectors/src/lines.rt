@@ -71,8 +71,8 @@ fn put_counts<W: Sink>(output: &mut W, passed: u64, failed: u64) -> Result<(), W
 }
 
 /// Puts a line `test N KIND SET pass` or `test N KIND SET fail` for each test, in their order and counted from 1,
-/// and the line `passed P failed F`. It takes no memory. Refused where a write failed, which let a front of that
-/// text through.
+/// and the line `passed P failed F`. It takes no memory. Refused where a write failed, after a prefix of that
+/// text was written.
 pub fn report<W: Sink>(
     tests: &[Test],
     outcomes: &[Outcome],

@@ -71,7 +71,7 @@ pub(crate) fn hex_bytes(
     }
 }
 
-/// The same, of so many bytes.
+/// The same, of this many bytes.
 #[tactic(auto, unfolding(crate::specs::Reading::bytes_in))]
 pub(crate) fn bytes(
     alloc: Global,

@@ -160,9 +160,9 @@ fn tests_of_file(alloc: Global, bytes: &[u8]) -> Result<Vec<Test>, VectorFault>
     }
 }
 
-/// The tests of a vector file, in its order. Refused with the first fault: the file is no JSON, then it is no list,
-/// then, test by test, a member that is missing or has no valid value, the members being judged in the order of
-/// `Member`; or for want of memory, at the step that meets it.
+/// The tests of a vector file, in its order. Refused with the first fault: the file is not JSON, then it is not a
+/// list, then, test by test, a member that is missing or has no valid value, the members being judged in the order of
+/// `Member`; or for lack of memory, at the step that meets it.
 pub fn read_vectors(alloc: Global, bytes: &[u8]) -> Result<Vec<Test>, VectorFault>
     // What is read are the tests of the file.
     ensures found { IfOk result (λ ts. IsVectorFile bytes.now (views ts.items)) }

@@ -31,7 +31,7 @@ impl<A: Allocator + Clone + Sync> Question<Test> for Running<A> {
 }
 
 /// What comes of each test, in their order, by several workers. Over 2^32 - 1 tests are run in several runs. Refused
-/// only for want of memory. It waits only for the threads that it started.
+/// only for lack of memory. It waits only for the threads that it started.
 pub fn run_vectors<R: Threads + Sync, A: Allocator + Clone + Send + Sync>(
     rt: &R,
     alloc: A,

@@ -16,8 +16,8 @@ pub trait Gate: Sync {
     // whether the gate may answer Stop
     ghost may_stop: { Self → Type 0 };
 
-    // that the gate let this worker run this job: `enter` answered On. A gate may leave out both of these, and then they
-    // say nothing of it; what is proved for every gate keeps to them all the same
+    // that the gate let this worker run this job: `enter` answered On. A gate may leave out both this and the next, and
+    // then they say nothing of it; what is proved for every gate keeps to them all the same
     ghost admitted: { Self → ℕ → ℕ → Type 0 } = { λ _ _ _. Unit {0} };
 
     // that the gate was told, by `leave`, that this worker has run this job

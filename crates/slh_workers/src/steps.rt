@@ -5,8 +5,8 @@ ghost use Rattle.slh_workers.specs.Gates.{GoFits};
 use crate::gate::{Gate, Go};
 use crate::work::{NoMemory, Work};
 
-// The three steps of a worker at a job. The code that works off jobs is generic over them and has no other way to a gate
-// or a work. So it can run a job only where `enter` answered On, and report one only that it ran.
+// The three steps of a worker at a job. The code that works off jobs is generic over them and has no other way to a
+// gate or a work. So it can run a job only where `enter` answered On, and report one only that it ran.
 pub trait Steps {
     // the answer of a job
     type Out: Send + Drop;

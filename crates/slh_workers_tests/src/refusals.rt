@@ -12,7 +12,7 @@ use std::thread::Threads;
 // More growths than any call here asks for.
 const MANY: u64 = 1000;
 
-// What so many workers give where each growth is granted. Where growth `nth` was refused, they say so, and it is
+// What that many workers give where each growth is granted. Where growth `nth` was refused, they say so, and it is
 // `None`.
 fn run_if_granted<R: Abort + AllocGlobal + Threads + Sync, W: Work>(
     rt: &R,
@@ -34,7 +34,7 @@ fn run_if_granted<R: Abort + AllocGlobal + Threads + Sync, W: Work>(
     Ok(None)
 }
 
-// Some growths were refused, at least so many, and then a call came that met no refusal.
+// Some growths were refused, at least this many, and then a call came that met no refusal.
 fn check_count(rt: &impl Abort, least: u64, refusals: u64, number: u8) {
     assert!(rt;
         least <= refusals && refusals.wrapping_add(1) < MANY,

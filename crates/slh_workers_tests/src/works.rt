@@ -67,7 +67,7 @@ impl Work for Squares {
     }
 }
 
-/// Ten jobs, of which job 0 turns until so many of the others ran.
+/// Ten jobs, of which job 0 turns until this many of the others ran.
 #[derive(Drop)]
 pub struct FirstWaits {
     pub others: u64,

@@ -1,5 +1,6 @@
 //! WOTS+.
 
+use super::custom_wots_values::CUSTOM_WOTS;
 use super::wots_values::{WOTS, WotsValues};
 use super::{is_digest, is_hex, public, seeds};
 use crate::fixtures::{counting, node_from, set_of};
@@ -80,12 +81,22 @@ fn check_values(
     check_signature(rt, alloc, &seeds, at, &counting(0x80), want.pk, of_x1)
 }
 
-#[test]
-fn known_values(rt: HostRuntime) -> Result<(), Fail> {
-    for want in &WOTS {
+/// The values under each of their sets.
+fn check_all(rt: &impl Abort, alloc: Global, values: &[WotsValues]) -> Result<(), Fail> {
+    for want in values {
         for label in want.sets {
-            check_values(&rt, rt.alloc(), set_of(*label)?, want)?;
+            check_values(rt, alloc, set_of(*label)?, want)?;
         }
     }
     Ok(())
+}
+
+#[test]
+fn known_values(rt: HostRuntime) -> Result<(), Fail> {
+    check_all(&rt, rt.alloc(), &WOTS)
+}
+
+#[test]
+fn known_values_of_other_numbers(rt: HostRuntime) -> Result<(), Fail> {
+    check_all(&rt, rt.alloc(), &CUSTOM_WOTS)
 }

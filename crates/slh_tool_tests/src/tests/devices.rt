@@ -38,7 +38,7 @@ impl Source for Endless {
     }
 }
 
-/// An input that hands out so many digits, one at a time, and then fails.
+/// An input that hands out this many digits, one at a time, and then fails.
 #[derive(Drop)]
 pub(super) struct Broken {
     pub(super) good: u64,
@@ -59,7 +59,7 @@ impl Source for Broken {
     }
 }
 
-/// An output that takes so many bytes and then fails.
+/// An output that takes this many bytes and then fails.
 #[derive(Drop)]
 pub(super) struct Full {
     pub(super) room: usize,

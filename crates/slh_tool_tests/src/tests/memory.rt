@@ -124,7 +124,7 @@ fn growths<R: AllocGlobal + Threads + Sync>(
     Ok((answer, alloc.growths()))
 }
 
-/// The growths of `verify` with a signature file of so many bytes.
+/// The growths of `verify` with a signature file of this many bytes.
 fn growths_of_verify<R: AllocGlobal + Threads + Sync>(rt: &R, len: usize) -> Result<u64, Fail> {
     let mut signature = Vec::new(rt.alloc());
     signature.resize(len, 7u8)?;
@@ -149,7 +149,7 @@ fn holds_no_more_of_a_signature_than_a_byte_too_many(rt: HostRuntime) -> Result<
     Ok(())
 }
 
-/// What `public` answers to a key file of so many digits and the bytes after them, and its growths.
+/// What `public` answers to a key file of this many digits and the bytes after them, and its growths.
 fn growths_of_key_file<R: AllocGlobal + Threads + Sync>(
     rt: &R,
     digits: usize,

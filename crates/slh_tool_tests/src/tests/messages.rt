@@ -6,8 +6,8 @@ use slh_devices::Reader;
 use std::test::Fail;
 use std::thread::Threads;
 
-/// The public key of SLH-DSA-SHA2-128f and the seeds 00, 01, 02, .. as another implementation has it, in a file of version
-/// 1 and in one of version 2.
+/// The public key of SLH-DSA-SHA2-128f and the seeds 00, 01, 02, .. as another implementation has it, in a file of
+/// version 1 and in one of version 2.
 pub(super) const PUBLIC_1: &[u8] =
     b"slh-dsa-public 1\nSLH-DSA-SHA2-128f\n202122232425262728292a2b2c2d2e2f3b56e816847f000386aeec2e2bb9e1b5\n";
 
@@ -52,7 +52,7 @@ pub(super) fn secret_key<R: AllocGlobal + Threads + Sync>(rt: &R) -> Result<Vec<
     Ok(answer.output)
 }
 
-/// The words of a command, and some more.
+/// The arguments of a command, and some more.
 pub(super) fn joined<'a, R: AllocGlobal>(
     rt: &R,
     words: &[&'a str],

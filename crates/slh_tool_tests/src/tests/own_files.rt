@@ -11,7 +11,7 @@ use std::rt::Files;
 pub(super) struct Ways {
     /// The read of this number fails, counted from 1 over all files; at 0 none.
     pub(super) fails_at: u64,
-    /// A read gives at most so many bytes.
+    /// A read gives at most this many bytes.
     pub(super) most: usize,
     /// Each other read is interrupted by a signal.
     pub(super) is_interrupted: bool,

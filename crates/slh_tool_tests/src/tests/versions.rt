@@ -1,4 +1,4 @@
-//! Key files of both versions: `upgrade`, and keys of a set that is none of the standard's.
+//! Key files of both versions: `upgrade`, and keys of a set that is not one of the standard's.
 use super::messages::{PUBLIC, PUBLIC_1, SIGN, joined, secret_key};
 use super::{check_refused, run, run_over};
 use crate::{Answer, Folder, verify_known};

@@ -1,4 +1,4 @@
-//! The words of commands, and `params`.
+//! The arguments of commands, and `params`.
 use super::run;
 use slh_devices::Reader;
 use slh_tool::Fault;

@@ -19,7 +19,7 @@ fn judges_the_file(rt: HostRuntime) {
         (b"[", Some(VectorFault::NotJson)),
         (b"[] []", Some(VectorFault::NotJson)),
         (b"[{},]", Some(VectorFault::NotJson)),
-        // Bytes that are no UTF-8, and half of a surrogate pair.
+        // Bytes that are not UTF-8, and half of a surrogate pair.
         (b"[\"\xff\"]", Some(VectorFault::NotJson)),
         (b"[\"\\ud800\"]", Some(VectorFault::NotJson)),
         (b"{}", Some(VectorFault::NotAList)),

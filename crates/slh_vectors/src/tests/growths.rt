@@ -60,7 +60,7 @@ fn run_vectors_refuses_at_each_growth(rt: HostRuntime) -> Result<(), Fail> {
     for (members, _) in KINDS {
         tests.push(test_of(rt.alloc(), members)?)?;
     }
-    // A worker more asks for growths of its own, so their count tells whether the number of workers is handed on.
+    // One more worker asks for growths of its own, so their count tells whether the number of workers is handed on.
     let mut before = 0u64;
     for number in [1u8, 2] {
         let workers = Workers::new(number).ok_or("workers")?;

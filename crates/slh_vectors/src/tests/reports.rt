@@ -56,7 +56,7 @@ fn reports_a_line_for_each_test(rt: HostRuntime) -> Result<(), Fail> {
     Ok(())
 }
 
-/// A sink that takes so many bytes, at most three at a time, and then fails.
+/// A sink that takes this many bytes, at most three at a time, and then fails.
 #[derive(Drop)]
 struct Full {
     taken: Vec<u8>,

@@ -1,4 +1,5 @@
--- It asks the inner allocator, and refuses where the growth is not granted; after the toolchain's own proof for `Later` of std_collections. Assumes `Logic`.
+-- It asks the inner allocator, and refuses where the growth is not granted; after the toolchain's own proof for `Later`
+-- of std_collections. Assumes `Logic`.
 use mathlib.Core.Path.{◌≡◌, refl}
 use mathlib.Core.Bool.{true, false}
 use Prim.Native.Nat.{ℕ, ◌<◌, ◌^◌}

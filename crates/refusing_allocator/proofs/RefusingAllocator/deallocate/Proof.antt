@@ -1,4 +1,5 @@
--- It gives the block back to the inner allocator, after the toolchain's own proof for a wrapper of an allocator. Assumes `Logic`.
+-- It gives the block back to the inner allocator, after the toolchain's own proof for a wrapper of an allocator.
+-- Assumes `Logic`.
 use Rattle.std.proofs.Common.{◌≡◌, ℕ, ◌+◌, ◌^◌, ◌<◌, List, [], ◌∷◌, refl, w64, Bor}
 use seplogic.Ra.Ura.{Ura}
 use mir.Syntax.{Ty, Fn}

@@ -15,7 +15,7 @@ abbrev Verdict : Bool → List ℕ → List ℕ → Key → Digest → Type 0
 Verdict verdict ctx sig pk digest =
     IsTrue verdict ↔ ((length ctx ≤ 255) × IsValid pk (pre_hash_message ctx digest.function digest.bytes) sig)
 
--- what is so of a key and a digest is so of their bytes
+-- what holds of a key and a digest holds of their bytes
 of_bytes : (verdict : Bool) (ctx sig : List ℕ) {pk pk' : Key} {digest digest' : Digest}
     → pk ≡ pk' → digest ≡ digest' → Verdict verdict ctx sig pk digest → Verdict verdict ctx sig pk' digest'
 of_bytes verdict ctx sig {pk} {pk'} {digest} {digest'} e f h =

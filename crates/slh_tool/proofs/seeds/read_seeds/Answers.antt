@@ -1,4 +1,4 @@
--- There is room for the digits of three seeds, a line feed and one byte more.
+-- There is room for the digits of three seeds, a line feed and one more byte.
 use Rattle.std.proofs.Common.{◌≡◌, ℕ, ◌+◌, ◌*◌, ◌≤◌, length, take, length-take-le, arith, sym, ◌∙◌}
 use Rattle.slh_params.proofs.Bounds.{n_high}
 use Rattle.slh_tool.proofs.seeds.read_seeds.Goals as goal
