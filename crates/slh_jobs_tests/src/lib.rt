@@ -1,0 +1,7 @@
+//! Tests of the jobs of a signature and of a key.
+#![tactic(auto, using(slh_params::proofs::Bounds::n_high))]
+
+#[cfg(test)]
+mod fixtures;
+#[cfg(test)]
+mod tests;
