@@ -92,22 +92,34 @@ fn join(
     }
 }
 
+/// Checks the deterministic signature of "abc" from the jobs under these levels by its SHA-256.
+fn check_of_abc(
+    rt: &impl Abort,
+    alloc: Global,
+    sk: &SecretKey,
+    xmss: u32,
+    fors: u32,
+    want: &str,
+) -> Result<(), Fail> {
+    let levels = levels(sk.set(), xmss, fors)?;
+    let start = begin_pure(alloc, b"abc", sk)?;
+    let answers = answers(rt, alloc, &levels, sk, &start)?;
+    let sig = join(rt, alloc, &levels, sk, &start, &answers)??;
+    assert_eq!(rt;
+        sha256_hex(alloc, &sig)?.as_str(),
+        want,
+        "levels {xmss} and {fors}"
+    );
+    Ok(())
+}
+
 #[test]
 fn all_levels_of_128f(rt: HostRuntime) -> Result<(), Fail> {
-    let alloc = rt.alloc();
     let set = ParamSet::S128f;
     let sk = key(set);
-    let start = begin_pure(alloc, b"abc", &sk)?;
     for xmss in 0..=3 {
         for fors in 0..=6 {
-            let levels = levels(set, xmss, fors)?;
-            let answers = answers(&rt, alloc, &levels, &sk, &start)?;
-            let sig = join(&rt, alloc, &levels, &sk, &start, &answers)??;
-            assert_eq!(rt;
-                sha256_hex(alloc, &sig)?.as_str(),
-                OF_ABC,
-                "levels {xmss} and {fors}"
-            );
+            check_of_abc(&rt, rt.alloc(), &sk, xmss, fors, OF_ABC)?;
         }
     }
     for (xmss, fors) in [(4, 0), (0, 7), (9, 0), (0, 9), (u32::MAX, 0), (0, u32::MAX)] {
@@ -121,7 +133,6 @@ fn all_levels_of_128f(rt: HostRuntime) -> Result<(), Fail> {
 
 #[test]
 fn other_sets(rt: HostRuntime) -> Result<(), Fail> {
-    let alloc = rt.alloc();
     for (set, xmss, fors, want) in [
         (
             ParamSet::S192f,
@@ -142,12 +153,7 @@ fn other_sets(rt: HostRuntime) -> Result<(), Fail> {
             "2298d75c43b71cecf2477f10c7965c9be945e9b79b7edfa988b4ba71d4135bae",
         ),
     ] {
-        let sk = key(set);
-        let levels = levels(set, xmss, fors)?;
-        let start = begin_pure(alloc, b"abc", &sk)?;
-        let answers = answers(&rt, alloc, &levels, &sk, &start)?;
-        let sig = join(&rt, alloc, &levels, &sk, &start, &answers)??;
-        assert_eq!(rt; sha256_hex(alloc, &sig)?.as_str(), want, "{}", set.name());
+        check_of_abc(&rt, rt.alloc(), &key(set), xmss, fors, want)?;
     }
     Ok(())
 }
@@ -207,9 +213,8 @@ fn place(rt: &impl Abort, levels: &Levels, job: u32) -> usize {
 #[test]
 fn one_bit_in_each_field(rt: HostRuntime) -> Result<(), Fail> {
     let alloc = rt.alloc();
-    let set = ParamSet::S128f;
-    let sk = key(set);
-    let levels = levels(set, 1, 1)?;
+    let sk = key(ParamSet::S128f);
+    let levels = levels(sk.set(), 1, 1)?;
     let start = begin_pure(alloc, b"abc", &sk)?;
     let mut answers = answers(&rt, alloc, &levels, &sk, &start)?;
     assert_eq!(rt; sign_jobs(&levels), 110);
@@ -275,9 +280,8 @@ fn check_moved(
 #[test]
 fn answers_of_others(rt: HostRuntime) -> Result<(), Fail> {
     let alloc = rt.alloc();
-    let set = ParamSet::S128f;
-    let sk = key(set);
-    let levels = levels(set, 1, 1)?;
+    let sk = key(ParamSet::S128f);
+    let levels = levels(sk.set(), 1, 1)?;
     let start = begin_pure(alloc, b"abc", &sk)?;
     let own = answers(&rt, alloc, &levels, &sk, &start)?;
     // Another job's: of the same tree, of another layer, of another FORS tree.
@@ -401,9 +405,9 @@ fn exchanged_key_answers_and_refusals(rt: HostRuntime) -> Result<(), Fail> {
     let alloc = rt.alloc();
     let levels = levels(ParamSet::S128f, 1, 0)?;
     let answers = key_answers(&rt, alloc, &levels)?;
-    assert!(rt; answers.len() == 64);
-    let mut exchanged = answers.as_slice()[32..].to_vec(alloc)?;
-    exchanged.extend_from_slice(&answers.as_slice()[..32])?;
+    let (first, second) = answers.as_slice().split_at(answers.len() / 2);
+    let mut exchanged = second.to_vec(alloc)?;
+    exchanged.extend_from_slice(first)?;
     let refused = join_key(&levels, &exchanged).err();
     assert_eq!(rt; refused, Some(JoinFault::AnswersDisagree));
     for (fault, number, name) in [
