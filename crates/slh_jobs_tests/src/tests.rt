@@ -299,7 +299,7 @@ fn answers_of_others(rt: HostRuntime) -> Result<(), Fail> {
     // Another message's, and another key's.
     let other_start = begin_pure(alloc, b"abd", &sk)?;
     let of_message = answers(&rt, alloc, &levels, &sk, &other_start)?;
-    let other = key_from(set, 1);
+    let other = key_from(sk.set(), 1);
     let of_key = answers(&rt, alloc, &levels, &other, &start)?;
     for job in [0, 1, 42, 43, 44, 109] {
         check_moved(
