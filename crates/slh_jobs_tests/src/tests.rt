@@ -1,5 +1,5 @@
 //! Signatures and keys from jobs, against those of OpenSSL 3.5, and answers that don't fit together.
-ghost use Rattle.std.specs.Prelude.{◌≡◌, IfOk, length};
+ghost use Rattle.std.specs.Prelude.{◌≡◌, ◌<◌, IfOk, length};
 ghost use Rattle.slh_params.specs.ParamSet.{params};
 ghost use Rattle.slh_core.specs.Randomizers.{HasLength};
 ghost use Rattle.slh_jobs.specs.Jobs.{start_len as length_of_start};
@@ -203,9 +203,13 @@ fn signing_job(rt: &impl Abort, levels: &Levels, answers: &[u8], first: u32) -> 
 }
 
 /// Where the answer of a job begins.
-fn place(rt: &impl Abort, levels: &Levels, job: u32) -> usize {
+fn place(rt: &impl Abort, levels: &Levels, job: u32) -> usize
+    ensures { result < 1000000000 }
+{
     assert!(rt; job < sign_jobs(levels));
-    answer_start(levels, job)
+    let start = answer_start(levels, job);
+    assert!(rt; start < 1_000_000_000);
+    start
 }
 
 /// Under 128f with levels 1 and 1 an answer of an XMSS tree has a node and a tag of 16 bytes, a path of 2 nodes and 35
