@@ -2,6 +2,10 @@
 #![tactic(auto, using(slh_params::proofs::Bounds::n_high))]
 
 #[cfg(test)]
+mod damage;
+#[cfg(test)]
 mod fixtures;
 #[cfg(test)]
-mod tests;
+mod keys;
+#[cfg(test)]
+mod signatures;

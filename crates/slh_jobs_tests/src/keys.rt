@@ -1,0 +1,109 @@
+//! Keys from jobs, and the refusals.
+use crate::fixtures::{counting, flip, key, levels};
+use slh_core::{Form, Randomizer, SecretKey};
+use slh_jobs::{
+    JoinFault, Levels, key_answer_len, keygen_job, keygen_jobs, keygen_join, sign_start, start_len,
+};
+use slh_params::ParamSet;
+use std::alloc::Global;
+use std::process::Abort;
+use std::test::Fail;
+
+/// The answers of all jobs of the generation of the key of the seeds 00, 01, 02, ..
+fn key_answers(rt: &impl Abort, alloc: Global, levels: &Levels) -> Result<Vec<u8>, Fail> {
+    let seeds = counting(0);
+    let n = levels.set.n();
+    let len = key_answer_len(levels.set);
+    let mut answers = vec![in alloc; 0xaa; keygen_jobs(levels) as usize * len]?;
+    for job in (0..keygen_jobs(levels)).rev() {
+        let first = job as usize * len;
+        assert!(rt; first <= answers.len() && len <= answers.len() - first);
+        let answer = &mut answers[first..][..len];
+        keygen_job(
+            levels,
+            &seeds[..n],
+            &seeds[n..2 * n],
+            &seeds[2 * n..3 * n],
+            job,
+            answer,
+        );
+    }
+    Ok(answers)
+}
+
+/// The key that these answers give.
+fn join_key(levels: &Levels, answers: &[u8]) -> Result<SecretKey, JoinFault> {
+    let seeds = counting(0);
+    let n = levels.set.n();
+    keygen_join(
+        levels,
+        &seeds[..n],
+        &seeds[n..2 * n],
+        &seeds[2 * n..3 * n],
+        answers,
+    )
+}
+
+#[test]
+fn keys(rt: HostRuntime) -> Result<(), Fail> {
+    let alloc = rt.alloc();
+    for (set, xmss) in [
+        (ParamSet::S128f, 0),
+        (ParamSet::S128f, 1),
+        (ParamSet::S128f, 2),
+        (ParamSet::S128f, 3),
+        (ParamSet::S192f, 2),
+        (ParamSet::S256f, 4),
+        (ParamSet::S128s, 8),
+    ] {
+        let levels = levels(set, xmss, 0)?;
+        let mut answers = key_answers(&rt, alloc, &levels)?;
+        let sk = join_key(&levels, &answers)?;
+        assert!(rt; sk.bytes() == key(set).bytes(), "{} {xmss}", set.name());
+        // One bit in the node and in the tag of the last job, and an answer too few.
+        let n = set.n();
+        assert!(rt; 2 * n <= answers.len());
+        for from in [answers.len() - 2 * n, answers.len() - n] {
+            flip(&rt, &mut answers, from);
+            let refused = join_key(&levels, &answers).err();
+            assert_eq!(rt; refused, Some(JoinFault::AnswersDisagree));
+            flip(&rt, &mut answers, from);
+        }
+        let refused = join_key(&levels, &answers[..answers.len() - 2 * n]).err();
+        assert_eq!(rt; refused, Some(JoinFault::BadAnswersLength));
+    }
+    Ok(())
+}
+
+#[test]
+fn exchanged_key_answers_and_refusals(rt: HostRuntime) -> Result<(), Fail> {
+    let alloc = rt.alloc();
+    let levels = levels(ParamSet::S128f, 1, 0)?;
+    let answers = key_answers(&rt, alloc, &levels)?;
+    let (first, second) = answers.as_slice().split_at(answers.len() / 2);
+    let mut exchanged = second.to_vec(alloc)?;
+    exchanged.extend_from_slice(first)?;
+    let refused = join_key(&levels, &exchanged).err();
+    assert_eq!(rt; refused, Some(JoinFault::AnswersDisagree));
+    for (fault, number, name) in [
+        (JoinFault::BadAnswersLength, 20, "BadAnswersLength"),
+        (JoinFault::AnswersDisagree, 25, "AnswersDisagree"),
+    ] {
+        assert_eq!(rt; fault.number(), number);
+        assert_eq!(rt; fault.name(), name);
+    }
+    let sk = key(ParamSet::S128f);
+    let mut start = vec![in alloc; 0x55; start_len(sk.set())]?;
+    let long = [0; 256];
+    let refused = sign_start(
+        Form::Pure,
+        b"abc",
+        &long,
+        &sk,
+        Randomizer::Deterministic,
+        &mut start,
+    );
+    assert_eq!(rt; refused.err().map(|fault| fault.number()), Some(2));
+    assert!(rt; start.iter().all(|&byte| byte == 0x55));
+    Ok(())
+}
