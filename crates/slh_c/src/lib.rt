@@ -5,7 +5,10 @@
 //! first that is not met. Else it calls `slh_core`, and answers `DONE` or `INVALID`.
 #![tactic(auto)]
 
+mod cuttings;
 mod internal_form;
+mod jobs;
+mod joining;
 mod keys;
 mod names;
 mod numbers;
