@@ -36,26 +36,32 @@ length-fors_part s sk pk t i md j =
     length-append (fors_secret p sk pk t i u) (path (fors_tree p sk pk t i j) (fors_index p md j))
     ∙ omega (arith, length-fors_secret s sk pk t i u, length-path_below (fors_tree p sk pk t i j) (fors_tree-lawful s sk pk t i j) (fors_index p md j) p.a)
 
--- a tree's part of the signature gives the tree's root
-root-part : (s : ParamSet) (sk pk : List ℕ) (t i : ℕ) (md : List ℕ) (j : ℕ) → j < (params s).k
-    → fors_root (params s) pk t i md j (part (fors_part_len (params s)) (fors_sig (params s) sk pk t i md) j) ≡ root (fors_tree (params s) sk pk t i j)
-unfolding fors_sig
-root-part s sk pk t i md j l =
+-- a tree's part gives the tree's root
+pub fors_root-part : (s : ParamSet) (sk pk : List ℕ) (t i : ℕ) (md : List ℕ) (j : ℕ)
+    → fors_root (params s) pk t i md j (fors_part (params s) sk pk t i md j) ≡ root (fors_tree (params s) sk pk t i j)
+fors_root-part s sk pk t i md j =
     let p = params s in
     let x = fors_index p md j in
     let u = j * 2 ^ p.a + x in
     let S = fors_secret p sk pk t i u in
     let tree = fors_tree p sk pk t i j in
     let bare = fors_tree p [] pk t i j in
-    let here : part (fors_part_len p) (end_to_end (fors_part p sk pk t i md) p.k) j ≡ S ++ path tree x =
-    part-end_to_end (fors_part p sk pk t i md) (fors_part_len p) p.k j l (λ c q. length-fors_part s sk pk t i md c) in
     let front : take p.n (S ++ path tree x) ≡ S = take_front S (path tree x) p.n (length-fors_secret s sk pk t i u) in
     let back : drop p.n (S ++ path tree x) ≡ path tree x = drop_at S (path tree x) p.n (length-fors_secret s sk pk t i u) in
-    ap (fors_root p pk t i md j) here
-    ∙ ap (λ xs. climb bare x (fors_leaf p pk t i u xs) (drop p.n (S ++ path tree x))) front
+    ap (λ xs. climb bare x (fors_leaf p pk t i u xs) (drop p.n (S ++ path tree x))) front
     ∙ ap (λ ys. climb bare x (fors_leaf p pk t i u S) ys) back
     ∙ climb_to-join bare tree x (fors_leaf p pk t i u S) (path_node p.n (path tree x)) p.a refl
     ∙ climb-path tree (fors_tree-lawful s sk pk t i j) x (index_lt p md j)
+
+-- so does its part of a whole signature
+root-part : (s : ParamSet) (sk pk : List ℕ) (t i : ℕ) (md : List ℕ) (j : ℕ) → j < (params s).k
+    → fors_root (params s) pk t i md j (part (fors_part_len (params s)) (fors_sig (params s) sk pk t i md) j) ≡ root (fors_tree (params s) sk pk t i j)
+unfolding fors_sig
+root-part s sk pk t i md j l =
+    let p = params s in
+    let here : part (fors_part_len p) (end_to_end (fors_part p sk pk t i md) p.k) j ≡ fors_part p sk pk t i md j =
+    part-end_to_end (fors_part p sk pk t i md) (fors_part_len p) p.k j l (λ c q. length-fors_part s sk pk t i md c) in
+    ap (fors_root p pk t i md j) here ∙ fors_root-part s sk pk t i md j
 
 -- the signature's key is T over the roots
 pub fors_pk_from_sig-fors_sig : (s : ParamSet) (sk pk : List ℕ) (t i : ℕ) (md : List ℕ)

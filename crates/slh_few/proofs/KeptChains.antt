@@ -102,9 +102,9 @@ wots_sig_from-own s sk pk at m =
     let p = params s in
     let kept = kept_chains p sk pk at in
     end_to_end-same (chain_from_kept p pk at kept m) (signed_chain p sk pk at m) (len p) (λ c l.
-      let d = digit p m c in
-      let j = d / spacing p in
-      let high : d ≤ w p - 1 = omega (arith, digit-small p m c) in
-      ap (λ (xs : List ℕ). chain p pk at c (part p.n xs j) (j * spacing p) (d % spacing p)) (part-kept_chains p sk pk at c (n_high s) l)
-      ∙ ap (λ (y : List ℕ). chain p pk at c y (j * spacing p) (d % spacing p)) (part-kept_chain p sk pk at c j (n_high s) (kept_below s d high))
-      ∙ kept_run p sk pk at c d (spacing_low s))
+    let d = digit p m c in
+    let j = d / spacing p in
+    let high : d ≤ w p - 1 = omega (arith, digit-small p m c) in
+    ap (λ (xs : List ℕ). chain p pk at c (part p.n xs j) (j * spacing p) (d % spacing p)) (part-kept_chains p sk pk at c (n_high s) l)
+    ∙ ap (λ (y : List ℕ). chain p pk at c y (j * spacing p) (d % spacing p)) (part-kept_chain p sk pk at c j (n_high s) (kept_below s d high))
+    ∙ kept_run p sk pk at c d (spacing_low s))

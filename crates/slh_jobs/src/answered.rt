@@ -15,9 +15,7 @@ use crate::levels::Levels;
 use crate::signing::Signing;
 use crate::top_tree::{put_auth, top_root};
 use slh_core::SecretKey;
-use slh_few::{
-    ForsTree, XmssTree, fors_part_len, wots_sig_len, wots_sign_kept, xmss_sig_len,
-};
+use slh_few::{ForsTree, XmssTree, fors_part_len, wots_sig_len, wots_sign_kept, xmss_sig_len};
 use slh_params::Node;
 
 /// The answers of all jobs of a signature, as they are handed in.

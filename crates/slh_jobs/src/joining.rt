@@ -10,7 +10,7 @@ ghost use Rattle.slh_core.specs.Keys.{public_of, pk_seed};
 ghost use Rattle.slh_core.specs.Signatures.{signature_by};
 ghost use Rattle.slh_core.specs.declared.randomizer.Randomizer.{Randomizer};
 ghost use Rattle.slh_jobs.specs.Ranges.{node_given, tag_given, answer_len};
-ghost use Rattle.slh_jobs.specs.Jobs.{start_len, answers_len, xmss_shape, fors_shape, xmss_jobs, fors_jobs, digest_in, tag_of, place_in};
+ghost use Rattle.slh_jobs.specs.Jobs.{AreAnswers, start_len, answers_len, xmss_shape, fors_shape, xmss_jobs, fors_jobs, digest_in, tag_of, place_in};
 ghost use Rattle.slh_jobs.specs.Joined.{fors_answers, layer_root, fors_root_given, pk_fors_given, signed_given, fors_part_given, layer_part_given, signature_given, FitTogether};
 ghost use Rattle.slh_jobs.specs.Starts.{start_by, signature_from};
 ghost use Rattle.slh_jobs.specs.declared.fault.JoinFault.TheVariants.{BadAnswersLength};
@@ -23,9 +23,7 @@ use crate::levels::Levels;
 use crate::tag::tag_of;
 use slh_core::SecretKey;
 use slh_core::signing_steps::fors_sig_len;
-use slh_few::{
-    fors_part_len, fors_root_from_sig, fors_roots, xmss_pk_from_sig, xmss_sig_len,
-};
+use slh_few::{fors_part_len, fors_root_from_sig, fors_roots, xmss_pk_from_sig, xmss_sig_len};
 use slh_params::{Node, copy_of};
 
 /// At least the length of a FORS tree's part of a signature, in any set.
@@ -283,6 +281,10 @@ pub fn sign_join(
     ensures length { (result ≡ Err BadAnswersLength) ↔ (length answers.now ≡ answers_len levels.now → ⊥) }
     ensures fit { IsOk result ↔ ((length answers.now ≡ answers_len levels.now) × FitTogether levels.now sk.now start.now answers.now) }
     ensures joined { OnOk result (out.new ≡ signature_given levels.now sk.now start.now answers.now) }
+    ensures right { AreAnswers levels.now sk.now start.now answers.now → length answers.now ≡ answers_len levels.now → IsOk result }
+    ensures signature { AreAnswers levels.now sk.now start.now answers.now → OnOk result (out.new ≡ signature_from sk.now start.now) }
+    ensures message { (msg : List ℕ) (randomizer : Randomizer) → start.now ≡ start_by sk.now msg randomizer
+        → AreAnswers levels.now sk.now start.now answers.now → OnOk result (out.new ≡ signature_by sk.now msg randomizer) }
     ensures refused { OnErr result (out.new ≡ out.old) }
 {
     if answers.len() != answers_len(levels) {

@@ -11,6 +11,7 @@
 mod answered;
 mod answers;
 mod fault;
+mod generation;
 mod given;
 mod jobs;
 mod joining;
@@ -23,6 +24,8 @@ mod top_tree;
 
 pub use answers::sign_job;
 pub use fault::JoinFault;
+pub use generation::{key_answer_len, keygen_job, keygen_jobs, keygen_join};
 pub use jobs::{answer_len, answer_start, answers_len, sign_jobs};
+pub use joining::sign_join;
 pub use levels::Levels;
 pub use start::{sign_start, start_len};

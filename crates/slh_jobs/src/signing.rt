@@ -9,9 +9,7 @@ ghost use Rattle.slh_jobs.specs.Jobs.{start_len, digest_in, place_in, index_in};
 
 use crate::levels::Levels;
 use slh_core::{SecretKey, cut_digest};
-use slh_few::{
-    MOST_LAYERS, MOST_TREES, Place, Public, Seeds, fors_indices, layer_places,
-};
+use slh_few::{MOST_LAYERS, MOST_TREES, Place, Public, Seeds, fors_indices, layer_places};
 
 /// What the jobs of one signature are made from: the key, R and the digest, the place that signs on each layer and the
 /// leaf of each FORS tree that the digest asks for.

@@ -23,13 +23,7 @@ pub(crate) fn tag_of(levels: &Levels, sk: &SecretKey, start: &[u8], job: u32, no
 }
 
 /// The tag of the node that a job of key generation answers.
-pub(crate) fn key_tag(
-    levels: &Levels,
-    sk_prf: &[u8],
-    pk_seed: &[u8],
-    job: u32,
-    node: &Node,
-) -> Node
+pub(crate) fn key_tag(levels: &Levels, sk_prf: &[u8], pk_seed: &[u8], job: u32, node: &Node) -> Node
     ensures value { result.items ≡ key_tag levels.now sk_prf.now pk_seed.now job node.now.items }
     ensures len { length result.items ≡ (params levels.now.set).n }
 {

@@ -78,13 +78,7 @@ fn put_upper<T: Tree>(tree: &T, given: &Given, first: u32, range: u32, out: &mut
 
 /// Writes the path of leaf `leaf` of a tree, whose answers begin with answer `first`: from its range's answer, and then
 /// from the nodes of the ranges.
-pub(crate) fn put_auth<T: Tree>(
-    tree: &T,
-    given: &Given,
-    first: u32,
-    leaf: u32,
-    out: &mut [u8],
-)
+pub(crate) fn put_auth<T: Tree>(tree: &T, given: &Given, first: u32, leaf: u32, out: &mut [u8])
     requires shape { IsShape given.now.shape }
     requires few { first ≤ 16640 }
     requires height { given.now.shape.height ≡ (T.tree tree.now).height }

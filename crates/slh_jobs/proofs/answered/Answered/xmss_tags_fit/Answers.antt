@@ -10,6 +10,7 @@ returns c =
     let l = t.signing.levels in
     let bytes : List ℕ = t.xmss.bytes.now in
     let Fits : ℕ → ℕ → Type 0 = λ k n. tag_of l t.signing.sk.now t.signing.start.now k (node_given (xmss_shape l) bytes n) ≡ tag_given (xmss_shape l) bytes n in
-    let from : (n : ℕ) → 0 + n ≡ n = λ n. omega arith in
-    (λ yes n lt. subst (λ k. Fits k n) (from n) (rw t.xmss_cut at (c.tags_fit.ensures.0 yes n (omega (arith, c.xmss_jobs.ensures.value)))),
-     λ all. c.tags_fit.ensures.1 (λ n lt. rw t.xmss_cut (subst (λ k. Fits k n) (sym (from n)) (all n (omega (arith, c.xmss_jobs.ensures.value))))))
+    let from : (n : ℕ) → 0 + n ≡ n = λ n. omega arith in (
+      λ yes n lt. subst (λ k. Fits k n) (from n) (rw t.xmss_cut at (c.tags_fit.ensures.0 yes n (omega (arith, c.xmss_jobs.ensures.value)))),
+      λ all. c.tags_fit.ensures.1 (λ n lt. rw t.xmss_cut (subst (λ k. Fits k n) (sym (from n)) (all n (omega (arith, c.xmss_jobs.ensures.value))))),
+    )

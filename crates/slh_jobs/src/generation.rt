@@ -1,0 +1,153 @@
+//! Key generation as jobs.
+ghost use Rattle.std.specs.Prelude.{◌≡◌, ◌↔◌, ℕ, ◌+◌, ◌*◌, ◌^◌, ◌<◌, ◌≤◌, ◌++◌, IsTrue, IsOk, IfOk, Err, length};
+ghost use Rattle.slh_params.specs.ParamSet.{params};
+ghost use Rattle.slh_tree.specs.Tree.{node};
+ghost use Rattle.slh_core.specs.Keys.{generated_key, IsGeneratedKey};
+ghost use Rattle.slh_jobs.specs.Ranges.{IsShape, below, answer_len};
+ghost use Rattle.slh_jobs.specs.KeyJobs.{key_shape, key_jobs, key_tree, key_answer, key_root, AreKeyAnswers, AreTagged};
+ghost use Rattle.slh_jobs.specs.declared.fault.JoinFault.TheVariants.{BadAnswersLength};
+
+use crate::fault::JoinFault;
+use crate::given::Given;
+use crate::jobs::ranges;
+use crate::levels::Levels;
+use crate::shape::Shape;
+use crate::tag::key_tag;
+use crate::top_tree::top_root;
+use slh_core::SecretKey;
+use slh_few::{Seeds, XmssTree, xmss_range};
+use slh_params::{Node, ParamSet, copy_of};
+use slh_tree::PathRec;
+
+/// How the tree of the top layer is cut.
+fn key_shape(levels: &Levels) -> Shape
+    ensures value { result ≡ key_shape levels.now }
+    ensures shape { IsShape result }
+{
+    Shape {
+        n: levels.set.n(),
+        height: levels.set.hp(),
+        levels: levels.xmss,
+        own: 0,
+    }
+}
+
+/// The number of jobs of key generation: the ranges of the XMSS tree of the top layer.
+pub fn keygen_jobs(levels: &Levels) -> u32
+    ensures value { result ≡ key_jobs levels.now }
+    ensures few { result ≤ 256 }
+{
+    ranges(levels.xmss)
+}
+
+/// The length of the answer of a job of key generation, in bytes: 2n.
+pub fn key_answer_len(set: ParamSet) -> usize
+    ensures { result ≡ 2 * (params set).n }
+{
+    2 * set.n()
+}
+
+/// The node of a range of the tree.
+fn key_node(levels: &Levels, sk_seed: &[u8], pk_seed: &[u8], range: u32) -> Node
+    requires { range < key_jobs levels.now }
+    ensures { result.items ≡ node (key_tree levels.now sk_seed.now pk_seed.now) (below (key_shape levels.now)) range }
+{
+    let set = levels.set;
+    let seeds = Seeds {
+        set,
+        sk_seed,
+        pk_seed,
+    };
+    let (lo, hi) = key_shape(levels).leaves(range);
+    // The nodes of a path are wanted of no leaf.
+    let mut path = PathRec::for_leaf(set.hp(), 0);
+    let cover = xmss_range(&seeds, set.d() as u8 - 1, 0, lo, hi, &mut path);
+    copy_of(&cover.nodes[0].node)
+}
+
+/// Writes the answer of a job of the generation of the key of three seeds of n bytes each, 2n bytes. It is a function of
+/// its arguments alone: any thread, in any order.
+pub fn keygen_job(
+    levels: &Levels,
+    sk_seed: &[u8],
+    sk_prf: &[u8],
+    pk_seed: &[u8],
+    job: u32,
+    answer: &mut [u8],
+)
+    requires job { job < key_jobs levels.now }
+    requires answer { length answer.old ≡ 2 * (params levels.now.set).n }
+    ensures { answer.new ≡ key_answer levels.now sk_seed.now sk_prf.now pk_seed.now job }
+{
+    let node = key_node(levels, sk_seed, pk_seed, job);
+    let (first, second) = answer.split_at_mut(levels.set.n());
+    first.copy_from_slice(&node);
+    second.copy_from_slice(&key_tag(levels, sk_prf, pk_seed, job, &node));
+}
+
+/// Whether each node has its tag.
+fn are_tagged(levels: &Levels, sk_prf: &[u8], pk_seed: &[u8], given: &Given) -> bool
+    requires shape { given.now.shape ≡ key_shape levels.now }
+    requires there { length given.now.bytes.now ≡ key_jobs levels.now * answer_len (key_shape levels.now) }
+    ensures { IsTrue result ↔ AreTagged levels.now sk_prf.now pk_seed.now given.now.bytes.now }
+{
+    for job in 0..keygen_jobs(levels) {
+        let node = given.node(job as usize);
+        let tag = key_tag(levels, sk_prf, pk_seed, job, &node);
+        if tag.as_slice() != given.tag(job as usize).as_slice() {
+            return false;
+        }
+    }
+    true
+}
+
+/// The secret key of three seeds of n bytes each (FIPS 205, Algorithm 18), from the answers of all jobs, put end to end
+/// in the order of the jobs: where each answer is what `keygen_job` writes, that of `keygen_internal` of `slh_core`.
+///
+/// The answers may be any bytes. Refused: `BadAnswersLength` where they have not 2n bytes for each job; `AnswersDisagree`
+/// where one was changed, or made for other seeds, other levels or another job.
+pub fn keygen_join(
+    levels: &Levels,
+    sk_seed: &[u8],
+    sk_prf: &[u8],
+    pk_seed: &[u8],
+    answers: &[u8],
+) -> Result<SecretKey, JoinFault>
+    requires sk_seed { length sk_seed.now ≡ (params levels.now.set).n }
+    requires sk_prf { length sk_prf.now ≡ (params levels.now.set).n }
+    requires pk_seed { length pk_seed.now ≡ (params levels.now.set).n }
+    ensures length { (result ≡ Err BadAnswersLength)
+        ↔ (length answers.now ≡ key_jobs levels.now * answer_len (key_shape levels.now) → ⊥) }
+    ensures fit { IsOk result ↔ ((length answers.now ≡ key_jobs levels.now * answer_len (key_shape levels.now))
+        × AreTagged levels.now sk_prf.now pk_seed.now answers.now) }
+    ensures joined { IfOk result (λ key. key ≡ record {
+      set = levels.now.set;
+      bytes = sk_seed.now ++ sk_prf.now ++ pk_seed.now
+          ++ key_root levels.now sk_seed.now pk_seed.now answers.now;
+    }) }
+    ensures right { AreKeyAnswers levels.now sk_seed.now sk_prf.now pk_seed.now answers.now
+        → length answers.now ≡ key_jobs levels.now * answer_len (key_shape levels.now) → IsOk result }
+    ensures key { AreKeyAnswers levels.now sk_seed.now sk_prf.now pk_seed.now answers.now
+        → IfOk result (λ key. key ≡ generated_key levels.now.set sk_seed.now sk_prf.now pk_seed.now) }
+    ensures generated { AreKeyAnswers levels.now sk_seed.now sk_prf.now pk_seed.now answers.now → IfOk result IsGeneratedKey }
+{
+    let shape = key_shape(levels);
+    if answers.len() != keygen_jobs(levels) as usize * shape.answer_len() {
+        return Err(JoinFault::BadAnswersLength);
+    }
+    let given = Given {
+        shape,
+        bytes: answers,
+    };
+    if !are_tagged(levels, sk_prf, pk_seed, &given) {
+        return Err(JoinFault::AnswersDisagree);
+    }
+    let set = levels.set;
+    let seeds = Seeds {
+        set,
+        sk_seed,
+        pk_seed,
+    };
+    let root = top_root(&XmssTree::new(&seeds, set.d() as u8 - 1, 0), &given, 0);
+    Ok(SecretKey::from_parts(set, sk_seed, sk_prf, pk_seed, &root))
+}
