@@ -53,13 +53,13 @@ pub extern "C" fn slh_answer_place(
     xmss_levels: u32,
     fors_levels: u32,
     job: u32,
-    start: &mut usize,
+    at: &mut usize,
     len: &mut usize,
 ) -> u32
     ensures answer { result ≡ first_refusal (answer_rules set xmss_levels fors_levels job) }
     ensures place { result ≡ DONE → WithLevels set xmss_levels fors_levels (λ c.
-        (start.new ≡ start_of c job) × (len.new ≡ len_of c job)) }
-    ensures refused { result ≢ DONE → (start.new ≡ start.old) × (len.new ≡ len.old) }
+        (at.new ≡ start_of c job) × (len.new ≡ len_of c job)) }
+    ensures refused { result ≢ DONE → (at.new ≡ at.old) × (len.new ≡ len.old) }
 {
     let Some(set) = set_of(set) else {
         return Refusal::NoSuchSet.number();
@@ -70,7 +70,7 @@ pub extern "C" fn slh_answer_place(
     if job >= sign_jobs(&levels) {
         return Refusal::NoSuchJob.number();
     }
-    *start = answer_start(&levels, job);
+    *at = answer_start(&levels, job);
     *len = answer_len(&levels, job);
     DONE
 }
