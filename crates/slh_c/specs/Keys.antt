@@ -2,7 +2,7 @@
 use Rattle.std.specs.Prelude.{ℕ, List, [], ◌∷◌, ◌++◌}
 use Rattle.slh_params.specs.declared.param_set.ParamSet.{ParamSet}
 use Rattle.slh_params.specs.ParamSet.{params}
-use Rattle.slh_hash.specs.Keyed.{PRF_msg}
+use Rattle.slh_core.specs.Keyed.{PRF_msg}
 use Rattle.slh_core.specs.Keys.{Key, sk_prf, public_of, pk_seed}
 use Rattle.slh_core.specs.Signatures.{signature, digest_of}
 

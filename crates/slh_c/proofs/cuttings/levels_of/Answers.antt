@@ -41,7 +41,7 @@ none set xmss fors false e t = refl
 made : (o : Option Levels) (set : ParamSet) (xmss fors : ℕ) → (IsSome o ↔ Fit set xmss fors)
     → IfSome o (λ it. it.set ≡ set) → IfSome o (λ it. it.xmss ≡ xmss) → IfSome o (λ it. it.fors ≡ fors)
     → o ≡ levels_of set xmss fors
-    unfolding levels_of
+unfolding levels_of
 made (Some it) set xmss fors some a b c = of_equal it set xmss fors a b c _ refl (fit set xmss fors (some.0 refl))
 made None set xmss fors some a b c = none set xmss fors _ refl (λ t. false≢true (some.1 (fitting set xmss fors t)))
 
