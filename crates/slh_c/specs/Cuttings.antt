@@ -12,7 +12,7 @@ abbrev pub are_valid : ParamSet → ℕ → ℕ → Bool
 are_valid set xmss fors = nat_le xmss (params set).hp && (nat_le xmss 8 && (nat_le fors (params set).a && nat_le fors 8))
 
 -- the trees of the set cut by these levels, where they are valid
-pub levels_where : (set : ParamSet) (xmss fors : ℕ) (valid : Bool) → are_valid set xmss fors ≡ valid → Option Levels
+unfoldable pub levels_where : (set : ParamSet) (xmss fors : ℕ) (valid : Bool) → are_valid set xmss fors ≡ valid → Option Levels
 levels_where set xmss fors true valid =
     let first = and_parts (nat_le xmss (params set).hp) _ valid in
     let second = and_parts (nat_le xmss 8) _ first.1 in

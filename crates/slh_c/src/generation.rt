@@ -36,7 +36,7 @@ pub extern "C" fn slh_keygen_jobs(
         return Refusal::BadCutting.number();
     };
     *jobs = keygen_jobs(&levels);
-    *answer = key_answer_len(set);
+    *answer = key_answer_len(levels.set);
     DONE
 }
 
@@ -67,11 +67,11 @@ pub extern "C" fn slh_keygen_job(
     if job >= keygen_jobs(&levels) {
         return Refusal::NoSuchJob.number();
     }
-    let n = set.n();
+    let n = levels.set.n();
     if sk_seed.len() != n || sk_prf.len() != n || pk_seed.len() != n {
         return Refusal::BadSeedLength.number();
     }
-    if answer.len() != key_answer_len(set) {
+    if answer.len() != key_answer_len(levels.set) {
         return Refusal::BadOutputLength.number();
     }
     keygen_job(&levels, sk_seed, sk_prf, pk_seed, job, answer);
@@ -117,11 +117,11 @@ pub extern "C" fn slh_keygen_join(
     let Some(levels) = levels_of(set, xmss_levels, 0) else {
         return Refusal::BadCutting.number();
     };
-    let n = set.n();
+    let n = levels.set.n();
     if sk_seed.len() != n || sk_prf.len() != n || pk_seed.len() != n {
         return Refusal::BadSeedLength.number();
     }
-    if sk.len() != set.sk_len() {
+    if sk.len() != levels.set.sk_len() {
         return Refusal::BadOutputLength.number();
     }
     match keygen_join(&levels, sk_seed, sk_prf, pk_seed, answers) {

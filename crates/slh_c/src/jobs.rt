@@ -24,14 +24,14 @@ pub extern "C" fn slh_sign_jobs(
     set: u32,
     xmss_levels: u32,
     fors_levels: u32,
-    jobs: &mut u32,
+    count: &mut u32,
     start: &mut usize,
     answers: &mut usize,
 ) -> u32
     ensures answer { result ≡ first_refusal (sign_jobs_rules set xmss_levels fors_levels) }
-    ensures numbers { result ≡ DONE → WithLevels set xmss_levels fors_levels (λ c. (jobs.new ≡ jobs c)
+    ensures numbers { result ≡ DONE → WithLevels set xmss_levels fors_levels (λ c. (count.new ≡ jobs c)
         × (start.new ≡ start_len (params c.set)) × (answers.new ≡ answers_len c)) }
-    ensures refused { result ≢ DONE → (jobs.new ≡ jobs.old) × (start.new ≡ start.old) × (answers.new ≡ answers.old) }
+    ensures refused { result ≢ DONE → (count.new ≡ count.old) × (start.new ≡ start.old) × (answers.new ≡ answers.old) }
 {
     let Some(set) = set_of(set) else {
         return Refusal::NoSuchSet.number();
@@ -39,8 +39,8 @@ pub extern "C" fn slh_sign_jobs(
     let Some(levels) = levels_of(set, xmss_levels, fors_levels) else {
         return Refusal::BadCutting.number();
     };
-    *jobs = sign_jobs(&levels);
-    *start = start_len(set);
+    *count = sign_jobs(&levels);
+    *start = start_len(levels.set);
     *answers = answers_len(&levels);
     DONE
 }
@@ -176,10 +176,10 @@ pub extern "C" fn slh_sign_job(
     if job >= sign_jobs(&levels) {
         return Refusal::NoSuchJob.number();
     }
-    let Ok(sk) = SecretKey::from_bytes(set, sk) else {
+    let Ok(sk) = SecretKey::from_bytes(levels.set, sk) else {
         return Refusal::BadLength.number();
     };
-    if start.len() != start_len(set) {
+    if start.len() != start_len(levels.set) {
         return Refusal::BadStartLength.number();
     }
     if answer.len() != answer_len(&levels, job) {

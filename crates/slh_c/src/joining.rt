@@ -51,13 +51,13 @@ pub extern "C" fn slh_sign_join(
     let Some(levels) = levels_of(set, xmss_levels, fors_levels) else {
         return Refusal::BadCutting.number();
     };
-    let Ok(sk) = SecretKey::from_bytes(set, sk) else {
+    let Ok(sk) = SecretKey::from_bytes(levels.set, sk) else {
         return Refusal::BadLength.number();
     };
-    if start.len() != start_len(set) {
+    if start.len() != start_len(levels.set) {
         return Refusal::BadStartLength.number();
     }
-    if sig.len() != set.sig_len() {
+    if sig.len() != levels.set.sig_len() {
         return Refusal::BadOutputLength.number();
     }
     match sign_join(&levels, &sk, start, answers, sig) {

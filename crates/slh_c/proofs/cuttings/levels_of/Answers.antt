@@ -23,6 +23,7 @@ fitting set xmss fors valid =
 
 -- levels are those of their own numbers
 own : (it : Levels) (valid : Bool) (e : are_valid it.set it.xmss it.fors ≡ valid) → valid ≡ true → Some it ≡ levels_where it.set it.xmss it.fors valid e
+unfolding levels_where
 own it true e t = refl
 own it false e t = absurd (false≢true t)
 
@@ -35,6 +36,7 @@ of_equal it set xmss fors a b c =
     (own it)))
 
 none : (set : ParamSet) (xmss fors : ℕ) (valid : Bool) (e : are_valid set xmss fors ≡ valid) → (valid ≡ true → ⊥) → None ≡ levels_where set xmss fors valid e
+unfolding levels_where
 none set xmss fors true e t = absurd (t refl)
 none set xmss fors false e t = refl
 
