@@ -1,6 +1,7 @@
-use Rattle.std.proofs.Common.{◌≡◌, ◌≤◌, ◌↔◌, refl, sym, subst, ◌∙◌, ℕ, Bool, true, false, Option, Some, None}
+use Rattle.std.proofs.Common.{◌≡◌, ◌≤◌, ◌↔◌, refl, subst, ap, ◌∙◌, ℕ, Bool, true, false, Option, Some, None}
 use Rattle.std.specs.Prelude.{◌&&◌, nat_le, IsSome, IfSome}
 use Rattle.std.proofs.lemmas.Bool.{le-leb, leb-true, and_from, and_parts, cases_Bool, both_ways, false≢true}
+use Rattle.std.proofs.Math.Bridge.{le_prop}
 use Rattle.slh_params.specs.ParamSet.{params}
 use Rattle.slh_params.specs.declared.param_set.ParamSet.{ParamSet}
 use Rattle.slh_jobs.specs.declared.levels.Levels.{Levels}
@@ -21,10 +22,22 @@ fitting set xmss fors valid =
     let third = and_parts (nat_le fors (params set).a) (nat_le fors 8) second.1 in
     (leb-true xmss (params set).hp first.0, leb-true xmss 8 second.0, leb-true fors (params set).a third.0, leb-true fors 8 third.1)
 
+abbrev made_of : (set : ParamSet) (xmss fors : ℕ) → xmss ≤ (params set).hp → xmss ≤ 8 → fors ≤ (params set).a → fors ≤ 8 → Levels
+made_of set xmss fors a b c d = record { set = set; xmss = xmss; fors = fors; xmss_high = a; xmss_few = b; fors_high = c; fors_few = d }
+
+-- levels don't depend on the proofs of their bounds
+alike : (it : Levels) (a : it.xmss ≤ (params it.set).hp) (b : it.xmss ≤ 8) (c : it.fors ≤ (params it.set).a) (d : it.fors ≤ 8)
+    → Some it ≡ Some (made_of it.set it.xmss it.fors a b c d)
+alike it a b c d =
+    ap (λ v. Some (made_of it.set it.xmss it.fors v it.xmss_few it.fors_high it.fors_few)) (le_prop it.xmss_high a)
+    ∙ ap (λ v. Some (made_of it.set it.xmss it.fors a v it.fors_high it.fors_few)) (le_prop it.xmss_few b)
+    ∙ ap (λ v. Some (made_of it.set it.xmss it.fors a b v it.fors_few)) (le_prop it.fors_high c)
+    ∙ ap (λ v. Some (made_of it.set it.xmss it.fors a b c v)) (le_prop it.fors_few d)
+
 -- levels are those of their own numbers
 own : (it : Levels) (valid : Bool) (e : are_valid it.set it.xmss it.fors ≡ valid) → valid ≡ true → Some it ≡ levels_where it.set it.xmss it.fors valid e
 unfolding levels_where
-own it true e t = refl
+own it true e t = alike it _ _ _ _
 own it false e t = absurd (false≢true t)
 
 of_equal : (it : Levels) (set : ParamSet) (xmss fors : ℕ) → it.set ≡ set → it.xmss ≡ xmss → it.fors ≡ fors
