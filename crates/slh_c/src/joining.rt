@@ -18,6 +18,7 @@ use slh_jobs::{JoinFault, sign_join, start_len};
 /// order of the jobs: where each is what `slh_sign_job` writes, the bytes of `slh_sign` or `slh_hash_sign`. Refused, with nothing written, by `sign_join_rules`: a number of no set, levels that are not valid,
 /// a key, a start, an output or answers of another length; then where the answers don't fit together.
 #[unsafe(no_mangle)]
+#[tactic(auto, using(crate::proofs::Begun::begun))]
 pub extern "C" fn slh_sign_join(
     set: u32,
     xmss_levels: u32,
