@@ -52,8 +52,9 @@ has_symbols() {
 }
 
 calls() {
-    printf 'T slh_%s\n' check hash_sign hash_sign_digest hash_verify hash_verify_digest keygen lengths public \
-        refusal_name sign sign_internal verify verify_internal
+    printf 'T slh_%s\n' answer_place check hash_sign hash_sign_digest hash_sign_start hash_verify hash_verify_digest \
+        keygen keygen_job keygen_join keygen_jobs lengths public refusal_name sign sign_internal sign_job sign_join \
+        sign_jobs sign_start verify verify_internal
 }
 
 of_c() {
@@ -66,6 +67,27 @@ example() {
     rm -f "$work/letter" "$work/letter.sig"
     printf 'a letter\nof two lines' >"$work/letter"
     [ "$("$@" "$work/letter")" = valid ] && [ "$(wc -c <"$work/letter.sig")" = 17088 ] && ! "$@" "$work/no_such_file"
+}
+
+# Runs the example of threads over the deterministic tests of the pure form and the empty context in a vector file, by 1,
+# 2 and 4 threads: each signature must be the file's.
+by_threads() {
+    python3 - "$1" "$here/vectors/slh-dsa-sha2-128f.json" "$work" <<'END'
+import json, pathlib, subprocess, sys
+program, vectors, work = sys.argv[1], json.loads(pathlib.Path(sys.argv[2]).read_text()), pathlib.Path(sys.argv[3])
+key, letter, made = work / "signer.key", work / "letter", work / "letter.sig"
+wanted = dict(kind="sign", form="pure", context="", random="")
+tests = [it for it in vectors if wanted.items() <= it.items()]
+for test in tests:
+    key.write_bytes(bytes.fromhex(test["sk"]))
+    letter.write_bytes(bytes.fromhex(test["message"]))
+    for threads in "124":
+        made.unlink(missing_ok=True)
+        said = subprocess.run([program, threads, key, letter], capture_output=True, text=True)
+        if (said.stdout, said.returncode) != ("valid\n", 0) or made.read_bytes().hex() != test["signature"]:
+            sys.exit(f"{threads} threads: {said}")
+sys.exit(0 if tests else "no test")
+END
 }
 
 declared() {
@@ -89,6 +111,9 @@ one "the header is C++" "$cxx" -std=c++11 "${strict[@]}" -I "$prefix/include" -f
 one "the test program compiles" "$cc" -std=c99 "${strict[@]}" "${sanitized[@]}" -I "$prefix/include" \
     -o "$work/tests" "$here/tools/library_tests.c" "$lib/libslh.a" -pthread
 count "calls in and out of rule" "$work/tests"
+one "the test program of jobs compiles" "$cc" -std=c99 "${strict[@]}" "${sanitized[@]}" -I "$prefix/include" \
+    -o "$work/jobs_tests" "$here/tools/library_jobs_tests.c" "$lib/libslh.a"
+count "jobs in and out of rule" "$work/jobs_tests"
 one "the program that measures the stack compiles" "$cc" -std=c99 "${strict[@]}" -I "$prefix/include" \
     -o "$work/stack" "$here/tools/library_stack.c" "$lib/libslh.a" -pthread -Wl,-z,now
 one "the stack is below the limits" "$work/stack"
@@ -111,6 +136,9 @@ one "the Rust example compiles" "$rustc" -D warnings -O -L "native=$lib" -o "$wo
     "$here/examples/sign_file.rs"
 one "the Rust example" example "$work/of_rust"
 one "the Python example" example python3 "$here/examples/sign_file.py" "$lib/libslh.so"
-one "each example has under 60 lines" awk 'FNR == 60 { long = 1 } END { exit long }' "$here"/examples/sign_file.*
+one "the C example of threads compiles" "$cc" -std=c99 "${strict[@]}" "${sanitized[@]}" \
+    "$here/examples/sign_threads.c" -I "$prefix/include" "$lib/libslh.a" -pthread -o "$work/of_threads"
+one "the C example of threads gives the vectors' signatures" by_threads "$work/of_threads"
+one "each example that signs a file alone has under 60 lines" awk 'FNR == 60 { long = 1 } END { exit long }' "$here"/examples/sign_file.*
 
 end_counts

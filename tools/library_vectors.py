@@ -9,7 +9,8 @@ the calls must answer what the file states:
 
 - keygen: slh_keygen of the seeds writes the secret key, slh_public the public key, and slh_check is done;
 - sign: the call of the test's form writes exactly its signature; under a context of over 255 bytes it is refused, and
-  the output is as it was. With a pre-hash function both the call with the message and the one with its digest;
+  the output is as it was. With a pre-hash function both the call with the message and the one with its digest. In the
+  pure and the pre-hash forms also the calls for jobs, the last job first, under two cuttings;
 - verify: the call of the test's form is done where `valid` is true, and else invalid. With a pre-hash function both.
 
 Four tests at a time are run, each in a thread. The last line has the counts, and the status is 0 where no test failed.
@@ -81,6 +82,29 @@ def keygen_passes(test):
     return (made, written, checked) == (DONE,) * 3 and (secret.raw.hex(), public.raw.hex()) == (test["sk"], test["pk"])
 
 
+def jobs_pass(test, xmss, fors, wanted):
+    """Whether the signature of jobs is the wanted one, or beginning it is refused where there is none."""
+    number, form, sk = SETS.index(test["set"]) + 1, test["form"], bytes.fromhex(test["sk"])
+    given = [sk, *(bytes.fromhex(test[it]) for it in ("message", "context", "random"))]
+    jobs, at, lens = ctypes.c_uint32(), ctypes.c_size_t(), [ctypes.c_size_t() for _ in range(3)]
+    cut = (number, xmss, fors)
+    asked = library.slh_sign_jobs(*cut, ctypes.byref(jobs), ctypes.byref(lens[0]), ctypes.byref(lens[1]))
+    start, answers = painted(lens[0].value), painted(lens[1].value)
+    if form == "pure":
+        begun = call("slh_sign_start", number, *given, start)
+    else:
+        begun = call("slh_hash_sign_start", number, FUNCTIONS.index(form) + 1, *given, start)
+    if wanted is None:
+        return (asked, begun, start.raw) == (DONE, CONTEXT_TOO_LONG, painted(lens[0].value).raw)
+    for job in reversed(range(jobs.value)):
+        asked |= library.slh_answer_place(*cut, job, ctypes.byref(at), ctypes.byref(lens[2]))
+        answer = painted(lens[2].value)
+        asked |= call("slh_sign_job", *cut, sk, start.raw, job, answer)
+        ctypes.memmove(ctypes.byref(answers, at.value), answer, lens[2].value)
+    out = painted(lengths(number)[2])
+    return (asked, begun, call("slh_sign_join", *cut, sk, start.raw, answers, out), out.raw) == (DONE,) * 3 + (wanted,)
+
+
 def sign_passes(test):
     wanted = bytes.fromhex(test["signature"])
     is_refused = len(test.get("context", "")) > 510
@@ -90,7 +114,9 @@ def sign_passes(test):
         answer = call(name, *arguments, out)
         if (answer, out.raw) != ((CONTEXT_TOO_LONG, before) if is_refused else (DONE, wanted)):
             return False
-    return True
+    if test["form"] == "internal":
+        return True
+    return all(jobs_pass(test, *cut, None if is_refused else wanted) for cut in ((1, 1), (3, 4)))
 
 
 def verify_passes(test):

@@ -1,8 +1,10 @@
 -- Keys and randomizers as C hands them in: bytes.
-use Rattle.std.specs.Prelude.{ℕ, List, [], ◌∷◌}
+use Rattle.std.specs.Prelude.{ℕ, List, [], ◌∷◌, ◌++◌}
 use Rattle.slh_params.specs.declared.param_set.ParamSet.{ParamSet}
-use Rattle.slh_core.specs.Keys.{Key, public_of, pk_seed}
-use Rattle.slh_core.specs.Signatures.{signature}
+use Rattle.slh_params.specs.ParamSet.{params}
+use Rattle.slh_hash.specs.Keyed.{PRF_msg}
+use Rattle.slh_core.specs.Keys.{Key, sk_prf, public_of, pk_seed}
+use Rattle.slh_core.specs.Signatures.{signature, digest_of}
 
 abbrev pub key : ParamSet → List ℕ → Key
 key set bytes = record { set = set; bytes = bytes }
@@ -15,3 +17,9 @@ opt_rand_of (byte ∷ bytes) sk = byte ∷ bytes
 -- the signature of M' under the bytes of a randomizer
 abbrev pub signature_by : Key → List ℕ → List ℕ → List ℕ
 signature_by sk msg randomizer = signature sk msg (opt_rand_of randomizer sk)
+
+-- R and the digest of M' under the bytes of a randomizer (Algorithm 19, lines 2 to 5)
+abbrev pub start_by : Key → List ℕ → List ℕ → List ℕ
+start_by sk msg randomizer =
+    let r = PRF_msg (params sk.set) (sk_prf sk) (opt_rand_of randomizer sk) msg in
+    r ++ digest_of (public_of sk) r msg

@@ -2,11 +2,12 @@
 use Rattle.std.specs.Prelude.{ℕ, ◌==◌, List, [], ◌∷◌, Option, codes}
 use Rattle.std.specs.List.{find}
 use Rattle.slh_c.specs.declared.refusal.Refusal.{Refusal}
-use Rattle.slh_c.specs.declared.refusal.Refusal.TheVariants.{ContextTooLong, BadLength, NoSuchSet, NoSuchFunction, BadSeedLength, BadDigestLength, BadRandomizerLength, BadOutputLength, NoSuchRefusal}
+use Rattle.slh_c.specs.declared.refusal.Refusal.TheVariants.{ContextTooLong, BadLength, BadCutting, NoSuchSet, NoSuchFunction, BadSeedLength, BadDigestLength, BadRandomizerLength, BadOutputLength, NoSuchRefusal, BadAnswersLength, AnswersDisagree, NoSuchJob, BadStartLength}
 
 abbrev pub number : Refusal → ℕ
 number ContextTooLong = 2
 number BadLength = 3
+number BadCutting = 4
 number NoSuchSet = 8
 number NoSuchFunction = 9
 number BadSeedLength = 10
@@ -14,10 +15,15 @@ number BadDigestLength = 16
 number BadRandomizerLength = 17
 number BadOutputLength = 18
 number NoSuchRefusal = 19
+number BadAnswersLength = 20
+number AnswersDisagree = 25
+number NoSuchJob = 26
+number BadStartLength = 27
 
 abbrev pub name : Refusal → List ℕ
 name ContextTooLong = codes "ContextTooLong"
 name BadLength = codes "BadLength"
+name BadCutting = codes "BadCutting"
 name NoSuchSet = codes "NoSuchSet"
 name NoSuchFunction = codes "NoSuchFunction"
 name BadSeedLength = codes "BadSeedLength"
@@ -25,10 +31,14 @@ name BadDigestLength = codes "BadDigestLength"
 name BadRandomizerLength = codes "BadRandomizerLength"
 name BadOutputLength = codes "BadOutputLength"
 name NoSuchRefusal = codes "NoSuchRefusal"
+name BadAnswersLength = codes "BadAnswersLength"
+name AnswersDisagree = codes "AnswersDisagree"
+name NoSuchJob = codes "NoSuchJob"
+name BadStartLength = codes "BadStartLength"
 
 -- the refusals, in the order of their numbers
 abbrev pub refusals : List Refusal
-refusals = ContextTooLong ∷ BadLength ∷ NoSuchSet ∷ NoSuchFunction ∷ BadSeedLength ∷ BadDigestLength ∷ BadRandomizerLength ∷ BadOutputLength ∷ NoSuchRefusal ∷ []
+refusals = ContextTooLong ∷ BadLength ∷ BadCutting ∷ NoSuchSet ∷ NoSuchFunction ∷ BadSeedLength ∷ BadDigestLength ∷ BadRandomizerLength ∷ BadOutputLength ∷ NoSuchRefusal ∷ BadAnswersLength ∷ AnswersDisagree ∷ NoSuchJob ∷ BadStartLength ∷ []
 
 -- the refusal of a number
 unfoldable pub refusal_numbered : ℕ → Option Refusal

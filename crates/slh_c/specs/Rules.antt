@@ -1,14 +1,18 @@
 -- What the calls ask of their arguments, in the order in which it is judged.
-use Rattle.std.specs.Prelude.{ℕ, ◌+◌, ◌==◌, ◌||◌, nat_le, Bool, false, if◌then◌else◌, List, [], ◌∷◌, length, Option, None, Some}
+use Rattle.std.specs.Prelude.{ℕ, ◌+◌, ◌*◌, ◌==◌, ◌||◌, nat_lt, nat_le, Bool, false, if◌then◌else◌, List, [], ◌∷◌, length, Option, None, Some}
 use Rattle.slh_params.specs.Params.{pk_len, sk_len, sig_len}
 use Rattle.slh_params.specs.ParamSet.{params}
 use Rattle.slh_params.specs.declared.param_set.ParamSet.{ParamSet}
 use Rattle.slh_core.specs.PreHash.{digest_len}
 use Rattle.slh_core.specs.declared.pre_hash.PreHash.{PreHash}
+use Rattle.slh_jobs.specs.Jobs.{jobs, len_of, answers_len, start_len}
+use Rattle.slh_jobs.specs.KeyJobs.{key_jobs}
+use Rattle.slh_jobs.specs.declared.levels.Levels.{Levels}
+use Rattle.slh_c.specs.Cuttings.{levels_of}
 use Rattle.slh_c.specs.Numbers.{set_numbered, function_numbered}
 use Rattle.slh_c.specs.Refusals.{number, name, refusal_numbered}
 use Rattle.slh_c.specs.declared.refusal.Refusal.{Refusal}
-use Rattle.slh_c.specs.declared.refusal.Refusal.TheVariants.{ContextTooLong, BadLength, NoSuchSet, NoSuchFunction, BadSeedLength, BadDigestLength, BadRandomizerLength, BadOutputLength, NoSuchRefusal}
+use Rattle.slh_c.specs.declared.refusal.Refusal.TheVariants.{ContextTooLong, BadLength, BadCutting, NoSuchSet, NoSuchFunction, BadSeedLength, BadDigestLength, BadRandomizerLength, BadOutputLength, NoSuchRefusal, BadAnswersLength, NoSuchJob, BadStartLength}
 
 -- what is asked of an argument, and the refusal where it does not hold
 pub record Rule : Type 0 where
@@ -30,6 +34,12 @@ in_set set rules = numbered (set_numbered set) NoSuchSet rules
 
 abbrev pub with_function : ℕ → (PreHash → List Rule) → List Rule
 with_function function rules = numbered (function_numbered function) NoSuchFunction rules
+
+abbrev pub cut_in : ℕ → ℕ → ℕ → (Levels → List Rule) → List Rule
+cut_in set xmss fors rules = in_set set (λ s. numbered (levels_of s xmss fors) BadCutting rules)
+
+abbrev pub below : ℕ → ℕ → Rule
+below job count = record { is_met = nat_lt job count; refusal = NoSuchJob }
 
 abbrev pub has_len : List ℕ → ℕ → Refusal → Rule
 has_len bytes len refusal = record { is_met = length bytes == len; refusal = refusal }
@@ -55,6 +65,9 @@ output len out = has_len out len BadOutputLength
 
 abbrev pub context : List ℕ → Rule
 context ctx = record { is_met = nat_le (length ctx) 255; refusal = ContextTooLong }
+
+abbrev pub begun : ParamSet → List ℕ → Rule
+begun set start = has_len start (start_len (params set)) BadStartLength
 
 abbrev pub lengths_rules : ℕ → List Rule
 lengths_rules set = in_set set (λ _. [])
@@ -99,3 +112,41 @@ hash_verify_digest_rules set function pk bytes =
 abbrev pub name_rules : ℕ → List ℕ → List Rule
 name_rules asked out = numbered (refusal_numbered asked) NoSuchRefusal (λ refusal.
     record { is_met = nat_le (length (name refusal) + 1) (length out); refusal = BadOutputLength } ∷ [])
+
+abbrev pub sign_jobs_rules : ℕ → ℕ → ℕ → List Rule
+sign_jobs_rules set xmss fors = cut_in set xmss fors (λ _. [])
+
+abbrev pub answer_rules : ℕ → ℕ → ℕ → ℕ → List Rule
+answer_rules set xmss fors job = cut_in set xmss fors (λ c. below job (jobs c) ∷ [])
+
+abbrev pub sign_start_rules : ℕ → List ℕ → List ℕ → List ℕ → List ℕ → List Rule
+sign_start_rules set sk ctx random out =
+    in_set set (λ s. secret s sk ∷ randomizer s random ∷ output (start_len (params s)) out ∷ context ctx ∷ [])
+
+abbrev pub hash_sign_start_rules : ℕ → ℕ → List ℕ → List ℕ → List ℕ → List ℕ → List Rule
+hash_sign_start_rules set function sk ctx random out = in_set set (λ s. with_function function (λ _.
+    secret s sk ∷ randomizer s random ∷ output (start_len (params s)) out ∷ context ctx ∷ []))
+
+abbrev pub sign_job_rules : ℕ → ℕ → ℕ → List ℕ → List ℕ → ℕ → List ℕ → List Rule
+sign_job_rules set xmss fors sk start job out = cut_in set xmss fors (λ c.
+    below job (jobs c) ∷ secret c.set sk ∷ begun c.set start ∷ output (len_of c job) out ∷ [])
+
+-- whether the answers fit together is judged after these
+abbrev pub sign_join_rules : ℕ → ℕ → ℕ → List ℕ → List ℕ → List ℕ → List ℕ → List Rule
+sign_join_rules set xmss fors sk start answers out = cut_in set xmss fors (λ c.
+    secret c.set sk ∷ begun c.set start ∷ output (sig_len (params c.set)) out
+    ∷ has_len answers (answers_len c) BadAnswersLength ∷ [])
+
+abbrev pub keygen_jobs_rules : ℕ → ℕ → List Rule
+keygen_jobs_rules set xmss = cut_in set xmss 0 (λ _. [])
+
+abbrev pub keygen_job_rules : ℕ → ℕ → List ℕ → List ℕ → List ℕ → ℕ → List ℕ → List Rule
+keygen_job_rules set xmss sk_seed sk_prf pk_seed job out = cut_in set xmss 0 (λ c.
+    below job (key_jobs c) ∷ seed c.set sk_seed ∷ seed c.set sk_prf ∷ seed c.set pk_seed
+    ∷ output (2 * (params c.set).n) out ∷ [])
+
+-- whether each node has its tag is judged after these
+abbrev pub keygen_join_rules : ℕ → ℕ → List ℕ → List ℕ → List ℕ → List ℕ → List ℕ → List Rule
+keygen_join_rules set xmss sk_seed sk_prf pk_seed answers out = cut_in set xmss 0 (λ c.
+    seed c.set sk_seed ∷ seed c.set sk_prf ∷ seed c.set pk_seed ∷ output (sk_len (params c.set)) out
+    ∷ has_len answers (key_jobs c * (2 * (params c.set).n)) BadAnswersLength ∷ [])

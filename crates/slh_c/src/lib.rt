@@ -1,11 +1,17 @@
 //! SLH-DSA (FIPS 205) with SHA-2 for C and for any language that calls C: keys, signing and verifying in the calling
-//! thread, without memory. `include/slh.h` declares the calls and says what a caller must uphold.
+//! thread, without memory; and one signature or key as jobs for threads of the caller's own. `include/slh.h` declares
+//! the calls and says what a caller must uphold.
 //!
 //! Each call tests its numbers and lengths in the order of its rules (`specs/Rules`), and answers the number of the
-//! first that is not met. Else it calls `slh_core`, and answers `DONE` or `INVALID`.
+//! first that is not met. Else it calls `slh_core` or `slh_jobs`, and answers `DONE` or `INVALID`, or that answers don't
+//! fit together.
 #![tactic(auto)]
 
+mod cuttings;
+mod generation;
 mod internal_form;
+mod jobs;
+mod joining;
 mod keys;
 mod names;
 mod numbers;

@@ -14,6 +14,8 @@ pub enum Refusal {
     ContextTooLong,
     /// A key of another length than the set's.
     BadLength,
+    /// Levels that are above the height of the trees or above 8.
+    BadCutting,
     /// A number that is not a parameter set's.
     NoSuchSet,
     /// A number that is not a pre-hash function's.
@@ -28,6 +30,14 @@ pub enum Refusal {
     BadOutputLength,
     /// A number that is not a refusal's.
     NoSuchRefusal,
+    /// Answers of another length than those of all jobs.
+    BadAnswersLength,
+    /// Answers that don't fit together.
+    AnswersDisagree,
+    /// A number that is no job's.
+    NoSuchJob,
+    /// A start of another length than the set's.
+    BadStartLength,
 }
 
 impl Refusal {
@@ -38,6 +48,7 @@ impl Refusal {
         match self {
             Refusal::ContextTooLong => 2,
             Refusal::BadLength => 3,
+            Refusal::BadCutting => 4,
             Refusal::NoSuchSet => 8,
             Refusal::NoSuchFunction => 9,
             Refusal::BadSeedLength => 10,
@@ -45,6 +56,10 @@ impl Refusal {
             Refusal::BadRandomizerLength => 17,
             Refusal::BadOutputLength => 18,
             Refusal::NoSuchRefusal => 19,
+            Refusal::BadAnswersLength => 20,
+            Refusal::AnswersDisagree => 25,
+            Refusal::NoSuchJob => 26,
+            Refusal::BadStartLength => 27,
         }
     }
 
@@ -55,6 +70,7 @@ impl Refusal {
         match self {
             Refusal::ContextTooLong => "ContextTooLong",
             Refusal::BadLength => "BadLength",
+            Refusal::BadCutting => "BadCutting",
             Refusal::NoSuchSet => "NoSuchSet",
             Refusal::NoSuchFunction => "NoSuchFunction",
             Refusal::BadSeedLength => "BadSeedLength",
@@ -62,6 +78,10 @@ impl Refusal {
             Refusal::BadRandomizerLength => "BadRandomizerLength",
             Refusal::BadOutputLength => "BadOutputLength",
             Refusal::NoSuchRefusal => "NoSuchRefusal",
+            Refusal::BadAnswersLength => "BadAnswersLength",
+            Refusal::AnswersDisagree => "AnswersDisagree",
+            Refusal::NoSuchJob => "NoSuchJob",
+            Refusal::BadStartLength => "BadStartLength",
         }
     }
 
@@ -73,6 +93,7 @@ impl Refusal {
         match number {
             2 => Some(Refusal::ContextTooLong),
             3 => Some(Refusal::BadLength),
+            4 => Some(Refusal::BadCutting),
             8 => Some(Refusal::NoSuchSet),
             9 => Some(Refusal::NoSuchFunction),
             10 => Some(Refusal::BadSeedLength),
@@ -80,6 +101,10 @@ impl Refusal {
             17 => Some(Refusal::BadRandomizerLength),
             18 => Some(Refusal::BadOutputLength),
             19 => Some(Refusal::NoSuchRefusal),
+            20 => Some(Refusal::BadAnswersLength),
+            25 => Some(Refusal::AnswersDisagree),
+            26 => Some(Refusal::NoSuchJob),
+            27 => Some(Refusal::BadStartLength),
             _ => None,
         }
     }

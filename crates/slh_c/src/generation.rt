@@ -1,0 +1,135 @@
+//! Key generation as jobs for threads of the caller's own.
+ghost use Rattle.std.specs.Prelude.{◌≡◌, ◌≢◌, ◌↔◌, ◌*◌, ◌++◌};
+ghost use Rattle.slh_params.specs.ParamSet.{params};
+ghost use Rattle.slh_core.specs.Keys.{generated_key, IsGeneratedKey};
+ghost use Rattle.slh_jobs.specs.KeyJobs.{key_jobs, key_answer, key_root, AreKeyAnswers, AreTagged};
+ghost use Rattle.slh_c.specs.Cuttings.{WithLevels};
+ghost use Rattle.slh_c.specs.Keys.{key};
+ghost use Rattle.slh_c.specs.Refusals.{number};
+ghost use Rattle.slh_c.specs.Rules.{first_refusal, keygen_jobs_rules, keygen_job_rules, keygen_join_rules};
+ghost use Rattle.slh_c.specs.declared.refusal.Refusal.TheVariants.{AnswersDisagree};
+
+use crate::cuttings::levels_of;
+use crate::numbers::set_of;
+use crate::refusal::{DONE, Refusal};
+use slh_jobs::{JoinFault, key_answer_len, keygen_job, keygen_jobs, keygen_join};
+
+/// Writes how many jobs the generation of a key has where the XMSS tree of the top layer is cut by these levels, and the
+/// length of an answer in bytes. Refused, with nothing written, by `keygen_jobs_rules`: a number of no set, levels that
+/// are not valid.
+#[unsafe(no_mangle)]
+pub extern "C" fn slh_keygen_jobs(
+    set: u32,
+    xmss_levels: u32,
+    jobs: &mut u32,
+    answer: &mut usize,
+) -> u32
+    ensures answer { result ≡ first_refusal (keygen_jobs_rules set xmss_levels) }
+    ensures numbers { result ≡ DONE → WithLevels set xmss_levels 0 (λ c.
+        (jobs.new ≡ key_jobs c) × (answer.new ≡ 2 * (params c.set).n)) }
+    ensures refused { result ≢ DONE → (jobs.new ≡ jobs.old) × (answer.new ≡ answer.old) }
+{
+    let Some(set) = set_of(set) else {
+        return Refusal::NoSuchSet.number();
+    };
+    let Some(levels) = levels_of(set, xmss_levels, 0) else {
+        return Refusal::BadCutting.number();
+    };
+    *jobs = keygen_jobs(&levels);
+    *answer = key_answer_len(levels.set);
+    DONE
+}
+
+/// Writes the answer of a job of the generation of the key of three seeds of n bytes each. Refused, with nothing written,
+/// by `keygen_job_rules`: as `slh_keygen_jobs` is, for a number of no job, and for a seed or an output of another length.
+#[unsafe(no_mangle)]
+pub extern "C" fn slh_keygen_job(
+    set: u32,
+    xmss_levels: u32,
+    sk_seed: &[u8],
+    sk_prf: &[u8],
+    pk_seed: &[u8],
+    job: u32,
+    answer: &mut [u8],
+) -> u32
+    ensures answer { result ≡ first_refusal
+        (keygen_job_rules set xmss_levels sk_seed.now sk_prf.now pk_seed.now job answer.old) }
+    ensures written { result ≡ DONE → WithLevels set xmss_levels 0 (λ c.
+        answer.new ≡ key_answer c sk_seed.now sk_prf.now pk_seed.now job) }
+    ensures refused { result ≢ DONE → answer.new ≡ answer.old }
+{
+    let Some(set) = set_of(set) else {
+        return Refusal::NoSuchSet.number();
+    };
+    let Some(levels) = levels_of(set, xmss_levels, 0) else {
+        return Refusal::BadCutting.number();
+    };
+    if job >= keygen_jobs(&levels) {
+        return Refusal::NoSuchJob.number();
+    }
+    let n = levels.set.n();
+    if sk_seed.len() != n || sk_prf.len() != n || pk_seed.len() != n {
+        return Refusal::BadSeedLength.number();
+    }
+    if answer.len() != key_answer_len(levels.set) {
+        return Refusal::BadOutputLength.number();
+    }
+    keygen_job(&levels, sk_seed, sk_prf, pk_seed, job, answer);
+    DONE
+}
+
+/// Writes the secret key, 4n bytes, of three seeds of n bytes each, from the answers of all jobs, put end to end in the
+/// order of the jobs: where each is what `slh_keygen_job` writes, the bytes of `slh_keygen`. Refused, with nothing
+/// written, by `keygen_join_rules`: as `slh_keygen_jobs` is, and for a seed, an output or answers of another length; then
+/// where a node has not its tag.
+#[unsafe(no_mangle)]
+pub extern "C" fn slh_keygen_join(
+    set: u32,
+    xmss_levels: u32,
+    sk_seed: &[u8],
+    sk_prf: &[u8],
+    pk_seed: &[u8],
+    answers: &[u8],
+    sk: &mut [u8],
+) -> u32
+    ensures ruled { let rules = keygen_join_rules set xmss_levels sk_seed.now sk_prf.now pk_seed.now answers.now sk.old in
+        first_refusal rules ≢ DONE → result ≡ first_refusal rules }
+    ensures judged { let rules = keygen_join_rules set xmss_levels sk_seed.now sk_prf.now pk_seed.now answers.now sk.old in
+        first_refusal rules ≡ DONE → result ≢ DONE → result ≡ number AnswersDisagree }
+    ensures fit { let rules = keygen_join_rules set xmss_levels sk_seed.now sk_prf.now pk_seed.now answers.now sk.old in
+        first_refusal rules ≡ DONE → WithLevels set xmss_levels 0 (λ c.
+        (result ≡ DONE) ↔ AreTagged c sk_prf.now pk_seed.now answers.now) }
+    ensures joined { result ≡ DONE → WithLevels set xmss_levels 0 (λ c.
+        sk.new ≡ sk_seed.now ++ sk_prf.now ++ pk_seed.now ++ key_root c sk_seed.now pk_seed.now answers.now) }
+    ensures right { let rules = keygen_join_rules set xmss_levels sk_seed.now sk_prf.now pk_seed.now answers.now sk.old in
+        first_refusal rules ≡ DONE → WithLevels set xmss_levels 0 (λ c.
+        AreKeyAnswers c sk_seed.now sk_prf.now pk_seed.now answers.now → result ≡ DONE) }
+    ensures key { result ≡ DONE → WithLevels set xmss_levels 0 (λ c.
+        AreKeyAnswers c sk_seed.now sk_prf.now pk_seed.now answers.now
+        → key c.set sk.new ≡ generated_key c.set sk_seed.now sk_prf.now pk_seed.now) }
+    ensures generated { result ≡ DONE → WithLevels set xmss_levels 0 (λ c.
+        AreKeyAnswers c sk_seed.now sk_prf.now pk_seed.now answers.now → IsGeneratedKey (key c.set sk.new)) }
+    ensures refused { result ≢ DONE → sk.new ≡ sk.old }
+{
+    let Some(set) = set_of(set) else {
+        return Refusal::NoSuchSet.number();
+    };
+    let Some(levels) = levels_of(set, xmss_levels, 0) else {
+        return Refusal::BadCutting.number();
+    };
+    let n = levels.set.n();
+    if sk_seed.len() != n || sk_prf.len() != n || pk_seed.len() != n {
+        return Refusal::BadSeedLength.number();
+    }
+    if sk.len() != levels.set.sk_len() {
+        return Refusal::BadOutputLength.number();
+    }
+    match keygen_join(&levels, sk_seed, sk_prf, pk_seed, answers) {
+        Ok(key) => {
+            sk.copy_from_slice(key.bytes());
+            DONE
+        }
+        Err(JoinFault::BadAnswersLength) => Refusal::BadAnswersLength.number(),
+        Err(JoinFault::AnswersDisagree) => Refusal::AnswersDisagree.number(),
+    }
+}

@@ -1,0 +1,190 @@
+//! A signature as jobs for threads of the caller's own: how many jobs, and what each writes.
+ghost use Rattle.std.specs.Prelude.{◌≡◌, ◌≢◌};
+ghost use Rattle.slh_params.specs.ParamSet.{params};
+ghost use Rattle.slh_core.specs.Messages.{pure_message, pre_hash_message};
+ghost use Rattle.slh_core.specs.PreHash.{PH};
+ghost use Rattle.slh_jobs.specs.Jobs.{jobs, start_of, len_of, answers_len, start_len, answer_of};
+ghost use Rattle.slh_c.specs.Cuttings.{WithLevels};
+ghost use Rattle.slh_c.specs.Keys.{key, start_by};
+ghost use Rattle.slh_c.specs.Numbers.{InSet, WithFunction};
+ghost use Rattle.slh_c.specs.Rules.{first_refusal, sign_jobs_rules, answer_rules, sign_start_rules, hash_sign_start_rules, sign_job_rules};
+
+use crate::cuttings::levels_of;
+use crate::numbers::{function_of, set_of};
+use crate::randomizer::randomizer_of;
+use crate::refusal::{DONE, Refusal};
+use slh_core::{Form, SecretKey};
+use slh_jobs::{answer_len, answer_start, answers_len, sign_job, sign_jobs, sign_start, start_len};
+
+/// Writes how many jobs a signature has where its XMSS trees and its FORS trees are cut by these levels, the length of a
+/// start and that of the answers of all jobs, in bytes. Refused, with nothing written, by `sign_jobs_rules`: a number of
+/// no set, levels that are not valid.
+#[unsafe(no_mangle)]
+pub extern "C" fn slh_sign_jobs(
+    set: u32,
+    xmss_levels: u32,
+    fors_levels: u32,
+    count: &mut u32,
+    start: &mut usize,
+    answers: &mut usize,
+) -> u32
+    ensures answer { result ≡ first_refusal (sign_jobs_rules set xmss_levels fors_levels) }
+    ensures numbers { result ≡ DONE → WithLevels set xmss_levels fors_levels (λ c. (count.new ≡ jobs c)
+        × (start.new ≡ start_len (params c.set)) × (answers.new ≡ answers_len c)) }
+    ensures refused { result ≢ DONE → (count.new ≡ count.old) × (start.new ≡ start.old) × (answers.new ≡ answers.old) }
+{
+    let Some(set) = set_of(set) else {
+        return Refusal::NoSuchSet.number();
+    };
+    let Some(levels) = levels_of(set, xmss_levels, fors_levels) else {
+        return Refusal::BadCutting.number();
+    };
+    *count = sign_jobs(&levels);
+    *start = start_len(levels.set);
+    *answers = answers_len(&levels);
+    DONE
+}
+
+/// Writes where the answer of a job begins among the answers of all jobs, and its length, in bytes. Refused, with nothing
+/// written, by `answer_rules`: as `slh_sign_jobs` is, and for a number of no job.
+#[unsafe(no_mangle)]
+pub extern "C" fn slh_answer_place(
+    set: u32,
+    xmss_levels: u32,
+    fors_levels: u32,
+    job: u32,
+    at: &mut usize,
+    len: &mut usize,
+) -> u32
+    ensures answer { result ≡ first_refusal (answer_rules set xmss_levels fors_levels job) }
+    ensures place { result ≡ DONE → WithLevels set xmss_levels fors_levels (λ c.
+        (at.new ≡ start_of c job) × (len.new ≡ len_of c job)) }
+    ensures refused { result ≢ DONE → (at.new ≡ at.old) × (len.new ≡ len.old) }
+{
+    let Some(set) = set_of(set) else {
+        return Refusal::NoSuchSet.number();
+    };
+    let Some(levels) = levels_of(set, xmss_levels, fors_levels) else {
+        return Refusal::BadCutting.number();
+    };
+    if job >= sign_jobs(&levels) {
+        return Refusal::NoSuchJob.number();
+    }
+    *at = answer_start(&levels, job);
+    *len = answer_len(&levels, job);
+    DONE
+}
+
+/// Begins the signature of a message under a context (FIPS 205, Algorithm 22): writes R and the message's digest. The
+/// lengths are those of `slh_sign`. Refused, with nothing written, by `sign_start_rules`: as `slh_sign` is.
+#[unsafe(no_mangle)]
+pub extern "C" fn slh_sign_start(
+    set: u32,
+    sk: &[u8],
+    msg: &[u8],
+    ctx: &[u8],
+    randomizer: &[u8],
+    start: &mut [u8],
+) -> u32
+    ensures answer { result ≡ first_refusal (sign_start_rules set sk.now ctx.now randomizer.now start.old) }
+    ensures start { result ≡ DONE → InSet set (λ s.
+        start.new ≡ start_by (key s sk.now) (pure_message ctx.now msg.now) randomizer.now) }
+    ensures refused { result ≢ DONE → start.new ≡ start.old }
+{
+    let Some(set) = set_of(set) else {
+        return Refusal::NoSuchSet.number();
+    };
+    let Ok(sk) = SecretKey::from_bytes(set, sk) else {
+        return Refusal::BadLength.number();
+    };
+    let Some(randomizer) = randomizer_of(set, randomizer) else {
+        return Refusal::BadRandomizerLength.number();
+    };
+    if start.len() != start_len(set) {
+        return Refusal::BadOutputLength.number();
+    }
+    match sign_start(Form::Pure, msg, ctx, &sk, randomizer, start) {
+        Ok(()) => DONE,
+        Err(_) => Refusal::ContextTooLong.number(),
+    }
+}
+
+/// Begins the signature of a message by its digest under a pre-hash function, and under a context (FIPS 205, Algorithm
+/// 23): writes R and the digest of M'. The lengths are those of `slh_hash_sign`. Refused, with nothing written, by
+/// `hash_sign_start_rules`: as `slh_hash_sign` is.
+#[unsafe(no_mangle)]
+pub extern "C" fn slh_hash_sign_start(
+    set: u32,
+    function: u32,
+    sk: &[u8],
+    msg: &[u8],
+    ctx: &[u8],
+    randomizer: &[u8],
+    start: &mut [u8],
+) -> u32
+    ensures answer { result ≡ first_refusal
+        (hash_sign_start_rules set function sk.now ctx.now randomizer.now start.old) }
+    ensures start { result ≡ DONE → InSet set (λ s. WithFunction function (λ f.
+        start.new ≡ start_by (key s sk.now) (pre_hash_message ctx.now f (PH f msg.now)) randomizer.now)) }
+    ensures refused { result ≢ DONE → start.new ≡ start.old }
+{
+    let Some(set) = set_of(set) else {
+        return Refusal::NoSuchSet.number();
+    };
+    let Some(function) = function_of(function) else {
+        return Refusal::NoSuchFunction.number();
+    };
+    let Ok(sk) = SecretKey::from_bytes(set, sk) else {
+        return Refusal::BadLength.number();
+    };
+    let Some(randomizer) = randomizer_of(set, randomizer) else {
+        return Refusal::BadRandomizerLength.number();
+    };
+    if start.len() != start_len(set) {
+        return Refusal::BadOutputLength.number();
+    }
+    match sign_start(Form::PreHash(function), msg, ctx, &sk, randomizer, start) {
+        Ok(()) => DONE,
+        Err(_) => Refusal::ContextTooLong.number(),
+    }
+}
+
+/// Writes the answer of a job of the signature that `start` begins. Refused, with nothing written, by `sign_job_rules`:
+/// as `slh_answer_place` is, and for a key, a start or an output of another length.
+#[unsafe(no_mangle)]
+pub extern "C" fn slh_sign_job(
+    set: u32,
+    xmss_levels: u32,
+    fors_levels: u32,
+    sk: &[u8],
+    start: &[u8],
+    job: u32,
+    answer: &mut [u8],
+) -> u32
+    ensures answer { result ≡ first_refusal
+        (sign_job_rules set xmss_levels fors_levels sk.now start.now job answer.old) }
+    ensures written { result ≡ DONE → WithLevels set xmss_levels fors_levels (λ c.
+        answer.new ≡ answer_of c (key c.set sk.now) start.now job) }
+    ensures refused { result ≢ DONE → answer.new ≡ answer.old }
+{
+    let Some(set) = set_of(set) else {
+        return Refusal::NoSuchSet.number();
+    };
+    let Some(levels) = levels_of(set, xmss_levels, fors_levels) else {
+        return Refusal::BadCutting.number();
+    };
+    if job >= sign_jobs(&levels) {
+        return Refusal::NoSuchJob.number();
+    }
+    let Ok(sk) = SecretKey::from_bytes(levels.set, sk) else {
+        return Refusal::BadLength.number();
+    };
+    if start.len() != start_len(levels.set) {
+        return Refusal::BadStartLength.number();
+    }
+    if answer.len() != answer_len(&levels, job) {
+        return Refusal::BadOutputLength.number();
+    }
+    sign_job(&levels, &sk, start, job, answer);
+    DONE
+}
