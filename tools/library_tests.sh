@@ -68,17 +68,6 @@ example() {
     [ "$("$@" "$work/letter")" = valid ] && [ "$(wc -c <"$work/letter.sig")" = 17088 ] && ! "$@" "$work/no_such_file"
 }
 
-# Runs an example that signs by threads, with the key of the seeds 00, 01, 02, .. over "abc": the signature has the
-# SHA-256 of OpenSSL 3.5's. Over a file that is not there it must fail.
-example_by_threads() {
-    printf '%02x' {0..47} | sed 's/$/3b56e816847f000386aeec2e2bb9e1b5/' |
-        python3 -c 'import sys; sys.stdout.buffer.write(bytes.fromhex(sys.stdin.read()))' >"$work/key"
-    rm -f "$work/letter" "$work/letter.sig"
-    printf abc >"$work/letter"
-    "$@" "$work/key" "$work/letter" && ! "$@" "$work/key" "$work/no_such_file" &&
-        sha256sum -c - <<<"7c4622720e758897ec5f2089049bb5e5d98fc2e88bfdacf4fad3a1e20f80d5f8  $work/letter.sig"
-}
-
 declared() {
     printf '#include <slh.h>\n#include <slh.h>\nint main(%s) { return SLH_DONE; }\n' "$1"
 }
@@ -121,9 +110,9 @@ one "the C++ example" example "$work/of_cpp"
 one "the Rust example compiles" "$rustc" -D warnings -O -L "native=$lib" -o "$work/of_rust" \
     "$here/examples/sign_file.rs"
 one "the Rust example" example "$work/of_rust"
-one "the Rust example of threads compiles" "$rustc" -D warnings -O -L "native=$lib" -o "$work/threads_of_rust" \
-    "$here/examples/sign_by_threads.rs"
-one "the Rust example of threads" example_by_threads "$work/threads_of_rust"
+one "the Rust example of threads compiles" "$rustc" -D warnings -O -L "native=$lib" -o "$work/rust_threads" \
+    "$here/examples/sign_threads.rs"
+one "the Rust example of threads gives the vectors' signatures" by_threads "$work/rust_threads"
 one "the Python example" example python3 "$here/examples/sign_file.py" "$lib/libslh.so"
 one "each example has under 60 lines" awk 'FNR == 60 { long = 1 } END { exit long }' "$here"/examples/sign_file.*
 

@@ -1,10 +1,13 @@
-//! Signs a file into FILE.sig by several threads, with the secret key in KEY: sign_by_threads KEY FILE
+//! Signs a file by threads of its own into FILE.sig and verifies the signature: sign_threads THREADS KEY FILE
+//! KEY has the 64 bytes of a secret key of the set 128f. The signature is the deterministic one, under the empty
+//! context.
 use std::sync::atomic::{AtomicU32, Ordering};
 use std::{env, error::Error, fs, io, thread};
 
 const SET: u32 = 2; // SLH_DSA_SHA2_128F
-const XMSS: u32 = 1; // each XMSS tree is cut into 2 ranges,
-const FORS: u32 = 0; // and each FORS tree is one
+const XMSS: u32 = 1; // each XMSS tree is cut into two ranges,
+const FORS: u32 = 1; // and so is each FORS tree
+const SK: usize = 64;
 
 #[rustfmt::skip]
 #[link(name = "slh", kind = "static")]
@@ -18,6 +21,8 @@ unsafe extern "C" {
         start_len: usize, job: u32, answer: *mut u8, answer_len: usize) -> u32;
     fn slh_sign_join(set: u32, xmss_levels: u32, fors_levels: u32, sk: *const u8, sk_len: usize, start: *const u8,
         start_len: usize, answers: *const u8, answers_len: usize, sig: *mut u8, sig_len: usize) -> u32;
+    fn slh_verify(set: u32, pk: *const u8, pk_len: usize, msg: *const u8, msg_len: usize, ctx: *const u8,
+        ctx_len: usize, sig: *const u8, sig_len: usize) -> u32;
 }
 
 fn done(step: &str, answer: u32) -> io::Result<()> {
@@ -36,8 +41,9 @@ fn answer(sk: &[u8], start: &[u8], job: u32) -> io::Result<(usize, Vec<u8>)> {
     Ok((at, answer))
 }
 
+/// The signature, by that many threads, this one among them.
 #[rustfmt::skip]
-fn sign(sk: &[u8], msg: &[u8]) -> io::Result<Vec<u8>> {
+fn sign(sk: &[u8], msg: &[u8], threads: usize) -> io::Result<Vec<u8>> {
     let (mut jobs, mut start_len, mut answers_len) = (0, 0, 0);
     done("jobs", unsafe { slh_sign_jobs(SET, XMSS, FORS, &mut jobs, &mut start_len, &mut answers_len) })?;
     let (mut start, mut answers, mut sig) = (vec![0; start_len], vec![0; answers_len], vec![0; 17088]);
@@ -45,7 +51,7 @@ fn sign(sk: &[u8], msg: &[u8]) -> io::Result<Vec<u8>> {
     done("start", unsafe { slh_sign_start(SET, sk.as_ptr(), sk.len(), msg.as_ptr(), msg.len(), b"".as_ptr(), 0,
         b"".as_ptr(), 0, start.as_mut_ptr(), start_len) })?;
 
-    let (next, threads) = (AtomicU32::new(0), thread::available_parallelism()?.get());
+    let next = AtomicU32::new(0);
     let numbers = || (0..jobs).map(|_| next.fetch_add(1, Ordering::Relaxed)).take_while(|&job| job < jobs);
     let work = || numbers().map(|job| answer(sk, &start, job)).collect::<io::Result<Vec<_>>>();
     let parts: Vec<_> = thread::scope(|scope| {
@@ -61,10 +67,19 @@ fn sign(sk: &[u8], msg: &[u8]) -> io::Result<Vec<u8>> {
     Ok(sig)
 }
 
+#[rustfmt::skip]
+fn verify(pk: &[u8], msg: &[u8], sig: &[u8]) -> io::Result<()> {
+    done("verify", unsafe { slh_verify(SET, pk.as_ptr(), pk.len(), msg.as_ptr(), msg.len(), b"".as_ptr(), 0,
+        sig.as_ptr(), sig.len()) })
+}
+
 fn main() -> Result<(), Box<dyn Error>> {
     let words: Vec<String> = env::args().collect();
-    let [_, key, path] = words.as_slice() else { return Err("sign_by_threads KEY FILE".into()) };
-    fs::write(format!("{path}.sig"), sign(&fs::read(key)?, &fs::read(path)?)?)?;
-    println!("signed");
+    let [_, threads, key, path] = words.as_slice() else { return Err("sign_threads THREADS KEY FILE".into()) };
+    let (sk, msg) = (fs::read(key)?, fs::read(path)?);
+    let sig = sign(&sk, &msg, threads.parse()?)?;
+    fs::write(format!("{path}.sig"), &sig)?;
+    verify(&sk[SK / 2..], &msg, &sig)?;
+    println!("valid");
     Ok(())
 }
