@@ -1,4 +1,4 @@
-use Rattle.std.proofs.Common.{rules, arith, ◌≡◌, ◌+◌, ◌-◌, ◌/◌, ◌≤◌, ℕ, length, refl}
+use Rattle.std.proofs.Common.{rules, arith, ◌≡◌, ◌+◌, ◌-◌, ◌/◌, ℕ, length, refl}
 use Rattle.slh_jobs.specs.Jobs.{start_of}
 use Rattle.slh_examples.specs.JobRanges.{IsRoomFor}
 use Rattle.slh_examples.proofs.JobRanges.{start_grows, cut_inside, room_front, room_back, both_ranges}

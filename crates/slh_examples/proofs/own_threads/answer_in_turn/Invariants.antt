@@ -1,4 +1,4 @@
-use Rattle.std.proofs.Common.{◌≡◌, ◌-◌, ◌≤◌, take}
+use Rattle.std.proofs.Common.{◌-◌, take}
 use Rattle.slh_jobs.specs.Jobs.{start_of}
 use Rattle.slh_examples.specs.JobRanges.{AreAnswersOf, IsRoomFor}
 use Rattle.slh_examples.proofs.own_threads.answer_in_turn.Given as goal
