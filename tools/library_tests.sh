@@ -135,6 +135,9 @@ one "the C++ example" example "$work/of_cpp"
 one "the Rust example compiles" "$rustc" -D warnings -O -L "native=$lib" -o "$work/of_rust" \
     "$here/examples/sign_file.rs"
 one "the Rust example" example "$work/of_rust"
+one "the Rust example of threads compiles" "$rustc" -D warnings -O -L "native=$lib" -o "$work/rust_threads" \
+    "$here/examples/sign_threads.rs"
+one "the Rust example of threads gives the vectors' signatures" by_threads "$work/rust_threads"
 one "the Python example" example python3 "$here/examples/sign_file.py" "$lib/libslh.so"
 one "the C example of threads compiles" "$cc" -std=c99 "${strict[@]}" "${sanitized[@]}" \
     "$here/examples/sign_threads.c" -I "$prefix/include" "$lib/libslh.a" -pthread -o "$work/of_threads"

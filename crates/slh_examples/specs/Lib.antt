@@ -1,4 +1,5 @@
 pub mod DrawnKey
+pub mod JobRanges
 -- cited by public clauses
 pub use Rattle.slh_params.specs.Params
 pub use Rattle.slh_params.specs.ParamSet

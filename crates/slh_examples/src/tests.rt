@@ -4,15 +4,17 @@ ghost use Rattle.slh_params.specs.Params.{sig_len};
 ghost use Rattle.slh_params.specs.ParamSet.{params};
 
 use crate::{
-    Signed, StopFlag, both_valid, is_letter_of, is_valid_package, new_key, sign_by_threads,
-    sign_letter, sign_package, sign_unless_stopped,
+    Signed, StopFlag, both_valid, is_letter_of, is_valid_package, new_key, sign_by_own_threads,
+    sign_by_threads, sign_letter, sign_package, sign_unless_stopped,
 };
 use rand_chacha::ChaCha20Rng;
 use rand_core::SeedableRng;
+use refusing_allocator::Refusing;
 use sha2::{Digest, Sha256};
 use slh_core::{ParamSet, PreHash, SecretKey};
+use slh_jobs::Levels;
 use slh_par::{ParFault, Workers};
-use std::alloc::Global;
+use std::alloc::{AllocError, Global};
 use std::test::Fail;
 
 const SET: ParamSet = ParamSet::S128f;
@@ -57,6 +59,13 @@ fn sha256_hex(alloc: Global, bytes: &[u8]) -> Result<String, Fail> {
 /// That many workers.
 fn workers(number: u8) -> Result<Workers, Fail> {
     Ok(Workers::new(number).ok_or("no such number of workers")?)
+}
+
+/// The trees of the set, cut by these levels.
+fn levels(set: ParamSet, xmss: u32, fors: u32) -> Result<Levels, Fail>
+    ensures { IfOk result (λ levels. levels.set ≡ set) }
+{
+    Ok(Levels::new(set, xmss, fors).ok_or("no such levels")?)
 }
 
 /// The first 48 bytes of ChaCha20 under the key of 32 bytes 00 (RFC 8439, appendix A.1) are the seeds; PK.root is by a
@@ -127,6 +136,41 @@ fn threads_and_a_stop_flag(rt: HostRuntime) -> Result<(), Fail> {
     let stopped = sign_unless_stopped(&rt, rt.alloc(), &sk, b"abc", three, &flag, &mut sig);
     assert_eq!(rt; stopped.err(), Some(ParFault::Stopped));
     assert!(rt; sig.iter().all(|&byte| byte == 0));
+    Ok(())
+}
+
+#[test]
+fn own_threads(rt: HostRuntime) -> Result<(), Fail> {
+    let sk = key(rt.alloc(), SET, COUNTING_KEY)?;
+    for (xmss, fors, threads) in [(0, 0, 1), (1, 1, 3), (3, 6, 8)] {
+        let cut = levels(SET, xmss, fors)?;
+        let mut sig = room(rt.alloc(), &sk)?;
+        sign_by_own_threads(&rt, rt.alloc(), &sk, b"abc", &cut, threads, &mut sig)?;
+        assert_eq!(rt;
+            sha256_hex(rt.alloc(), &sig)?.as_str(),
+            OF_ABC,
+            "{xmss} {fors}"
+        );
+    }
+    Ok(())
+}
+
+/// The answers are all that is allocated: the first growth is refused, and there is no second.
+#[test]
+fn own_threads_without_memory(rt: HostRuntime) -> Result<(), Fail> {
+    let sk = key(rt.alloc(), SET, COUNTING_KEY)?;
+    let cut = levels(SET, 1, 0)?;
+    for nth in [1, 2] {
+        let alloc = Refusing::new(rt.alloc(), rt.alloc(), nth)?;
+        let mut sig = room(rt.alloc(), &sk)?;
+        let signed = sign_by_own_threads(&rt, alloc.clone()?, &sk, b"abc", &cut, 3, &mut sig);
+        assert_eq!(rt; alloc.has_refused(), nth == 1);
+        assert_eq!(rt;
+            signed.err(),
+            if nth == 1 { Some(AllocError) } else { None }
+        );
+        assert_eq!(rt; sig.iter().all(|&byte| byte == 0), nth == 1);
+    }
     Ok(())
 }
 

@@ -1,0 +1,85 @@
+//! Signs a file by threads of its own into FILE.sig and verifies the signature: sign_threads THREADS KEY FILE
+//! KEY has the 64 bytes of a secret key of the set 128f. The signature is the deterministic one, under the empty
+//! context.
+use std::sync::atomic::{AtomicU32, Ordering};
+use std::{env, error::Error, fs, io, thread};
+
+const SET: u32 = 2; // SLH_DSA_SHA2_128F
+const XMSS: u32 = 1; // each XMSS tree is cut into two ranges,
+const FORS: u32 = 1; // and so is each FORS tree
+const SK: usize = 64;
+
+#[rustfmt::skip]
+#[link(name = "slh", kind = "static")]
+unsafe extern "C" {
+    fn slh_sign_jobs(set: u32, xmss_levels: u32, fors_levels: u32, jobs: *mut u32, start_len: *mut usize,
+        answers_len: *mut usize) -> u32;
+    fn slh_answer_place(set: u32, xmss_levels: u32, fors_levels: u32, job: u32, at: *mut usize, len: *mut usize) -> u32;
+    fn slh_sign_start(set: u32, sk: *const u8, sk_len: usize, msg: *const u8, msg_len: usize, ctx: *const u8,
+        ctx_len: usize, randomizer: *const u8, randomizer_len: usize, start: *mut u8, start_len: usize) -> u32;
+    fn slh_sign_job(set: u32, xmss_levels: u32, fors_levels: u32, sk: *const u8, sk_len: usize, start: *const u8,
+        start_len: usize, job: u32, answer: *mut u8, answer_len: usize) -> u32;
+    fn slh_sign_join(set: u32, xmss_levels: u32, fors_levels: u32, sk: *const u8, sk_len: usize, start: *const u8,
+        start_len: usize, answers: *const u8, answers_len: usize, sig: *mut u8, sig_len: usize) -> u32;
+    fn slh_verify(set: u32, pk: *const u8, pk_len: usize, msg: *const u8, msg_len: usize, ctx: *const u8,
+        ctx_len: usize, sig: *const u8, sig_len: usize) -> u32;
+}
+
+fn done(step: &str, answer: u32) -> io::Result<()> {
+    if answer == 0 { Ok(()) } else { Err(io::Error::other(format!("{step}: {answer}"))) }
+}
+
+/// The answer of a job, and where it begins among those of all jobs.
+#[rustfmt::skip]
+fn answer(sk: &[u8], start: &[u8], job: u32) -> io::Result<(usize, Vec<u8>)> {
+    let (mut at, mut len) = (0, 0);
+    // SAFETY: each slice has the length that follows it, and each output is a place of its own. So below.
+    done("place", unsafe { slh_answer_place(SET, XMSS, FORS, job, &mut at, &mut len) })?;
+    let mut answer = vec![0; len];
+    done("job", unsafe { slh_sign_job(SET, XMSS, FORS, sk.as_ptr(), sk.len(), start.as_ptr(), start.len(), job,
+        answer.as_mut_ptr(), len) })?;
+    Ok((at, answer))
+}
+
+/// The signature, by that many threads, this one among them.
+#[rustfmt::skip]
+fn sign(sk: &[u8], msg: &[u8], threads: usize) -> io::Result<Vec<u8>> {
+    let (mut jobs, mut start_len, mut answers_len) = (0, 0, 0);
+    done("jobs", unsafe { slh_sign_jobs(SET, XMSS, FORS, &mut jobs, &mut start_len, &mut answers_len) })?;
+    let (mut start, mut answers, mut sig) = (vec![0; start_len], vec![0; answers_len], vec![0; 17088]);
+    // no context, and no randomizer: the deterministic variant
+    done("start", unsafe { slh_sign_start(SET, sk.as_ptr(), sk.len(), msg.as_ptr(), msg.len(), b"".as_ptr(), 0,
+        b"".as_ptr(), 0, start.as_mut_ptr(), start_len) })?;
+
+    let next = AtomicU32::new(0);
+    let numbers = || (0..jobs).map(|_| next.fetch_add(1, Ordering::Relaxed)).take_while(|&job| job < jobs);
+    let work = || numbers().map(|job| answer(sk, &start, job)).collect::<io::Result<Vec<_>>>();
+    let parts: Vec<_> = thread::scope(|scope| {
+        let others: Vec<_> = (1..threads).map(|_| scope.spawn(work)).collect();
+        let own = work();
+        others.into_iter().map(|other| other.join().unwrap()).chain([own]).collect::<io::Result<_>>()
+    })?;
+    for (at, part) in parts.into_iter().flatten() {
+        answers[at..at + part.len()].copy_from_slice(&part);
+    }
+    done("join", unsafe { slh_sign_join(SET, XMSS, FORS, sk.as_ptr(), sk.len(), start.as_ptr(), start_len,
+        answers.as_ptr(), answers_len, sig.as_mut_ptr(), sig.len()) })?;
+    Ok(sig)
+}
+
+#[rustfmt::skip]
+fn verify(pk: &[u8], msg: &[u8], sig: &[u8]) -> io::Result<()> {
+    done("verify", unsafe { slh_verify(SET, pk.as_ptr(), pk.len(), msg.as_ptr(), msg.len(), b"".as_ptr(), 0,
+        sig.as_ptr(), sig.len()) })
+}
+
+fn main() -> Result<(), Box<dyn Error>> {
+    let words: Vec<String> = env::args().collect();
+    let [_, threads, key, path] = words.as_slice() else { return Err("sign_threads THREADS KEY FILE".into()) };
+    let (sk, msg) = (fs::read(key)?, fs::read(path)?);
+    let sig = sign(&sk, &msg, threads.parse()?)?;
+    fs::write(format!("{path}.sig"), &sig)?;
+    verify(&sk[SK / 2..], &msg, &sig)?;
+    println!("valid");
+    Ok(())
+}
