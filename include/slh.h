@@ -239,11 +239,11 @@ uint32_t slh_verify_internal(uint32_t set, const uint8_t *pk, size_t pk_len, con
 /*
  * One signature, or one key, by threads of your own.
  *
- * Each XMSS tree of a signature is cut into 2^xmss_levels ranges of its leaves, and each FORS tree into
- * 2^fors_levels. A range is a job. slh_sign_start makes the start, a few bytes that all jobs of this signature are
- * given; slh_sign_job writes the answer of one job, in any thread or process and in any order; slh_sign_join makes the
- * signature of the answers of all jobs, which stand end to end in one buffer. The set, the levels, the key and the start
- * are the same in all these calls. The signature is the one that slh_sign makes.
+ * Each XMSS tree of a signature is cut into 2^xmss_levels ranges of its leaves, and each FORS tree into 2^fors_levels.
+ * A range is a job. slh_sign_start makes the start, a few bytes that all jobs of this signature are given; slh_sign_job
+ * writes the answer of one job, in any thread or process and in any order; slh_sign_join makes the signature of the
+ * answers of all jobs, which stand end to end in one buffer. The set, the levels, the key and the start are the same in
+ * all these calls. The signature is the one that slh_sign makes.
  *
  * Answers are secret. They hold values of one-time keys: keep them as the secret key is kept, also on the way from one
  * process to another, and erase them once they are joined. The start is no secret: it is R, which is a part of the
@@ -266,9 +266,8 @@ uint32_t slh_verify_internal(uint32_t set, const uint8_t *pk, size_t pk_len, con
 
 /*
  * How many jobs a signature has, the length of its start and that of the answers of all jobs, in bytes. Levels go from
- * 0 to 8, and at most to the height of the trees: 9, 3, 9, 3, 8, 4 of the XMSS trees and 12, 6, 14, 8, 14, 9 of the FORS
- * trees, in the order of the sets.
- * Answers: SLH_DONE; SLH_NO_SUCH_SET, SLH_BAD_CUTTING.
+ * 0 to 8, and at most to the height of the trees: 9, 3, 9, 3, 8, 4 of the XMSS trees and 12, 6, 14, 8, 14, 9 of the
+ * FORS trees, in the order of the sets. Answers: SLH_DONE; SLH_NO_SUCH_SET, SLH_BAD_CUTTING.
  */
 uint32_t slh_sign_jobs(uint32_t set, uint32_t xmss_levels, uint32_t fors_levels, uint32_t *jobs, size_t *start_len,
                        size_t *answers_len);
@@ -344,10 +343,10 @@ uint32_t slh_keygen_join(uint32_t set, uint32_t xmss_levels, const uint8_t *sk_s
                          const uint8_t *answers, size_t answers_len, uint8_t *sk, size_t sk_len);
 
 /*
- * The name of a refusal's number, as "BadLength", in ASCII and without a zero byte inside: writes it into name, and zero
- * bytes from there to the end of name. name must have room for one zero byte at least; SLH_MAX_NAME bytes are enough for
- * each name. SLH_DONE and SLH_INVALID are not refusals.
- * Answers: SLH_DONE; SLH_NO_SUCH_REFUSAL, SLH_BAD_OUTPUT_LENGTH where name is too short.
+ * The name of a refusal's number, as "BadLength", in ASCII and without a zero byte inside: writes it into name, and
+ * zero bytes from there to the end of name. name must have room for one zero byte at least; SLH_MAX_NAME bytes are
+ * enough for each name. SLH_DONE and SLH_INVALID are not refusals. Answers: SLH_DONE; SLH_NO_SUCH_REFUSAL,
+ * SLH_BAD_OUTPUT_LENGTH where name is too short.
  */
 uint32_t slh_refusal_name(uint32_t refusal, char *name, size_t name_len);
 

@@ -173,11 +173,12 @@ static void refusals(struct work *w) {
 
 /* A key from the answers of all jobs is that of slh_keygen, and none where one is changed or missing. */
 static void key(const struct work *w) {
-    uint32_t jobs;
-    size_t len, n = w->n;
+    uint32_t jobs = 0;
+    size_t len = 0, n = w->n;
     uint8_t sk[SLH_MAX_SECRET_KEY], answers[256 * 2 * SLH_MAX_N];
     const uint8_t *seeds = w->seeds;
-    expect(slh_keygen_jobs(w->set, w->xmss, &jobs, &len) == SLH_DONE && jobs == 1u << w->xmss && len == 2 * n, "key jobs", w->set, jobs);
+    int done = slh_keygen_jobs(w->set, w->xmss, &jobs, &len) == SLH_DONE;
+    expect(done && jobs == 1u << w->xmss && len == 2 * n, "key jobs", w->set, jobs);
     for (uint32_t job = 0; job < jobs; job++)
         expect(slh_keygen_job(w->set, w->xmss, seeds, n, seeds + n, n, seeds + 2 * n, n, job, answers + job * len, len) == SLH_DONE,
                "key job", w->set, job);

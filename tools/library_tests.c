@@ -337,7 +337,9 @@ static void names(void) {
         {SLH_NO_SUCH_SET, "NoSuchSet"},                     {SLH_NO_SUCH_FUNCTION, "NoSuchFunction"},
         {SLH_BAD_SEED_LENGTH, "BadSeedLength"},             {SLH_BAD_DIGEST_LENGTH, "BadDigestLength"},
         {SLH_BAD_RANDOMIZER_LENGTH, "BadRandomizerLength"}, {SLH_BAD_OUTPUT_LENGTH, "BadOutputLength"},
-        {SLH_NO_SUCH_REFUSAL, "NoSuchRefusal"},
+        {SLH_NO_SUCH_REFUSAL, "NoSuchRefusal"},             {SLH_BAD_CUTTING, "BadCutting"},
+        {SLH_BAD_ANSWERS_LENGTH, "BadAnswersLength"},       {SLH_ANSWERS_DISAGREE, "AnswersDisagree"},
+        {SLH_NO_SUCH_JOB, "NoSuchJob"},                     {SLH_BAD_START_LENGTH, "BadStartLength"},
     };
     size_t found = 0;
     for (uint32_t number = 0; number < 300; number++) {

@@ -53,8 +53,8 @@ has_symbols() {
 
 calls() {
     printf 'T slh_%s\n' answer_place check hash_sign hash_sign_digest hash_sign_start hash_verify hash_verify_digest \
-        keygen keygen_job keygen_join keygen_jobs lengths public refusal_name sign sign_internal sign_job sign_join \
-        sign_jobs sign_start verify verify_internal
+        keygen keygen_job keygen_jobs keygen_join lengths public refusal_name sign sign_internal sign_job sign_jobs \
+        sign_join sign_start verify verify_internal
 }
 
 of_c() {
@@ -142,6 +142,7 @@ one "the Python example" example python3 "$here/examples/sign_file.py" "$lib/lib
 one "the C example of threads compiles" "$cc" -std=c99 "${strict[@]}" "${sanitized[@]}" \
     "$here/examples/sign_threads.c" -I "$prefix/include" "$lib/libslh.a" -pthread -o "$work/of_threads"
 one "the C example of threads gives the vectors' signatures" by_threads "$work/of_threads"
-one "each example that signs a file alone has under 60 lines" awk 'FNR == 60 { long = 1 } END { exit long }' "$here"/examples/sign_file.*
+one "each example that signs a file alone has under 60 lines" \
+    awk 'FNR == 60 { long = 1 } END { exit long }' "$here"/examples/sign_file.*
 
 end_counts

@@ -14,9 +14,9 @@ use crate::numbers::set_of;
 use crate::refusal::{DONE, Refusal};
 use slh_jobs::{JoinFault, key_answer_len, keygen_job, keygen_jobs, keygen_join};
 
-/// Writes how many jobs the generation of a key has where the XMSS tree of the top layer is cut by these levels, and the
-/// length of an answer in bytes. Refused, with nothing written, by `keygen_jobs_rules`: a number of no set, levels that
-/// are not valid.
+/// Writes how many jobs the generation of a key has where the XMSS tree of the top layer is cut by these levels, and
+/// the length of an answer in bytes. Refused, with nothing written, by `keygen_jobs_rules`: a number of no set, levels
+/// that are not valid.
 #[unsafe(no_mangle)]
 pub extern "C" fn slh_keygen_jobs(
     set: u32,
@@ -40,8 +40,9 @@ pub extern "C" fn slh_keygen_jobs(
     DONE
 }
 
-/// Writes the answer of a job of the generation of the key of three seeds of n bytes each. Refused, with nothing written,
-/// by `keygen_job_rules`: as `slh_keygen_jobs` is, for a number of no job, and for a seed or an output of another length.
+/// Writes the answer of a job of the generation of the key of three seeds of n bytes each. Refused, with nothing
+/// written, by `keygen_job_rules`: as `slh_keygen_jobs` is, for a number of no job, and for a seed or an output of
+/// another length.
 #[unsafe(no_mangle)]
 pub extern "C" fn slh_keygen_job(
     set: u32,
@@ -80,8 +81,8 @@ pub extern "C" fn slh_keygen_job(
 
 /// Writes the secret key, 4n bytes, of three seeds of n bytes each, from the answers of all jobs, put end to end in the
 /// order of the jobs: where each is what `slh_keygen_job` writes, the bytes of `slh_keygen`. Refused, with nothing
-/// written, by `keygen_join_rules`: as `slh_keygen_jobs` is, and for a seed, an output or answers of another length; then
-/// where a node has not its tag.
+/// written, by `keygen_join_rules`: as `slh_keygen_jobs` is, and for a seed, an output or answers of another length;
+/// then where a node has not its tag.
 #[unsafe(no_mangle)]
 pub extern "C" fn slh_keygen_join(
     set: u32,

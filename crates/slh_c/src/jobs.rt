@@ -16,9 +16,9 @@ use crate::refusal::{DONE, Refusal};
 use slh_core::{Form, SecretKey};
 use slh_jobs::{answer_len, answer_start, answers_len, sign_job, sign_jobs, sign_start, start_len};
 
-/// Writes how many jobs a signature has where its XMSS trees and its FORS trees are cut by these levels, the length of a
-/// start and that of the answers of all jobs, in bytes. Refused, with nothing written, by `sign_jobs_rules`: a number of
-/// no set, levels that are not valid.
+/// Writes how many jobs a signature has where its XMSS trees and its FORS trees are cut by these levels, the length of
+/// a start and that of the answers of all jobs, in bytes. Refused, with nothing written, by `sign_jobs_rules`: a number
+/// of no set, levels that are not valid.
 #[unsafe(no_mangle)]
 pub extern "C" fn slh_sign_jobs(
     set: u32,
@@ -45,8 +45,8 @@ pub extern "C" fn slh_sign_jobs(
     DONE
 }
 
-/// Writes where the answer of a job begins among the answers of all jobs, and its length, in bytes. Refused, with nothing
-/// written, by `answer_rules`: as `slh_sign_jobs` is, and for a number of no job.
+/// Writes where the answer of a job begins among the answers of all jobs, and its length, in bytes. Refused, with
+/// nothing written, by `answer_rules`: as `slh_sign_jobs` is, and for a number of no job.
 #[unsafe(no_mangle)]
 pub extern "C" fn slh_answer_place(
     set: u32,

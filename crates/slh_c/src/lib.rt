@@ -3,8 +3,8 @@
 //! the calls and says what a caller must uphold.
 //!
 //! Each call tests its numbers and lengths in the order of its rules (`specs/Rules`), and answers the number of the
-//! first that is not met. Else it calls `slh_core` or `slh_jobs`, and answers `DONE` or `INVALID`, or that answers don't
-//! fit together.
+//! first that is not met. Else it calls `slh_core` or `slh_jobs`, and answers `DONE` or `INVALID`, or that answers
+//! don't fit together.
 #![tactic(auto)]
 
 mod cuttings;
