@@ -9,7 +9,7 @@
 #include <stdlib.h>
 #include <string.h>
 
-enum { SETS = 6, PAINT = 0xa5, MOST_ANSWERS = 4000000 };
+enum { SETS = 6, PAINT = 0xa5, MOST_ANSWERS = 16000000 };
 
 static const uint32_t heights[SETS][2] = {{9, 12}, {3, 6}, {9, 14}, {3, 8}, {8, 14}, {4, 9}};
 static const size_t starts[SETS] = {SLH_DSA_SHA2_128S_START, SLH_DSA_SHA2_128F_START, SLH_DSA_SHA2_192S_START,
