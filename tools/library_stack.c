@@ -1,7 +1,8 @@
 /*
- * Measures the most bytes of stack that slh_keygen, slh_sign and slh_verify of each set take: each runs in a thread
- * whose stack was filled with one byte value, and what no longer has it was used. What a thread takes that does nothing
- * is taken off. The last line tells whether all are below the limits, 64 KB and 32 KB for slh_verify.
+ * Measures the most bytes of stack that slh_keygen, slh_sign, slh_verify, slh_sign_job and slh_sign_join of each set
+ * take: each runs in a thread whose stack was filled with one byte value, and what no longer has it was used. What a
+ * thread takes that does nothing is taken off. The last line tells whether all are below the limits, 64 KB and 32 KB
+ * for slh_verify.
  */
 #define _GNU_SOURCE
 #include <slh.h>
@@ -16,7 +17,9 @@ enum { STACK = 1 << 20, PAINT = 0x5c, SETS = 6 };
 
 static uint8_t seeds[3 * SLH_MAX_N], sk[SLH_MAX_SECRET_KEY], sig[SLH_MAX_SIGNATURE], msg[1000], ctx[255];
 static size_t pk_len, sk_len, sig_len, n;
-static uint32_t set, answer;
+static uint8_t start[SLH_MAX_START], *answers;
+static size_t start_len, answers_len;
+static uint32_t set, answer, jobs;
 
 static void *nothing(void *it) { return it; }
 
@@ -33,6 +36,29 @@ static void *sign(void *it) {
 static void *verify(void *it) {
     answer = slh_verify(set, sk + 2 * n, pk_len, msg, sizeof msg, ctx, sizeof ctx, sig, sig_len);
     return it;
+}
+
+/* All jobs of a signature, one after the other. */
+static void *job(void *it) {
+    for (uint32_t number = 0; number < jobs && answer == SLH_DONE; number++) {
+        size_t at, len;
+        answer = slh_answer_place(set, 1, 1, number, &at, &len);
+        if (answer == SLH_DONE)
+            answer = slh_sign_job(set, 1, 1, sk, sk_len, start, start_len, number, answers + at, len);
+    }
+    return it;
+}
+
+static void *join(void *it) {
+    answer = slh_sign_join(set, 1, 1, sk, sk_len, start, start_len, answers, answers_len, sig, sig_len);
+    return it;
+}
+
+static void begin(void) {
+    if (slh_sign_jobs(set, 1, 1, &jobs, &start_len, &answers_len) != SLH_DONE ||
+        slh_sign_start(set, sk, sk_len, msg, sizeof msg, ctx, sizeof ctx, seeds, n, start, start_len) != SLH_DONE ||
+        (answers = malloc(answers_len)) == NULL)
+        exit(2);
 }
 
 static size_t used(void *(*run)(void *)) {
@@ -57,12 +83,15 @@ int main(void) {
     int is_within = 1;
     size_t thread = used(nothing);
     for (size_t i = 0; i < sizeof seeds; i++) seeds[i] = (uint8_t)i;
-    puts("set   keygen   sign   verify   bytes");
+    puts("set   keygen   sign   verify   sign_job   sign_join   bytes");
     for (set = 1; set <= SETS; set++) {
         if (slh_lengths(set, &pk_len, &sk_len, &sig_len, &n) != SLH_DONE) return 2;
         size_t made = used(keygen) - thread, signed_ = used(sign) - thread, verified = used(verify) - thread;
-        printf("%s  %6zu %6zu   %6zu\n", names[set - 1], made, signed_, verified);
-        is_within &= made < 65536 && signed_ < 65536 && verified < 32768;
+        begin();
+        size_t worked = used(job) - thread, joined = used(join) - thread;
+        free(answers);
+        printf("%s  %6zu %6zu   %6zu     %6zu      %6zu\n", names[set - 1], made, signed_, verified, worked, joined);
+        is_within &= made < 65536 && signed_ < 65536 && verified < 32768 && worked < 65536 && joined < 65536;
     }
     puts(is_within ? "below the limits" : "over a limit");
     return !is_within;

@@ -143,7 +143,7 @@ fn threads_and_a_stop_flag(rt: HostRuntime) -> Result<(), Fail> {
 fn own_threads(rt: HostRuntime) -> Result<(), Fail> {
     let sk = key(rt.alloc(), SET, COUNTING_KEY)?;
     for (xmss, fors, threads) in [(0, 0, 1), (1, 1, 3), (3, 6, 8)] {
-        let cut = levels(SET, xmss, fors)?;
+        let cut = levels(sk.set(), xmss, fors)?;
         let mut sig = room(rt.alloc(), &sk)?;
         sign_by_own_threads(&rt, rt.alloc(), &sk, b"abc", &cut, threads, &mut sig)?;
         assert_eq!(rt;
@@ -159,8 +159,8 @@ fn own_threads(rt: HostRuntime) -> Result<(), Fail> {
 #[test]
 fn own_threads_without_memory(rt: HostRuntime) -> Result<(), Fail> {
     let sk = key(rt.alloc(), SET, COUNTING_KEY)?;
-    let cut = levels(SET, 1, 0)?;
     for nth in [1, 2] {
+        let cut = levels(sk.set(), 1, 0)?;
         let alloc = Refusing::new(rt.alloc(), rt.alloc(), nth)?;
         let mut sig = room(rt.alloc(), &sk)?;
         let signed = sign_by_own_threads(&rt, alloc.clone()?, &sk, b"abc", &cut, 3, &mut sig);
