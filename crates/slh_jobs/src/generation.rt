@@ -105,7 +105,7 @@ fn are_tagged(levels: &Levels, sk_prf: &[u8], pk_seed: &[u8], given: &Given) -> 
 /// in the order of the jobs: where each answer is what `keygen_job` writes, that of `keygen_internal` of `slh_core`.
 ///
 /// The answers may be any bytes. Refused: `BadAnswersLength` where they have not 2n bytes for each job; `AnswersDisagree`
-/// where one was changed, or made for other seeds, other levels or another job.
+/// where a node has not the tag of its job under SK.prf, PK.seed and these levels. Nothing here tells another SK.seed.
 pub fn keygen_join(
     levels: &Levels,
     sk_seed: &[u8],

@@ -267,7 +267,7 @@ impl<'a> Answered<'a> {
 /// order of the jobs: where each answer is what `sign_job` writes, the bytes of `Form::sign` of `slh_core`.
 ///
 /// The answers may be any bytes. Refused, with nothing written: `BadAnswersLength` where they are not `answers_len`;
-/// `AnswersDisagree` where they don't fit together, so that no one-time key signs a root that is not its tree's.
+/// `AnswersDisagree` where they don't fit together, which is judged before any one-time key signs.
 pub fn sign_join(
     levels: &Levels,
     sk: &SecretKey,
