@@ -171,12 +171,13 @@ static void refusals(struct work *w) {
     }
 }
 
-/* A key from the answers of all jobs is that of slh_keygen, and none where one is changed or missing. */
+/* A key from the answers of all jobs is that of slh_keygen, and none where an answer or a seed is changed or missing. */
 static void key(const struct work *w) {
     uint32_t jobs = 0;
     size_t len = 0, n = w->n;
     uint8_t sk[SLH_MAX_SECRET_KEY], answers[256 * 2 * SLH_MAX_N];
-    const uint8_t *seeds = w->seeds;
+    uint8_t seeds[3 * SLH_MAX_N];
+    memcpy(seeds, w->seeds, 3 * n);
     int done = slh_keygen_jobs(w->set, w->xmss, &jobs, &len) == SLH_DONE;
     expect(done && jobs == 1u << w->xmss && len == 2 * n, "key jobs", w->set, jobs);
     for (uint32_t job = 0; job < jobs; job++)
@@ -191,6 +192,11 @@ static void key(const struct work *w) {
     expect(JOIN(n - 1, 0, 0) == SLH_BAD_SEED_LENGTH, "seeds of a key", w->set, jobs);
     expect(JOIN(n, 0, w->sk_len - 1) == SLH_BAD_OUTPUT_LENGTH, "room for a key", w->set, jobs);
     expect(JOIN(n, jobs * len - 1, w->sk_len) == SLH_BAD_ANSWERS_LENGTH, "answers of a key", w->set, jobs);
+    for (size_t at = 0; at < 3 * n; at++) {
+        seeds[at] ^= 1;
+        expect(JOIN(n, jobs * len, w->sk_len) == SLH_ANSWERS_DISAGREE, "a bit of a seed", w->set, at);
+        seeds[at] ^= 1;
+    }
     for (size_t at = 0; at < jobs * len; at++) {
         answers[at] ^= 1;
         expect(JOIN(n, jobs * len, w->sk_len) == SLH_ANSWERS_DISAGREE, "a bit of a key's answers", w->set, at);

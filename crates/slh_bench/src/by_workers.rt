@@ -36,7 +36,7 @@ pub fn key_par<R: Threads + Sync>(rt: &R, alloc: Global, sk: &SecretKey, sharing
     .is_ok_and(|made| made.bytes() == sk.bytes())
 }
 
-/// Signs the message into the front of the buffer.
+/// Signs the message into the first bytes of the buffer.
 pub fn sign_message_par<R: Threads + Sync>(
     rt: &R,
     alloc: Global,
@@ -66,7 +66,7 @@ pub fn sign_message_par<R: Threads + Sync>(
     .is_ok()
 }
 
-/// Whether each of many times the front of the buffer is a signature of the message.
+/// Whether each of many times the first bytes of the buffer are a signature of the message.
 pub fn verify_many<R: Threads + Sync>(
     rt: &R,
     alloc: Global,

@@ -42,7 +42,7 @@ pub fn key(set: ParamSet) -> SecretKey {
     keygen_internal(set, &seeds[..n], &seeds[n..2 * n], &seeds[2 * n..3 * n])
 }
 
-/// Signs the message into the front of the buffer; its context is not too long.
+/// Signs the message into the first bytes of the buffer; its context is not too long.
 pub fn sign_message(sk: &SecretKey, buffer: &mut [u8; MOST_BYTES]) -> bool {
     let Some(length) = sig_len(sk.set()) else {
         return false;
@@ -51,7 +51,7 @@ pub fn sign_message(sk: &SecretKey, buffer: &mut [u8; MOST_BYTES]) -> bool {
     sign(MESSAGE, b"", sk, Randomizer::Deterministic, out).is_ok()
 }
 
-/// Whether the front of the buffer is a signature of the message.
+/// Whether the first bytes of the buffer are a signature of the message.
 pub fn verify_message(sk: &SecretKey, buffer: &[u8; MOST_BYTES]) -> bool {
     let Some(length) = sig_len(sk.set()) else {
         return false;

@@ -47,8 +47,8 @@ impl Task {
         }
     }
 
-    /// Runs once, with a signature in the front of the buffer. Whether the outcome is as it should be: the same key, a
-    /// signature, a valid one, a digest that is not zero.
+    /// Runs once, with a signature in the first bytes of the buffer. Whether the outcome is as it should be: the same
+    /// key, a signature, a valid one, a digest that is not zero.
     pub fn run<R: Threads + Sync>(
         self,
         rt: &R,

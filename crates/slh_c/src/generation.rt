@@ -99,7 +99,7 @@ pub extern "C" fn slh_keygen_join(
         first_refusal rules ≡ DONE → result ≢ DONE → result ≡ number AnswersDisagree }
     ensures fit { let rules = keygen_join_rules set xmss_levels sk_seed.now sk_prf.now pk_seed.now answers.now sk.old in
         first_refusal rules ≡ DONE → WithLevels set xmss_levels 0 (λ c.
-        (result ≡ DONE) ↔ AreTagged c sk_prf.now pk_seed.now answers.now) }
+        (result ≡ DONE) ↔ AreTagged c sk_seed.now sk_prf.now pk_seed.now answers.now) }
     ensures joined { result ≡ DONE → WithLevels set xmss_levels 0 (λ c.
         sk.new ≡ sk_seed.now ++ sk_prf.now ++ pk_seed.now ++ key_root c sk_seed.now pk_seed.now answers.now) }
     ensures right { let rules = keygen_join_rules set xmss_levels sk_seed.now sk_prf.now pk_seed.now answers.now sk.old in

@@ -3,7 +3,7 @@ ghost use Rattle.std.specs.Prelude.{◌≡◌, codes};
 
 use thiserror::Error;
 
-/// Why bytes are no key.
+/// Why bytes are not a key.
 #[derive(Debug, Drop, Error)]
 pub enum KeyFault {
     /// They are more or fewer than a key of the set has.
@@ -59,7 +59,7 @@ impl SignFault {
     }
 }
 
-/// Why no key was generated.
+/// Why key generation failed.
 #[derive(Debug, Drop, Error)]
 pub enum KeygenFault {
     /// A draw of random bytes failed.

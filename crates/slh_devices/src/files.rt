@@ -8,8 +8,8 @@ pub trait Files {
     // What contracts know of the files.
     ghost state: { Self → FilesState };
 
-    /// Writes the bytes of the file at `path` from place `at` on to the front of `out`, and says how many: 0 only at
-    /// the end of the file, or where `out` is empty.
+    /// Writes the bytes of the file at `path` from place `at` on to the beginning of `out`, and says how many: 0 only
+    /// at the end of the file, or where `out` is empty.
     fn fetch(&mut self, path: &str, at: u64, out: &mut [u8]) -> Result<usize, FetchFault>
         requires within { at + length out.old ≤ 2 ^ 30 + 1 }
         ensures count { IfOk result (λ n. n ≤ length out.new) }

@@ -14,7 +14,7 @@ pub trait Source {
     // What contracts know of the source.
     ghost state: { Self → SourceState };
 
-    /// Writes the next bytes to the front of `out`, and says how many: 0 only at the end, or where `out` is empty.
+    /// Writes the next bytes to the beginning of `out`, and says how many: 0 only at the end, or where `out` is empty.
     fn take(&mut self, out: &mut [u8]) -> Result<usize, FetchFault>
         ensures count { IfOk result (λ n. n ≤ length out.new) }
         ensures bytes { ReadConsumes (state self.old).left (state self.new).left result out.new }

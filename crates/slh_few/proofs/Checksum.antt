@@ -1,4 +1,5 @@
--- The digits of a checksum in every valid record: they hold the largest checksum, and with the zero bits after them fill whole bytes.
+-- The digits of a checksum in every valid record: they hold the largest checksum, and with the zero bits after them
+-- they fill whole bytes.
 use Rattle.std.proofs.Common.{◌≡◌, ℕ, zero, suc, ◌+◌, ◌-◌, ◌*◌, ◌/◌, ◌%◌, ◌^◌, ◌<◌, ◌≤◌, ◌⊎◌, inl, inr, List, [], ◌∷◌, length, get_or, map, take, refl, ◌∙◌, lit≤, arith, pow-suc}
 use Rattle.std.specs.Prelude.{sum}
 use Rattle.std.specs.Int.{div_ceil}

@@ -36,8 +36,8 @@ pub fn xmss_range(seeds: &Seeds, layer: u8, tree: u64, lo: u32, hi: u32, rec: &m
     hash_range(&SeededXmssTree::new(seeds, layer, tree), lo, hi, rec)
 }
 
-/// What `xmss_range` gives, of the tree over a place. The leaf at the place is made with `wots_pk_keeping`, which writes
-/// `kept_chains_len` bytes into `kept`; where it lies in the range, no other chains are computed.
+/// What `xmss_range` gives, of the tree over a place. The leaf at the place is made with `wots_pk_keeping`, which
+/// writes `kept_chains_len` bytes into `kept`; where it lies in the range, no other chains are computed.
 #[tactic(auto, unfolding(crate::specs::Trees::xmss_tree_of))]
 pub fn xmss_range_keeping(
     seeds: &Seeds,

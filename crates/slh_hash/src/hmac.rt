@@ -29,7 +29,7 @@ pub fn hmac_sha512(key: &[u8], parts: &[&[u8]]) -> [u8; 64]
     out
 }
 
-/// HMAC of the front and the parts put end to end.
+/// HMAC of the parts put end to end, those of `front` first.
 #[tactic(auto, unfolding(crate::specs::Keyed::hmac))]
 pub(crate) fn hmac_of<D: HashFunctionOf>(
     key: &[u8],

@@ -26,19 +26,19 @@ key_nodes c sk prf pk bytes are n lt =
     let p = params_of c in
     let x = node (key_tree c sk pk) (below (key_shape c)) n in
     ap (λ (xs : List ℕ). take p.n (xs ++ replicate p.n 0)) (are n lt)
-    ∙ ap (take p.n) (append_assoc x (key_tag c prf pk n x) (replicate p.n 0))
-    ∙ take_front x (key_tag c prf pk n x ++ replicate p.n 0) p.n (key_node_len c sk pk n)
+    ∙ ap (take p.n) (append_assoc x (key_tag c sk prf pk n x) (replicate p.n 0))
+    ∙ take_front x (key_tag c sk prf pk n x ++ replicate p.n 0) p.n (key_node_len c sk pk n)
 
 -- and have their tags
-pub keys_tagged : (c : Levels) (sk prf pk bytes : List ℕ) → AreKeyAnswers c sk prf pk bytes → AreTagged c prf pk bytes
+pub keys_tagged : (c : Levels) (sk prf pk bytes : List ℕ) → AreKeyAnswers c sk prf pk bytes → AreTagged c sk prf pk bytes
 keys_tagged c sk prf pk bytes are n lt =
     let p = params_of c in
     let x = node (key_tree c sk pk) (below (key_shape c)) n in
-    let read : tag_given (key_shape c) bytes n ≡ key_tag c prf pk n x =
+    let read : tag_given (key_shape c) bytes n ≡ key_tag c sk prf pk n x =
     ap (λ (xs : List ℕ). take p.n (drop p.n xs)) (are n lt)
-    ∙ ap (take p.n) (drop_at x (key_tag c prf pk n x) p.n (key_node_len c sk pk n))
-    ∙ take_all p.n (key_tag c prf pk n x) (let size = length-PRF_msg p prf x (to_byte c.xmss 1 ++ to_byte n 4 ++ pk) (n_high c.set) in omega (arith, size)) in
-    ap (key_tag c prf pk n) (key_nodes c sk prf pk bytes are n lt) ∙ sym read
+    ∙ ap (take p.n) (drop_at x (key_tag c sk prf pk n x) p.n (key_node_len c sk pk n))
+    ∙ take_all p.n (key_tag c sk prf pk n x) (let size = length-PRF_msg p prf x (to_byte c.xmss 1 ++ to_byte n 4 ++ sk ++ pk) (n_high c.set) in omega (arith, size)) in
+    ap (key_tag c sk prf pk n) (key_nodes c sk prf pk bytes are n lt) ∙ sym read
 
 -- the root
 pub key_root-right : (c : Levels) (sk prf pk bytes : List ℕ) → AreKeyAnswers c sk prf pk bytes → key_root c sk pk bytes ≡ top_root (params_of c) sk pk

@@ -44,7 +44,7 @@ fors_part_given c sk start bytes j =
     rest_given s (fors_answers c bytes) (first + v / 2 ^ below s)
     ++ auth_given (fors_tree_of c sk start j) s (fors_answers c bytes) first v
 
--- what layer l adds: the WOTS+ signature of what it signs, from the values of the key's chains, and the path of its leaf
+-- what layer l adds: the WOTS+ signature of what it signs, from the values of the key's chains, and its leaf's path
 abbrev pub layer_part_given : Levels → Key → List ℕ → List ℕ → ℕ → List ℕ
 layer_part_given c sk start bytes l =
     let s = xmss_shape c in

@@ -21,15 +21,15 @@ abbrev pub key_tree : Levels → List ℕ → List ℕ → MerkleTree
 key_tree c sk pk = xmss_tree (params_of c) sk pk ((params_of c).d - 1) 0
 
 -- The tag of the node that job n answers: PRF_msg under SK.prf (FIPS 205, section 11.2), with the node as its
--- randomizer, of the levels, the number and PK.seed.
-abbrev pub key_tag : Levels → List ℕ → List ℕ → ℕ → List ℕ → List ℕ
-key_tag c prf pk n node = PRF_msg (params_of c) prf node (to_byte c.xmss 1 ++ to_byte n 4 ++ pk)
+-- randomizer, of the levels, the number, SK.seed and PK.seed.
+abbrev pub key_tag : Levels → List ℕ → List ℕ → List ℕ → ℕ → List ℕ → List ℕ
+key_tag c sk prf pk n node = PRF_msg (params_of c) prf node (to_byte c.xmss 1 ++ to_byte n 4 ++ sk ++ pk)
 
 -- the answer of job n
 abbrev pub key_answer : Levels → List ℕ → List ℕ → List ℕ → ℕ → List ℕ
 key_answer c sk prf pk n =
     let x = node (key_tree c sk pk) (below (key_shape c)) n in
-    x ++ key_tag c prf pk n x
+    x ++ key_tag c sk prf pk n x
 
 -- the bytes are the answers of all jobs, end to end
 abbrev pub AreKeyAnswers : Levels → List ℕ → List ℕ → List ℕ → List ℕ → Type 0
@@ -40,5 +40,5 @@ abbrev pub key_root : Levels → List ℕ → List ℕ → List ℕ → List ℕ
 key_root c sk pk bytes = root (top_given (key_tree c sk pk) (key_shape c) bytes 0)
 
 -- each node has its tag
-abbrev pub AreTagged : Levels → List ℕ → List ℕ → List ℕ → Type 0
-AreTagged c prf pk bytes = (n : ℕ) → n < key_jobs c → key_tag c prf pk n (node_given (key_shape c) bytes n) ≡ tag_given (key_shape c) bytes n
+abbrev pub AreTagged : Levels → List ℕ → List ℕ → List ℕ → List ℕ → Type 0
+AreTagged c sk prf pk bytes = (n : ℕ) → n < key_jobs c → key_tag c sk prf pk n (node_given (key_shape c) bytes n) ≡ tag_given (key_shape c) bytes n

@@ -80,8 +80,8 @@ impl<'a> Signing<'a> {
         fors_secret(&self.seeds(), self.idx_tree, self.idx_leaf, tree_no, leaf)
     }
 
-    /// The node of the range of a FORS tree in which the leaf is that the digest asks for. Writes that leaf's path below
-    /// this node, and then the leaf's secret.
+    /// The node of the range of a FORS tree in which the leaf is that the digest asks for. Writes that leaf's path
+    /// below this node, and then the leaf's secret.
     fn signing_fors_node(&self, tree_no: u32, own: &mut [u8]) -> Node
         requires tree { tree_no < (params self.now.levels.set).k }
         requires own { length own.old ≡ (fors_shape self.now.levels).own }

@@ -65,8 +65,8 @@ fn key_node(levels: &Levels, sk_seed: &[u8], pk_seed: &[u8], range: u32) -> Node
     copy_of(&cover.nodes[0].node)
 }
 
-/// Writes the answer of a job of the generation of the key of three seeds of n bytes each, 2n bytes. It is a function of
-/// its arguments alone: any thread, in any order.
+/// Writes the answer of a job of the generation of the key of three seeds of n bytes each, 2n bytes. It is a function
+/// of its arguments alone: any thread, in any order.
 pub fn keygen_job(
     levels: &Levels,
     sk_seed: &[u8],
@@ -82,18 +82,18 @@ pub fn keygen_job(
     let node = key_node(levels, sk_seed, pk_seed, job);
     let (first, second) = answer.split_at_mut(levels.set.n());
     first.copy_from_slice(&node);
-    second.copy_from_slice(&key_tag(levels, sk_prf, pk_seed, job, &node));
+    second.copy_from_slice(&key_tag(levels, sk_seed, sk_prf, pk_seed, job, &node));
 }
 
 /// Whether each node has its tag.
-fn are_tagged(levels: &Levels, sk_prf: &[u8], pk_seed: &[u8], given: &Given) -> bool
+fn are_tagged(levels: &Levels, sk_seed: &[u8], sk_prf: &[u8], pk_seed: &[u8], given: &Given) -> bool
     requires shape { given.now.shape ≡ key_shape levels.now }
     requires there { length given.now.bytes.now ≡ key_jobs levels.now * answer_len (key_shape levels.now) }
-    ensures { IsTrue result ↔ AreTagged levels.now sk_prf.now pk_seed.now given.now.bytes.now }
+    ensures { IsTrue result ↔ AreTagged levels.now sk_seed.now sk_prf.now pk_seed.now given.now.bytes.now }
 {
     for job in 0..keygen_jobs(levels) {
         let node = given.node(job as usize);
-        let tag = key_tag(levels, sk_prf, pk_seed, job, &node);
+        let tag = key_tag(levels, sk_seed, sk_prf, pk_seed, job, &node);
         if tag.as_slice() != given.tag(job as usize).as_slice() {
             return false;
         }
@@ -104,8 +104,8 @@ fn are_tagged(levels: &Levels, sk_prf: &[u8], pk_seed: &[u8], given: &Given) -> 
 /// The secret key of three seeds of n bytes each (FIPS 205, Algorithm 18), from the answers of all jobs, put end to end
 /// in the order of the jobs: where each answer is what `keygen_job` writes, that of `keygen_internal` of `slh_core`.
 ///
-/// The answers may be any bytes. Refused: `BadAnswersLength` where they have not 2n bytes for each job; `AnswersDisagree`
-/// where a node has not the tag of its job under SK.prf, PK.seed and these levels. Nothing here tells another SK.seed.
+/// The answers may be any bytes. Refused: `BadAnswersLength` where they have not 2n bytes for each job;
+/// `AnswersDisagree` where a node has not the tag of its job under these seeds and these levels.
 pub fn keygen_join(
     levels: &Levels,
     sk_seed: &[u8],
@@ -119,7 +119,7 @@ pub fn keygen_join(
     ensures length { (result ≡ Err BadAnswersLength)
         ↔ (length answers.now ≡ key_jobs levels.now * answer_len (key_shape levels.now) → ⊥) }
     ensures fit { IsOk result ↔ ((length answers.now ≡ key_jobs levels.now * answer_len (key_shape levels.now))
-        × AreTagged levels.now sk_prf.now pk_seed.now answers.now) }
+        × AreTagged levels.now sk_seed.now sk_prf.now pk_seed.now answers.now) }
     ensures joined { IfOk result (λ key. key ≡ record {
       set = levels.now.set;
       bytes = sk_seed.now ++ sk_prf.now ++ pk_seed.now
@@ -139,7 +139,7 @@ pub fn keygen_join(
         shape,
         bytes: answers,
     };
-    if !are_tagged(levels, sk_prf, pk_seed, &given) {
+    if !are_tagged(levels, sk_seed, sk_prf, pk_seed, &given) {
         return Err(JoinFault::AnswersDisagree);
     }
     let set = levels.set;

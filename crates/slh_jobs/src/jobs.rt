@@ -55,7 +55,7 @@ impl Levels {
     }
 }
 
-/// The number of ranges of a tree that is cut so often.
+/// The number of ranges of a tree that is cut by this many levels.
 pub(crate) fn ranges(levels: u32) -> u32
     requires { levels ≤ 8 }
     ensures value { result ≡ 2 ^ levels }
@@ -64,7 +64,7 @@ pub(crate) fn ranges(levels: u32) -> u32
     1 << levels
 }
 
-/// The ranges of so many trees, each cut into as many.
+/// The ranges of this many trees, each cut into as many.
 fn times(trees: u32, ranges: u32) -> u32
     requires trees { trees ≤ 65 }
     requires ranges { ranges ≤ 256 }

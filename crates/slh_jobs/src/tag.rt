@@ -23,11 +23,18 @@ pub(crate) fn tag_of(levels: &Levels, sk: &SecretKey, start: &[u8], job: u32, no
 }
 
 /// The tag of the node that a job of key generation answers.
-pub(crate) fn key_tag(levels: &Levels, sk_prf: &[u8], pk_seed: &[u8], job: u32, node: &Node) -> Node
-    ensures value { result.items ≡ key_tag levels.now sk_prf.now pk_seed.now job node.now.items }
+pub(crate) fn key_tag(
+    levels: &Levels,
+    sk_seed: &[u8],
+    sk_prf: &[u8],
+    pk_seed: &[u8],
+    job: u32,
+    node: &Node,
+) -> Node
+    ensures value { result.items ≡ key_tag levels.now sk_seed.now sk_prf.now pk_seed.now job node.now.items }
     ensures len { length result.items ≡ (params levels.now.set).n }
 {
     let cut = [levels.xmss as u8];
     let number = job.to_be_bytes();
-    prf_msg(levels.set, sk_prf, node, &[&cut, &number, pk_seed])
+    prf_msg(levels.set, sk_prf, node, &[&cut, &number, sk_seed, pk_seed])
 }

@@ -31,9 +31,8 @@ fn key_answers(rt: &impl Abort, alloc: Global, levels: &Levels) -> Result<Vec<u8
     Ok(answers)
 }
 
-/// The key that these answers give.
-fn join_key(levels: &Levels, answers: &[u8]) -> Result<SecretKey, JoinFault> {
-    let seeds = counting(0);
+/// The key of three seeds, end to end, that these answers give.
+fn join_key(levels: &Levels, seeds: &[u8; 96], answers: &[u8]) -> Result<SecretKey, JoinFault> {
     let n = levels.set.n();
     keygen_join(
         levels,
@@ -58,18 +57,25 @@ fn keys(rt: HostRuntime) -> Result<(), Fail> {
     ] {
         let levels = levels(set, xmss, 0)?;
         let mut answers = key_answers(&rt, alloc, &levels)?;
-        let sk = join_key(&levels, &answers)?;
+        let mut seeds = counting(0);
+        let sk = join_key(&levels, &seeds, &answers)?;
         assert!(rt; sk.bytes() == key(set).bytes(), "{} {xmss}", set.name());
-        // One bit in the node and in the tag of the last job, and an answer too few.
+        // One bit in each seed, one in the node and in the tag of the last job, and an answer too few.
         let n = set.n();
+        for from in [0, n, 2 * n] {
+            flip(&rt, &mut seeds, from);
+            let refused = join_key(&levels, &seeds, &answers).err();
+            assert_eq!(rt; refused, Some(JoinFault::AnswersDisagree));
+            flip(&rt, &mut seeds, from);
+        }
         assert!(rt; 2 * n <= answers.len());
         for from in [answers.len() - 2 * n, answers.len() - n] {
             flip(&rt, &mut answers, from);
-            let refused = join_key(&levels, &answers).err();
+            let refused = join_key(&levels, &seeds, &answers).err();
             assert_eq!(rt; refused, Some(JoinFault::AnswersDisagree));
             flip(&rt, &mut answers, from);
         }
-        let refused = join_key(&levels, &answers[..answers.len() - 2 * n]).err();
+        let refused = join_key(&levels, &seeds, &answers[..answers.len() - 2 * n]).err();
         assert_eq!(rt; refused, Some(JoinFault::BadAnswersLength));
     }
     Ok(())
@@ -83,7 +89,7 @@ fn exchanged_key_answers_and_refusals(rt: HostRuntime) -> Result<(), Fail> {
     let (first, second) = answers.as_slice().split_at(answers.len() / 2);
     let mut exchanged = second.to_vec(alloc)?;
     exchanged.extend_from_slice(first)?;
-    let refused = join_key(&levels, &exchanged).err();
+    let refused = join_key(&levels, &counting(0), &exchanged).err();
     assert_eq!(rt; refused, Some(JoinFault::AnswersDisagree));
     for (fault, number, name) in [
         (JoinFault::BadAnswersLength, 20, "BadAnswersLength"),

@@ -3,7 +3,6 @@ pub mod CutLists
 pub mod Decoding
 pub mod Digits
 pub mod Generation
-pub mod Hashing
 pub mod Pieces
 pub mod Refusals
 pub mod Rows

@@ -78,10 +78,10 @@ is_zero n b e t = (Decides-eqb n 0).0 (sym e ∙ t)
 pub not_zero : (n : ℕ) (b : Bool) → b ≡ (n == 0) → b ≡ false → 0 < n
 not_zero n b e t = let other : (n ≡ 0 → ⊥) = not_from_Decides (n == 0) (Decides-eqb n 0) (sym e ∙ t) in omega arith
 
--- of the bytes of the file that were read a prefix is held
-pub record HasKept (files : FilesState) (path front : List ℕ) (most at : ℕ) : Type 0 where
+-- of the file so many bytes were read, of which P is true
+pub record HasRead (P : List ℕ → Type 0) (files : FilesState) (path : List ℕ) (at : ℕ) : Type 0 where
   pub bytes : List ℕ
-  pub held : front ≡ take most bytes
+  pub received : P bytes
   pub sized : length bytes ≡ at
   pub begins : HasPart (files.bytes_at path) 0 bytes
 
@@ -125,14 +125,6 @@ pub file_whole : {T E : Type 0} (files : FilesState) (path : List ℕ) (items : 
 file_whole files path items (Ok bytes) read = front_whole files path (items bytes) read
 file_whole files path items (Err e) read = tt
 
--- what is held of the bytes of a key file that were read
-pub record HasKeptKey (files : FilesState) (path front : List ℕ) (at : ℕ) : Type 0 where
-  pub bytes : List ℕ
-  pub alike : AreReadAlike front bytes
-  pub held : IsKeyFront front
-  pub sized : length bytes ≡ at
-  pub begins : HasPart (files.bytes_at path) 0 bytes
-
 -- texts that are read alike, with one part more
 pub alike_more : (held front bytes part : List ℕ) → AreReadAlike front bytes → AreReadAlike held (front ++ part) → AreReadAlike held (bytes ++ part)
 alike_more held front bytes part old new kind more =
@@ -164,13 +156,3 @@ any_held files path front key read e = (read.whole, read.read, sym (any_alike fr
 pub any_refused : (old new : FilesState) (path front : List ℕ) (e : FileFault) (fault : Fault) → IsFrontOfKeyFile old path front
     → any_key_file front ≡ Err e → fault ≡ of_file e → RefusesAnyKey old new path fault
 any_refused old new path front e fault read refused same = inr (read.whole, read.read, (e, sym (any_alike front read.whole read.alike) ∙ refused, same))
-
--- nothing was read of a key file yet
-pub none_held : (files : FilesState) (path front : List ℕ) → front ≡ [] → HasKeptKey files path front 0
-none_held files path front e = record {
-  bytes = [];
-  alike = λ kind more. rw e refl;
-  held = rw e (record { at_most = omega arith; last = λ long. absurd (omega arith) });
-  sized = refl;
-  begins = none_read _ _ refl;
-}

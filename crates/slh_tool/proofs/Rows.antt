@@ -8,11 +8,8 @@ use Rattle.std.specs.Str.{bytes_eq, chars}
 use Rattle.clap.specs.Facts.{explicit_source, unwrap_or_range}
 use Rattle.clap.specs.Kinds.{Kinds, or_else, range_kinds}
 use Rattle.clap.specs.Lexer.{long_of, short_of}
-use Rattle.clap.specs.Walk.{Held, Names, Outcome, Row, Rule, Step, Text, Waiting, Walk, action_of, after_flag, after_step, arg_by_id, arg_by_index, arg_by_long, arg_by_short, attached_value, bundle, bundle_step, default_rows, finished, flag_met, has_row, is_pending, long_met, long_or_other, most_values, nothing_held, option_met, option_word, plain_word, reacted, reading_by, rows_after, settled, settled_rows, short_met, short_or_plain, subcommand_met, subcommand_or_other, takes_several, takes_values, to_positional, used, used_as, used_by_id, values_or_missing, walk, walk_from, walked_from, with_default, with_values, without, word_met}
-use Rattle.clap.specs.Walk.{bundle_met, walked}
-use Rattle.clap.specs.Walk.{done, waits, plain, refused, idle, option, positional, next, trailing, subcommand, value}
-use Rattle.clap.specs.Faults.{bundle_fault, bundle_step_fault, check_fault, flag_word_fault, level_fault, long_fault, option_fault, other_fault, positional_fault, react_fault, settle_fault, short_fault, step_fault, stray_fault, turn_fault, use_fault, word_fault}
-use Rattle.clap.specs.Faults.{flags_fault, walk_fault}
+use Rattle.clap.specs.Walk.{Held, Names, Outcome, Row, Rule, Step, Text, Waiting, Walk, action_of, after_flag, after_step, arg_by_id, arg_by_index, arg_by_long, arg_by_short, attached_value, bundle, bundle_step, default_rows, finished, flag_met, has_row, is_pending, long_met, long_or_other, most_values, nothing_held, option_met, option_word, plain_word, reacted, reading_by, rows_after, settled, settled_rows, short_met, short_or_plain, subcommand_met, subcommand_or_other, takes_several, takes_values, to_positional, used, used_as, used_by_id, values_or_missing, walk, walk_from, walked_from, with_default, with_values, without, word_met, bundle_met, walked, done, waits, plain, refused, idle, option, positional, next, trailing, subcommand, value}
+use Rattle.clap.specs.Faults.{bundle_fault, bundle_step_fault, check_fault, flag_word_fault, level_fault, long_fault, option_fault, other_fault, positional_fault, react_fault, settle_fault, short_fault, step_fault, stray_fault, turn_fault, use_fault, word_fault, flags_fault, walk_fault}
 use Rattle.clap.specs.Simple.{Shape}
 use Rattle.clap.specs.Takes.{is_given}
 use Rattle.clap.specs.Words.{first_of}
@@ -251,8 +248,7 @@ after_step-filled s word w h value all e f = to_positional-filled s (arg_by_inde
 
 walked_from-filled : (s : Shape) (names : Names) (stopped : Option (Text × List Text)) (w : Walk) (word : Text) → AllFill s.rules
     → cond (is_some stopped) [] (or_else (word_fault s names w.is_trailing w.waiting word w.held)
-    (step_fault s w.position (word_met s.rules names w.is_trailing w.waiting w.position word w.held).0
-    (word_met s.rules names w.is_trailing w.waiting w.position word w.held).1)) ≡ []
+    (step_fault s w.position (word_met s.rules names w.is_trailing w.waiting w.position word w.held).0 (word_met s.rules names w.is_trailing w.waiting w.position word w.held).1)) ≡ []
     → Filled w.held.rows → Filled (walked_from s.rules names stopped w word).held.rows
 walked_from-filled s names (Some p) w word all e f = f
 walked_from-filled s names None w word all e f =
@@ -385,8 +381,7 @@ after_step-no_help c word w h value s n = to_positional-no_help c (arg_by_index 
 
 walked_from-no_help : (s : Shape) (names : Names) (stopped : Option (Text × List Text)) (w : Walk) (word : Text) → s.disable_help_subcommand ≡ false
     → cond (is_some stopped) [] (or_else (word_fault s names w.is_trailing w.waiting word w.held)
-    (step_fault s w.position (word_met s.rules names w.is_trailing w.waiting w.position word w.held).0
-    (word_met s.rules names w.is_trailing w.waiting w.position word w.held).1)) ≡ []
+    (step_fault s w.position (word_met s.rules names w.is_trailing w.waiting w.position word w.held).0 (word_met s.rules names w.is_trailing w.waiting w.position word w.held).1)) ≡ []
     → IsNoHelp stopped → IsNoHelp w.stopped → IsNoHelp (walked_from s.rules names stopped w word).stopped
 walked_from-no_help s names (Some p) w word enabled e n m = n
 walked_from-no_help s names None w word enabled e n m =

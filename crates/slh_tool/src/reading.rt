@@ -1,6 +1,8 @@
-ghost use Rattle.std.specs.Prelude.{◌≡◌, ◌+◌, ◌-◌, ◌≤◌, ◌^◌, ◌++◌, [], length, take, IfOk, IfErr, OnOk};
-ghost use Rattle.slh_core.specs.PreHash.{PH};
+ghost use Rattle.std.specs.Prelude.{◌≡◌, ℕ, ◌+◌, ◌≤◌, ◌^◌, List, ◌++◌, [], length, take, IfOk, IfErr, OnOk};
+ghost use Rattle.slh_core.specs.PreHashing.{HasFed};
+ghost use Rattle.slh_core.specs.declared.pre_hash.PreHash.{PreHash};
 ghost use Rattle.slh_devices.specs.Devices.{CountsFailure, EndsBy, HasPart};
+ghost use Rattle.slh_files.specs.KeyFile.{AreReadAlike, IsKeyFront};
 ghost use Rattle.slh_tool.specs.Reading.{IsDigestOfFile, IsFile, IsFrontOfFile, IsFrontOfKeyFile, RefusesFile, file_limit};
 
 use super::fault::Fault;
@@ -14,6 +16,84 @@ const FILE_LIMIT: usize = 1 << 30;
 
 /// The bytes that are read at a time.
 const PIECE: usize = 4096;
+
+/// What the bytes of a file are handed to, a piece at a time.
+trait Receiver {
+    // That it has received these bytes, put end to end, since it was the first of the two.
+    ghost has_received: { Self → Self → List ℕ → Type 0 };
+
+    fn receive(&mut self, piece: &[u8]) -> Result<(), AllocError>
+        requires { (begin : Self) × (bytes : List ℕ) × has_received begin self.old bytes }
+        ensures { OnOk result ((begin : Self) (bytes : List ℕ) → has_received begin self.old bytes
+            → has_received begin self.new (bytes ++ piece.now)) };
+}
+
+/// The first bytes of a file, at most `most` of them.
+#[derive(Drop)]
+struct Front<A: Allocator> {
+    bytes: Vec<u8, A>,
+    most: usize,
+}
+
+impl<A: Allocator> Receiver for Front<A> {
+    ghost has_received = { λ begin front bytes. (front.most ≡ begin.most) × (front.bytes.items ≡ take begin.most bytes) };
+
+    fn receive(&mut self, piece: &[u8]) -> Result<(), AllocError> {
+        let room = self.most - self.bytes.len();
+        self.bytes
+            .extend_from_slice(&piece[..piece.len().min(room)])
+    }
+}
+
+/// What the key of a key file depends on, or its first fault.
+#[derive(Drop)]
+struct KeyFront<A: Allocator> {
+    bytes: Vec<u8, A>,
+}
+
+impl<A: Allocator> Receiver for KeyFront<A> {
+    ghost has_received = { λ begin front bytes. IsKeyFront front.bytes.items × AreReadAlike front.bytes.items bytes };
+
+    fn receive(&mut self, piece: &[u8]) -> Result<(), AllocError> {
+        push_key_bytes(&mut self.bytes, piece)
+    }
+}
+
+impl Receiver for PreHasher {
+    ghost has_received = { λ begin hasher bytes. (function : PreHash) → HasFed begin function [] → HasFed hasher function bytes };
+
+    fn receive(&mut self, piece: &[u8]) -> Result<(), AllocError> {
+        self.update(piece);
+        Ok(())
+    }
+}
+
+/// Hands the bytes of a file to a receiver, of which no more than a piece is held here.
+fn read_through<F: Files, R: Receiver>(
+    files: &mut F,
+    path: &str,
+    receiver: &mut R,
+) -> Result<(), Fault>
+    requires none { R.has_received receiver.old receiver.old [] }
+    ensures done { OnOk result ((whole : List ℕ) × IsFile (F.state files.old) path.now whole
+        × R.has_received receiver.old receiver.new whole) }
+    ensures refused { IfErr result (RefusesFile (F.state files.old) (F.state files.new) path.now) }
+    ensures kept { OnOk result (F.state files.new ≡ F.state files.old) }
+{
+    let mut piece = [0; PIECE];
+    let mut at = 0;
+    while at <= FILE_LIMIT {
+        let Ok(part) = next_part(files, path, at, &mut piece) else {
+            return Err(Fault::ReadFailed);
+        };
+        if part.is_empty() {
+            return Ok(());
+        }
+        receiver.receive(part)?;
+        at += part.len();
+    }
+    Err(Fault::FileTooLong)
+}
 
 /// The bytes of a file.
 pub(crate) fn read_file<A: Allocator, F: Files>(
@@ -40,33 +120,12 @@ pub(crate) fn read_front<A: Allocator, F: Files>(
     ensures refused { IfErr result (RefusesFile (F.state files.old) (F.state files.new) path.now) }
     ensures kept { OnOk result (F.state files.new ≡ F.state files.old) }
 {
-    let mut front = Vec::new(alloc);
-    let mut piece = [0; PIECE];
-    let mut at = 0;
-    while at <= FILE_LIMIT {
-        let Ok(part) = next_part(files, path, at, &mut piece) else {
-            return Err(Fault::ReadFailed);
-        };
-        if part.is_empty() {
-            return Ok(front);
-        }
-        push_front(&mut front, part, most + 1)?;
-        at += part.len();
-    }
-    Err(Fault::FileTooLong)
-}
-
-/// Pushes a prefix of the bytes, so that no more than `most` are held.
-fn push_front<A: Allocator>(
-    front: &mut Vec<u8, A>,
-    part: &[u8],
-    most: usize,
-) -> Result<(), AllocError>
-    requires few { length front.old.items ≤ most }
-    ensures pushed { OnOk result (front.new.items ≡ front.old.items ++ take (most - length front.old.items) part.now) }
-{
-    let room = most - front.len();
-    front.extend_from_slice(&part[..part.len().min(room)])
+    let mut front = Front {
+        bytes: Vec::new(alloc),
+        most: most + 1,
+    };
+    read_through(files, path, &mut front)?;
+    Ok(front.bytes)
 }
 
 /// What the key of a key file depends on, or its first fault: the other bytes are read, but not held.
@@ -79,20 +138,11 @@ pub(crate) fn read_key_file<A: Allocator, F: Files>(
     ensures refused { IfErr result (RefusesFile (F.state files.old) (F.state files.new) path.now) }
     ensures kept { OnOk result (F.state files.new ≡ F.state files.old) }
 {
-    let mut front = Vec::new(alloc);
-    let mut piece = [0; PIECE];
-    let mut at = 0;
-    while at <= FILE_LIMIT {
-        let Ok(part) = next_part(files, path, at, &mut piece) else {
-            return Err(Fault::ReadFailed);
-        };
-        if part.is_empty() {
-            return Ok(front);
-        }
-        push_key_bytes(&mut front, part)?;
-        at += part.len();
-    }
-    Err(Fault::FileTooLong)
+    let mut front = KeyFront {
+        bytes: Vec::new(alloc),
+    };
+    read_through(files, path, &mut front)?;
+    Ok(front.bytes)
 }
 
 /// The digest of a file, of which no more than a piece is held.
@@ -106,19 +156,8 @@ pub(crate) fn digest_file<F: Files>(
     ensures kept { OnOk result (F.state files.new ≡ F.state files.old) }
 {
     let mut hasher = PreHasher::new(function);
-    let mut piece = [0; PIECE];
-    let mut at = 0;
-    while at <= FILE_LIMIT {
-        let Ok(part) = next_part(files, path, at, &mut piece) else {
-            return Err(Fault::ReadFailed);
-        };
-        if part.is_empty() {
-            return Ok(hasher.finish());
-        }
-        hasher.update(part);
-        at += part.len();
-    }
-    Err(Fault::FileTooLong)
+    read_through(files, path, &mut hasher)?;
+    Ok(hasher.finish())
 }
 
 /// The next bytes of a file from a place on: none at its end, and none past the limit but one.

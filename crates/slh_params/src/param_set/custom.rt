@@ -40,9 +40,9 @@ impl RecordFault {
 }
 
 impl ParamSet {
-    /// The set of these numbers: `n` is 16, 24 or 32, `lg_w` 2, 4 or 8, `hp` 1 to 12, `a` 1 to 14 and `k` 1 to 64; `d` is
-    /// at least 1, and the trees below the top layer are at most 64 levels high together. Refused with the first member
-    /// that is invalid.
+    /// The set of these numbers: `n` is 16, 24 or 32, `lg_w` 2, 4 or 8, `hp` 1 to 12, `a` 1 to 14 and `k` 1 to 64; `d`
+    /// is at least 1, and the trees below the top layer are at most 64 levels high together. Refused with the first
+    /// member that is invalid.
     pub fn custom(
         n: u32,
         lg_w: u32,

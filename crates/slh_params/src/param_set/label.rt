@@ -10,8 +10,8 @@ use arrayvec::ArrayString;
 use std::str;
 
 impl ParamSet {
-    /// The name of a set of the standard; of any other set, `custom:` and n, lg_w, hp, d, a and k in decimal, with commas
-    /// between them. It has at most 22 bytes.
+    /// The name of a set of the standard; of any other set, `custom:` and n, lg_w, hp, d, a and k in decimal, with
+    /// commas between them. It has at most 22 bytes.
     pub fn label(&self) -> ArrayString<32>
         ensures { result.bytes ≡ label self.now }
     {
@@ -30,8 +30,8 @@ impl ParamSet {
         label
     }
 
-    /// The set of this label; `None` where the bytes are no set's label. So a number has no sign, space or leading zero, and
-    /// a set of the standard goes by its name alone.
+    /// The set of this label; `None` where the bytes are no set's label. So a number has no sign, space or leading
+    /// zero, and a set of the standard goes by its name alone.
     pub fn from_label(text: &[u8]) -> Option<ParamSet>
         ensures labelled { result ≡ set_of_label text.now }
         ensures some { IfSome result (λ set. label set ≡ text.now) }
@@ -81,8 +81,8 @@ fn listed_set(text: &[u8]) -> Option<ParamSet>
     ParamSet::custom(n, lg_w, hp, d, a, k).ok()
 }
 
-/// The number of at most two digits behind the first byte, and what follows it. Where there is none, 0, which is no number
-/// of a set.
+/// The number of at most two digits behind the first byte, and what follows it. Where there is none, 0, which no set
+/// has.
 fn number(text: &[u8]) -> (u32, &[u8])
     ensures { (m : ℕ) (rest : List ℕ) → IsAtFront text.now m rest → (result.0 ≡ m) × (result.1.now ≡ rest) }
 {

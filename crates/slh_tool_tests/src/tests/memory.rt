@@ -12,16 +12,23 @@ use std::thread::Threads;
 /// More growths than any command here asks for.
 const MANY: u64 = 2000;
 
-/// Runs a command, of which one growth is refused, and tells whether it was asked for.
-fn run_refused<R: AllocGlobal + Threads + Sync>(
+/// What a command answered, how many growths it asked for, and whether one was refused.
+struct Run {
+    answer: Answer,
+    growths: u64,
+    refused: bool,
+}
+
+/// Runs a command with these files and this standard input. The growth of that number is refused; none where it is 0.
+fn run<R: AllocGlobal + Threads + Sync>(
     rt: &R,
     words: &[&str],
     files: &[(&str, &[u8])],
+    input: &[u8],
     refused: u64,
-) -> Result<(Answer, bool), Fail> {
+) -> Result<Run, Fail> {
     let alloc = Refusing::new(rt.alloc(), rt.alloc(), refused)?;
     let words = words_of(rt.alloc(), words)?;
-    let digits = [b'7'; 96];
     let mut output = Writer::new(Vec::new(rt.alloc()));
     let mut errors = Writer::new(Vec::new(rt.alloc()));
     let status = command(
@@ -29,7 +36,7 @@ fn run_refused<R: AllocGlobal + Threads + Sync>(
         alloc.clone()?,
         words.as_slice(),
         &mut Folder::new(files),
-        &mut Reader::new(digits.as_slice()),
+        &mut Reader::new(input),
         &mut output,
         &mut errors,
     );
@@ -38,7 +45,11 @@ fn run_refused<R: AllocGlobal + Threads + Sync>(
         output: output.into_inner(),
         errors: errors.into_inner(),
     };
-    Ok((answer, alloc.has_refused()))
+    Ok(Run {
+        answer,
+        growths: alloc.growths(),
+        refused: alloc.has_refused(),
+    })
 }
 
 #[test]
@@ -83,45 +94,21 @@ fn refuses_each_growth_and_then_works(rt: HostRuntime) -> Result<(), Fail> {
     for words in commands {
         let mut refusals = 0u64;
         for nth in 1..MANY {
-            let (answer, refused) = run_refused(&rt, words, &files, nth)?;
-            if !refused {
-                assert!(rt; answer.status < 2);
+            let run = run(&rt, words, &files, &[b'7'; 96], nth)?;
+            if !run.refused {
+                assert!(rt; run.answer.status < 2);
                 break;
             }
-            assert!(rt; answer.output.is_empty());
-            assert_eq!(rt; answer.errors.as_slice(), b"slh: 1 NoMemory\n".as_slice());
+            assert!(rt; run.answer.output.is_empty());
+            assert_eq!(rt;
+                run.answer.errors.as_slice(),
+                b"slh: 1 NoMemory\n".as_slice()
+            );
             refusals = nth;
         }
         assert!(rt; 0 < refusals && refusals.wrapping_add(1) < MANY);
     }
     Ok(())
-}
-
-/// What a command answers, and how many growths it asks for, none of which is refused.
-fn growths<R: AllocGlobal + Threads + Sync>(
-    rt: &R,
-    words: &[&str],
-    files: &[(&str, &[u8])],
-) -> Result<(Answer, u64), Fail> {
-    let alloc = Refusing::new(rt.alloc(), rt.alloc(), 0)?;
-    let words = words_of(rt.alloc(), words)?;
-    let mut output = Writer::new(Vec::new(rt.alloc()));
-    let mut errors = Writer::new(Vec::new(rt.alloc()));
-    let status = command(
-        rt,
-        alloc.clone()?,
-        words.as_slice(),
-        &mut Folder::new(files),
-        &mut Reader::new([].as_slice()),
-        &mut output,
-        &mut errors,
-    );
-    let answer = Answer {
-        status,
-        output: output.into_inner(),
-        errors: errors.into_inner(),
-    };
-    Ok((answer, alloc.growths()))
 }
 
 /// The growths of `verify` with a signature file of this many bytes.
@@ -133,11 +120,11 @@ fn growths_of_verify<R: AllocGlobal + Threads + Sync>(rt: &R, len: usize) -> Res
         ("abc", b"abc".as_slice()),
         ("sig", signature.as_slice()),
     ];
-    let (answer, growths) = growths(rt, &VERIFY, &files)?;
-    if answer.status == 2 {
+    let run = run(rt, &VERIFY, &files, &[], 0)?;
+    if run.answer.status == 2 {
         return Err("the command was refused".into());
     }
-    Ok(growths)
+    Ok(run.growths)
 }
 
 #[test]
@@ -149,21 +136,23 @@ fn holds_no_more_of_a_signature_than_a_byte_too_many(rt: HostRuntime) -> Result<
     Ok(())
 }
 
-/// What `public` answers to a key file of this many digits and the bytes after them, and its growths.
-fn growths_of_key_file<R: AllocGlobal + Threads + Sync>(
+/// Runs `public` with a key file of this many digits and the bytes after them.
+fn run_public<R: AllocGlobal + Threads + Sync>(
     rt: &R,
     digits: usize,
     after: &[u8],
-) -> Result<(Answer, u64), Fail> {
+) -> Result<Run, Fail> {
     let mut file = Vec::new(rt.alloc());
     file.extend_from_slice(b"slh-dsa-secret 1\nSLH-DSA-SHA2-128f\n")?;
     let len = file.len().wrapping_add(digits);
     file.resize(len, b'7')?;
     file.extend_from_slice(after)?;
-    growths(
+    run(
         rt,
         &["public", "--key", "secret"],
         &[("secret", file.as_slice())],
+        &[],
+        0,
     )
 }
 
@@ -176,11 +165,11 @@ fn holds_a_front_of_a_long_key_file(rt: HostRuntime) -> Result<(), Fail> {
         (b"77x7\n", b"slh: 13 BadHex\n"),
     ];
     for (after, errors) in afters {
-        let (_, most) = growths_of_key_file(&rt, 600, after)?;
+        let most = run_public(&rt, 600, after)?.growths;
         for digits in [4061, 4062, 40_000, 1_000_000] {
-            let (answer, growths) = growths_of_key_file(&rt, digits, after)?;
-            assert_eq!(rt; answer.errors.as_slice(), errors);
-            assert!(rt; growths <= most);
+            let run = run_public(&rt, digits, after)?;
+            assert_eq!(rt; run.answer.errors.as_slice(), errors);
+            assert!(rt; run.growths <= most);
         }
     }
     Ok(())

@@ -18,11 +18,11 @@ loop-job-preserved c =
     let l = c.args.levels.now in
     let bytes : List ℕ = c.args.given.now.bytes.now in
     let n = c.loop-job.job in
-    let Fits : ℕ → Type 0 = λ i. key_tag l c.args.sk_prf.now c.args.pk_seed.now i (node_given (key_shape l) bytes i) ≡ tag_given (key_shape l) bytes i in
+    let Fits : ℕ → Type 0 = λ i. key_tag l c.args.sk_seed.now c.args.sk_prf.now c.args.pk_seed.now i (node_given (key_shape l) bytes i) ≡ tag_given (key_shape l) bytes i in
     let same : c.as_slice.result.now ≡ c.as_slice-in-loop-job.result.now = search rules in
     let read : c.node-node.result.items ≡ node_given (key_shape l) bytes n = rw c.requires.shape at c.node-node.ensures.value in
     let given : c.tag.result.items ≡ tag_given (key_shape l) bytes n = rw c.requires.shape at c.tag.ensures in
     let made : Fits n =
-    ap (λ (xs : List ℕ). key_tag l c.args.sk_prf.now c.args.pk_seed.now n xs) (sym read) ∙ sym c.key_tag-tag.ensures.value ∙ sym c.as_slice.ensures.value ∙ same
+    ap (λ (xs : List ℕ). key_tag l c.args.sk_seed.now c.args.sk_prf.now c.args.pk_seed.now n xs) (sym read) ∙ sym c.key_tag-tag.ensures.value ∙ sym c.as_slice.ensures.value ∙ same
     ∙ c.as_slice-in-loop-job.ensures.value ∙ given in
     below_more Fits n c.loop-job.invariant made

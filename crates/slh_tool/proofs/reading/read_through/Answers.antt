@@ -1,13 +1,17 @@
+-- The receiver has received the bytes of the file so far, and at its end all of them.
 use Rattle.std.proofs.Common.{◌∙◌, ◌++◌, [], refl, sym, arith, length-append}
 use Rattle.slh_tool.proofs.Pieces.{grew_since, is_zero, none_read, read_more, read_whole, same_state, too_long}
-use Rattle.slh_tool.proofs.reading.digest_file.Goals as goal
+use Rattle.slh_tool.proofs.reading.read_through.Goals as goal
 
 pub loop-at-init : goal.loop-at-init
 loop-at-init g c = record {
   few = omega arith;
-  hashed = record { bytes = []; fed = c.new-hasher.ensures; sized = refl; front = none_read _ _ refl };
+  read = record { bytes = []; received = c.requires.none; sized = refl; begins = none_read _ _ refl };
   kept = refl;
 }
+
+pub receive-requires : goal.receive-requires
+receive-requires g c = let old = c.loop-at.invariant.read in (c.args.receiver.now, old.bytes, old.received)
 
 pub returns-in_default-clause-refused : goal.returns-in_default-clause-refused
 returns-in_default-clause-refused g c =
@@ -16,12 +20,12 @@ returns-in_default-clause-refused g c =
 
 pub returns-then-is_empty-clause-done : goal.returns-then-is_empty-clause-done
 returns-then-is_empty-clause-done g c =
-    let old = c.loop-at.invariant.hashed in (
+    let old = c.loop-at.invariant.read in (
       old.bytes,
       read_whole (g.F.Files.state c.args.files.now) (g.F.Files.state c.loop-at.files) c.args.path.now old.bytes c.in-Ok.part.now c.loop-at.at
-          c.loop-at.invariant.kept (sym old.sized) old.front c.in-Ok.ensures.end (is_zero _ _ c.is_empty.ensures c.if-is_empty.true)
+          c.loop-at.invariant.kept (sym old.sized) old.begins c.in-Ok.ensures.end (is_zero _ _ c.is_empty.ensures c.if-is_empty.true)
           (omega (arith, c.loop-at-test.true, old.sized)),
-      c.finish.ensures c.args.function old.bytes old.fed,
+      old.received,
     )
 
 pub returns-then-is_empty-clause-kept : goal.returns-then-is_empty-clause-kept
@@ -30,19 +34,19 @@ returns-then-is_empty-clause-kept g c =
 
 pub loop-at-preserved : goal.loop-at-preserved
 loop-at-preserved g c =
-    let old = c.loop-at.invariant.hashed in
+    let old = c.loop-at.invariant.read in
     record {
       few = omega (arith, c.in-Ok.ensures.count);
-      hashed = record {
+      read = record {
         bytes = old.bytes ++ c.in-Ok.part.now;
-        fed = c.update.ensures c.args.function old.bytes old.fed;
+        received = c.in_ok-receive.ensures c.args.receiver.now old.bytes old.received;
         sized = length-append old.bytes c.in-Ok.part.now ∙ omega (arith, old.sized);
-        front = read_more (g.F.Files.state c.args.files.now) (g.F.Files.state c.loop-at.files) c.args.path.now old.bytes c.in-Ok.part.now c.loop-at.at
-            c.loop-at.invariant.kept (sym old.sized) old.front c.in-Ok.ensures.part;
+        begins = read_more (g.F.Files.state c.args.files.now) (g.F.Files.state c.loop-at.files) c.args.path.now old.bytes c.in-Ok.part.now c.loop-at.at
+            c.loop-at.invariant.kept (sym old.sized) old.begins c.in-Ok.ensures.part;
       };
       kept = same_state (g.F.Files.state c.loop-at.files) (g.F.Files.state c.next_part.new.files) c.in-Ok.ensures.same c.in-Ok.ensures.failed ∙ c.loop-at.invariant.kept;
     }
 
 pub returns-clause-refused : goal.returns-clause-refused
 returns-clause-refused g c =
-    let old = c.loop-at.invariant.hashed in too_long _ old.bytes old.front (omega (arith, c.loop-at-test.false, old.sized))
+    let old = c.loop-at.invariant.read in too_long _ old.bytes old.begins (omega (arith, c.loop-at-test.false, old.sized))
