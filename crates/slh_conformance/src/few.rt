@@ -64,9 +64,16 @@ fn ht_sig_len(set: ParamSet) -> usize
 fn low_tree(set: ParamSet) -> u64
     ensures { result < 2 ^ (h (params set) - (params set).hp) }
 {
-    let tree = 0x191a_1b1c_1d1e_1f20;
-    match 1u64.checked_shl(set.h() - set.hp()) {
-        Some(bound) => tree % bound,
-        None => tree,
+    low_bits(0x191a_1b1c_1d1e_1f20, set.h() - set.hp())
+}
+
+/// `x` modulo 2 ^ `count`.
+fn low_bits(x: u64, count: u32) -> u64
+    requires { count ≤ 64 }
+    ensures { result ≡ x % 2 ^ count }
+{
+    match 1u64.checked_shl(count) {
+        Some(bound) => x % bound,
+        None => x,
     }
 }

@@ -12,7 +12,11 @@ use slh_params::ParamSet;
 use std::alloc::Global;
 use std::process::Abort;
 use std::test::Fail;
-use values::{RECORDS, Record, Signature};
+use values::{
+    RECORD_16_2_1_1_1_1, RECORD_16_4_3_22_6_33, RECORD_16_4_12_1_1_1, RECORD_16_8_2_3_4_5,
+    RECORD_24_2_1_65_1_8, RECORD_24_4_4_17_2_3, RECORD_24_8_1_2_5_7, RECORD_32_2_3_4_2_64,
+    RECORD_32_4_2_2_14_2, RECORD_32_8_5_13_3_5, Record, Signature,
+};
 
 /// Checks the numbers of a set against those of a record.
 fn check_numbers(rt: &impl Abort, set: ParamSet, record: &Record) {
@@ -134,50 +138,50 @@ fn check_record(rt: &impl Abort, alloc: Global, record: &Record) -> Result<(), F
 
 #[test]
 fn record_16_2_1_1_1_1(rt: HostRuntime) -> Result<(), Fail> {
-    check_record(&rt, rt.alloc(), &RECORDS[0])
+    check_record(&rt, rt.alloc(), &RECORD_16_2_1_1_1_1)
 }
 
 #[test]
 fn record_24_2_1_65_1_8(rt: HostRuntime) -> Result<(), Fail> {
-    check_record(&rt, rt.alloc(), &RECORDS[1])
+    check_record(&rt, rt.alloc(), &RECORD_24_2_1_65_1_8)
 }
 
 #[test]
 fn record_32_8_5_13_3_5(rt: HostRuntime) -> Result<(), Fail> {
-    check_record(&rt, rt.alloc(), &RECORDS[2])
+    check_record(&rt, rt.alloc(), &RECORD_32_8_5_13_3_5)
 }
 
 #[test]
 fn record_16_8_2_3_4_5(rt: HostRuntime) -> Result<(), Fail> {
-    check_record(&rt, rt.alloc(), &RECORDS[3])
+    check_record(&rt, rt.alloc(), &RECORD_16_8_2_3_4_5)
 }
 
 #[test]
 fn record_24_8_1_2_5_7(rt: HostRuntime) -> Result<(), Fail> {
-    check_record(&rt, rt.alloc(), &RECORDS[4])
+    check_record(&rt, rt.alloc(), &RECORD_24_8_1_2_5_7)
 }
 
 #[test]
 fn record_32_2_3_4_2_64(rt: HostRuntime) -> Result<(), Fail> {
-    check_record(&rt, rt.alloc(), &RECORDS[5])
+    check_record(&rt, rt.alloc(), &RECORD_32_2_3_4_2_64)
 }
 
 #[test]
 fn record_16_4_12_1_1_1(rt: HostRuntime) -> Result<(), Fail> {
-    check_record(&rt, rt.alloc(), &RECORDS[6])
+    check_record(&rt, rt.alloc(), &RECORD_16_4_12_1_1_1)
 }
 
 #[test]
 fn record_24_4_4_17_2_3(rt: HostRuntime) -> Result<(), Fail> {
-    check_record(&rt, rt.alloc(), &RECORDS[7])
+    check_record(&rt, rt.alloc(), &RECORD_24_4_4_17_2_3)
 }
 
 #[test]
 fn record_32_4_2_2_14_2(rt: HostRuntime) -> Result<(), Fail> {
-    check_record(&rt, rt.alloc(), &RECORDS[8])
+    check_record(&rt, rt.alloc(), &RECORD_32_4_2_2_14_2)
 }
 
 #[test]
 fn record_16_4_3_22_6_33(rt: HostRuntime) -> Result<(), Fail> {
-    check_record(&rt, rt.alloc(), &RECORDS[9])
+    check_record(&rt, rt.alloc(), &RECORD_16_4_3_22_6_33)
 }

@@ -13,20 +13,21 @@ use std::thread::Threads;
 const MANY: u64 = 2000;
 
 /// What a command answered, how many growths it asked for, and whether one was refused.
-struct Run {
+#[derive(Drop)]
+struct Counted {
     answer: Answer,
     growths: u64,
     refused: bool,
 }
 
 /// Runs a command with these files and this standard input. The growth of that number is refused; none where it is 0.
-fn run<R: AllocGlobal + Threads + Sync>(
+fn run_counted<R: AllocGlobal + Threads + Sync>(
     rt: &R,
     words: &[&str],
     files: &[(&str, &[u8])],
     input: &[u8],
     refused: u64,
-) -> Result<Run, Fail> {
+) -> Result<Counted, Fail> {
     let alloc = Refusing::new(rt.alloc(), rt.alloc(), refused)?;
     let words = words_of(rt.alloc(), words)?;
     let mut output = Writer::new(Vec::new(rt.alloc()));
@@ -45,7 +46,7 @@ fn run<R: AllocGlobal + Threads + Sync>(
         output: output.into_inner(),
         errors: errors.into_inner(),
     };
-    Ok(Run {
+    Ok(Counted {
         answer,
         growths: alloc.growths(),
         refused: alloc.has_refused(),
@@ -94,7 +95,7 @@ fn refuses_each_growth_and_then_works(rt: HostRuntime) -> Result<(), Fail> {
     for words in commands {
         let mut refusals = 0u64;
         for nth in 1..MANY {
-            let run = run(&rt, words, &files, &[b'7'; 96], nth)?;
+            let run = run_counted(&rt, words, &files, &[b'7'; 96], nth)?;
             if !run.refused {
                 assert!(rt; run.answer.status < 2);
                 break;
@@ -120,7 +121,7 @@ fn growths_of_verify<R: AllocGlobal + Threads + Sync>(rt: &R, len: usize) -> Res
         ("abc", b"abc".as_slice()),
         ("sig", signature.as_slice()),
     ];
-    let run = run(rt, &VERIFY, &files, &[], 0)?;
+    let run = run_counted(rt, &VERIFY, &files, &[], 0)?;
     if run.answer.status == 2 {
         return Err("the command was refused".into());
     }
@@ -141,13 +142,13 @@ fn run_public<R: AllocGlobal + Threads + Sync>(
     rt: &R,
     digits: usize,
     after: &[u8],
-) -> Result<Run, Fail> {
+) -> Result<Counted, Fail> {
     let mut file = Vec::new(rt.alloc());
     file.extend_from_slice(b"slh-dsa-secret 1\nSLH-DSA-SHA2-128f\n")?;
     let len = file.len().wrapping_add(digits);
     file.resize(len, b'7')?;
     file.extend_from_slice(after)?;
-    run(
+    run_counted(
         rt,
         &["public", "--key", "secret"],
         &[("secret", file.as_slice())],
