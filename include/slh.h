@@ -334,8 +334,8 @@ uint32_t slh_keygen_job(uint32_t set, uint32_t xmss_levels, const uint8_t *sk_se
 
 /*
  * The secret key of these seeds, from the answers of all jobs, into the 4n bytes of sk. Where each answer is what
- * slh_keygen_job writes, it is that of slh_keygen. An answer that was exchanged, changed or made of other
- * seeds has another tag.
+ * slh_keygen_job writes, it is that of slh_keygen. SLH_ANSWERS_DISAGREE where a node has not the tag of its job under
+ * these seeds and levels.
  * Answers: SLH_DONE; SLH_NO_SUCH_SET, SLH_BAD_CUTTING, SLH_BAD_SEED_LENGTH, SLH_BAD_OUTPUT_LENGTH,
  * SLH_BAD_ANSWERS_LENGTH, SLH_ANSWERS_DISAGREE.
  */
