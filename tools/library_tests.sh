@@ -110,10 +110,10 @@ one "the header is C++" "$cxx" -std=c++11 "${strict[@]}" -I "$prefix/include" -f
 
 one "the test program compiles" "$cc" -std=c99 "${strict[@]}" "${sanitized[@]}" -I "$prefix/include" \
     -o "$work/tests" "$here/tools/library_tests.c" "$lib/libslh.a" -pthread
-count "calls in and out of rule" "$work/tests"
+count "valid and invalid calls" "$work/tests"
 one "the test program of jobs compiles" "$cc" -std=c99 "${strict[@]}" "${sanitized[@]}" -I "$prefix/include" \
     -o "$work/jobs_tests" "$here/tools/library_jobs_tests.c" "$lib/libslh.a"
-count "jobs in and out of rule" "$work/jobs_tests"
+count "valid and invalid jobs" "$work/jobs_tests"
 one "the program that measures the stack compiles" "$cc" -std=c99 "${strict[@]}" -I "$prefix/include" \
     -o "$work/stack" "$here/tools/library_stack.c" "$lib/libslh.a" -pthread -Wl,-z,now
 one "the stack is below the limits" "$work/stack"

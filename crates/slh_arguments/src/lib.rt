@@ -149,14 +149,16 @@ const STATUS_HELP: &str =
     "Exit status: 0 for done, valid, consistent or all tests passed; 1 for invalid, inconsistent or a failed test; 2 for refused.
 A refusal writes `slh: NUMBER NAME` to standard error; docs/FORMATS.md explains the numbers.";
 
-/// The program with no subcommand so far.
-fn no_command<'a>(alloc: Global) -> Result<Command<'a>, AllocError>
+const ABOUT: &str = "Keys and signatures of SLH-DSA (FIPS 205) with SHA-2";
+
+/// The program with no subcommand so far, what it is for and what its help ends with.
+fn no_command<'a>(alloc: Global, about: &'a str, help: &'a str) -> Result<Command<'a>, AllocError>
     ensures { IfOk result (λ c. app_of c ≡ no_command) }
 {
     Command::new(alloc, "slh")
         .no_binary_name(true)
-        .about("Keys and signatures of SLH-DSA (FIPS 205) with SHA-2")
-        .after_help(STATUS_HELP)
+        .about(about)
+        .after_help(help)
         .bin_name("slh")
 }
 
@@ -164,7 +166,7 @@ fn no_command<'a>(alloc: Global) -> Result<Command<'a>, AllocError>
 fn seed_commands<'a>(alloc: Global) -> Result<Command<'a>, AllocError>
     ensures { IfOk result (λ c. app_of c ≡ seed_app) }
 {
-    no_command(alloc)?
+    no_command(alloc, ABOUT, STATUS_HELP)?
         .subcommand(params_command(alloc)?)?
         .subcommand(root_command(alloc)?)?
         .subcommand(keygen_command(alloc)?)

@@ -1,10 +1,12 @@
-//! Writing key files within little memory.
+//! Key files, and writing them within little memory.
 use crate::fixtures::key;
 use linked_list_allocator::LocalHeap;
 use slh_files::{FileFault, write_public, write_secret};
 use slh_params::ParamSet;
 use std::process::Abort;
 use std::test::Fail;
+
+mod lines;
 
 /// Whether the file was written as it should be; if not, memory ran out.
 fn is_written(rt: &impl Abort, written: Result<String<&LocalHeap>, FileFault>, file: &str) -> bool {

@@ -1,8 +1,12 @@
-//! Tests that cross crates: worked examples, and values that other implementations made.
+//! Tests of one thread: worked examples, refusals, and values that other implementations made.
 #![tactic(auto, using(slh_params::proofs::Bounds::n_high))]
 
 #[cfg(test)]
 mod contexts;
+#[cfg(test)]
+mod custom_sets;
+#[cfg(test)]
+mod cuttings;
 #[cfg(test)]
 mod damage;
 #[cfg(test)]
@@ -29,3 +33,5 @@ mod pre_hash;
 mod records;
 #[cfg(test)]
 mod signatures;
+#[cfg(test)]
+mod trees;

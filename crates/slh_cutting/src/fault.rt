@@ -16,7 +16,7 @@ pub enum CutTree {
 #[derive(Clone, Copy, PartialEq, Eq, Debug, Error)]
 pub enum CutFault {
     /// The levels or the points of one kind of tree are invalid.
-    #[error("the levels or cut points are out of rule")]
+    #[error("the levels or cut points are invalid")]
     BadCutting {
         /// The kind of tree. XMSS is judged first.
         tree: CutTree,

@@ -17,6 +17,3 @@ pub use cutting::Cutting;
 pub use fault::{CutFault, CutTree};
 pub use jobs::{job, keygen_job, keygen_jobs, sign_jobs};
 pub use range::{JobRange, JobTree};
-
-#[cfg(test)]
-mod tests;

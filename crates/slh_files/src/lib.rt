@@ -20,5 +20,3 @@ mod key_front;
 mod key_kind;
 mod key_text;
 mod lines;
-#[cfg(test)]
-mod tests;

@@ -14,7 +14,7 @@ pub enum Fault {
     NoMemory,
     #[error("the context has over 255 bytes")]
     ContextTooLong,
-    #[error("the levels or cut points are out of rule")]
+    #[error("the levels or cut points are invalid")]
     BadCutting,
     #[error("the file is no key file of the kind that is asked for")]
     NotAKeyFile,
@@ -32,9 +32,9 @@ pub enum Fault {
     NotAList,
     #[error("a member of the vector file is missing")]
     Missing { test: u64, member: Member },
-    #[error("a member of the vector file is not as stated")]
+    #[error("a member of the vector file is invalid")]
     Bad { test: u64, member: Member },
-    #[error("the words are no command of the program")]
+    #[error("the arguments are no command of the program")]
     BadWords,
     #[error("a file or the standard input could not be read")]
     ReadFailed,

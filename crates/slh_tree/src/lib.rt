@@ -17,8 +17,3 @@ pub use range::{hash_range, root};
 pub use record::PathRec;
 pub use stack::Stack;
 pub use tree::Tree;
-
-#[cfg(test)]
-mod example;
-#[cfg(test)]
-mod tests;

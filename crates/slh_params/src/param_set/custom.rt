@@ -12,7 +12,7 @@ use thiserror::Error;
 #[derive(Clone, Copy, PartialEq, Eq, Debug, Error)]
 pub enum RecordFault {
     /// A member is invalid.
-    #[error("the member {member} of the parameter set is out of rule")]
+    #[error("the member {member} of the parameter set is invalid")]
     BadRecord {
         /// The first such member, in the order n, lg_w, hp, d, a, k.
         member: &'static str,

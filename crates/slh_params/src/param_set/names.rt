@@ -40,7 +40,6 @@ impl ParamSet {
     }
 
     /// The name of the set in the standard, or `custom`.
-    #[tactic(auto, unfolding(crate::specs::ParamSet::name))]
     pub fn name(&self) -> &'static str
         ensures { result.now ≡ name self.now }
     {

@@ -1,10 +1,12 @@
 //! Worked examples of paths, climbs and covers.
 ghost use Rattle.std.specs.Prelude.{◌<◌, ◌^◌};
 
-use super::*;
-use crate::example::{Example, node_at};
+use example::{Example, node_at};
 use slh_params::node_of;
+use slh_tree::{Cover, PathRec, climb, gather, hash_range, path, root};
 use std::process::Abort;
+
+mod example;
 
 #[test]
 fn paths_and_climbs_of_four_leaves(rt: HostRuntime) {

@@ -1,6 +1,8 @@
 //! Worked examples of cuttings, of job numbers and of what is refused.
-use super::*;
 use Cuts::{Levels, Points};
+use slh_cutting::{
+    CutFault, CutTree, Cuts, Cutting, JobRange, JobTree, job, keygen_job, keygen_jobs, sign_jobs,
+};
 use slh_params::ParamSet;
 use std::process::Abort;
 use std::test::Fail;

@@ -1,5 +1,8 @@
-use super::*;
+//! The lines of key files: what is written, what is read, and each refusal.
 use slh_core::{PublicKey, SecretKey};
+use slh_files::{
+    AnyKey, FileFault, read_key, read_public, read_secret, write_public, write_secret,
+};
 use slh_params::ParamSet;
 use std::process::Abort;
 use std::test::Fail;

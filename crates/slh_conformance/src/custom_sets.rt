@@ -1,4 +1,5 @@
-use super::*;
+//! Parameter sets of other numbers than the standard's: what is refused, and labels.
+use slh_params::{ParamSet, RecordFault};
 use std::test::Fail;
 
 /// Invalid records n, lg_w, hp, d, a, k, each with its first invalid member.
@@ -36,7 +37,7 @@ fn refused_member(record: &[u32; 6]) -> &'static str {
 }
 
 #[test]
-fn numbers_out_of_rule_are_refused(rt: HostRuntime) {
+fn invalid_numbers_are_refused(rt: HostRuntime) {
     for (record, member) in &REFUSED {
         assert_eq!(rt; refused_member(record), *member);
     }
@@ -50,7 +51,7 @@ fn a_refusal_is_told(rt: HostRuntime) -> Result<(), Fail> {
     let text = fault.to_string(rt.alloc())?;
     assert_eq!(rt;
         text.as_str(),
-        "the member lg_w of the parameter set is out of rule"
+        "the member lg_w of the parameter set is invalid"
     );
     Ok(())
 }

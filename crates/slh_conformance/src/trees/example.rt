@@ -1,18 +1,18 @@
 //! A tree for tests: the bytes of its node (z, i) are z, i and the second bytes of the two children.
 ghost use Rattle.std.specs.Prelude.{◌≡◌, ◌≤◌, ◌^◌, ◌%◌, [], ◌∷◌, slice_index, refl};
 
-use crate::tree::Tree;
 use slh_params::{Node, node_of};
+use slh_tree::Tree;
 use std::cell::Cell;
 
 /// A tree that counts how often a leaf was asked for, in `calls`, and keeps which ones were: leaf i as bit i of
 /// `asked`.
 #[derive(Drop)]
-pub(crate) struct Example {
-    pub(crate) height: u32,
-    pub(crate) leaves: u32,
-    pub(crate) calls: Cell<u32>,
-    pub(crate) asked: Cell<u64>,
+pub(super) struct Example {
+    pub(super) height: u32,
+    pub(super) leaves: u32,
+    pub(super) calls: Cell<u32>,
+    pub(super) asked: Cell<u64>,
     ghost low: { 1 ≤ height },
     ghost high: { height ≤ 6 },
     ghost all: { leaves ≡ 2 ^ height },
@@ -20,7 +20,7 @@ pub(crate) struct Example {
 
 impl Example {
     /// The tree of this height, of which no leaf was asked for yet.
-    pub(crate) fn of(height: u32) -> Example
+    pub(super) fn of(height: u32) -> Example
         requires low { 1 ≤ height }
         requires high { height ≤ 6 }
         ensures { result.height ≡ height }
@@ -60,7 +60,7 @@ impl Tree for Example {
 }
 
 /// The node (z, i), written out: above the leaves its children's second bytes are their indices.
-pub(crate) fn node_at(z: u32, i: u32) -> [u8; 4] {
+pub(super) fn node_at(z: u32, i: u32) -> [u8; 4] {
     let byte = |x: u32| (x % 256) as u8;
     if z == 0 {
         [0, byte(i), 0, 0]
