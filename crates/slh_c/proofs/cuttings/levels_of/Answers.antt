@@ -1,3 +1,4 @@
+-- Levels are made exactly where their four bounds hold, and two of the same numbers are equal.
 use Rattle.std.proofs.Common.{◌≡◌, ◌≤◌, ◌↔◌, refl, subst, ap, ◌∙◌, ℕ, Bool, true, false, Option, Some, None}
 use Rattle.std.specs.Prelude.{◌&&◌, nat_le, IsSome, IfSome}
 use Rattle.std.proofs.lemmas.Bool.{le-leb, leb-true, and_from, and_parts, cases_Bool, both_ways, false≢true}

@@ -1,3 +1,4 @@
+-- What `hash_verify_digest` says of the key and the digest holds of the bytes that they were read from.
 use Rattle.std.proofs.Common.{◌≡◌, ◌≤◌, ◌↔◌, sym, ◌∙◌, subst, refl, ℕ, List, length, Bool, IsTrue, Option, Some, IsSomeAnd}
 use Rattle.slh_core.specs.Keys.{Key}
 use Rattle.slh_core.specs.Messages.{pre_hash_message}

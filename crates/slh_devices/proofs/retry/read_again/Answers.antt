@@ -1,3 +1,4 @@
+-- An interrupted read leaves what it left before, so what the turns before left is kept at each end.
 use Rattle.std.proofs.KnownBytes.{Keeps-refl, Keeps-trans}
 use Rattle.slh_devices.proofs.Parts.{kept_consumes}
 use Rattle.slh_devices.proofs.retry.read_again.Goals as goal

@@ -1,3 +1,4 @@
+-- An interrupted write leaves what it left before, so what the turns before left is kept at each end.
 use Rattle.std.proofs.KnownBytes.{Keeps-refl, Keeps-trans}
 use Rattle.slh_devices.proofs.Parts.{kept_appends}
 use Rattle.slh_devices.proofs.retry.write_again.Goals as goal

@@ -1,3 +1,4 @@
+-- Where one of the three parts can't be written, what is there is a prefix of the whole; else it is the whole.
 use Rattle.std.proofs.Common.{rules}
 use Rattle.std.specs.Fmt.{decimal}
 use Rattle.slh_devices.proofs.Texts.{first_of_three, stopped_after, third_ended}

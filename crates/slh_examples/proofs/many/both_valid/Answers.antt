@@ -1,3 +1,4 @@
+-- The two verdicts in their places are those of the two items, so both are true exactly where both are valid.
 use Rattle.std.proofs.Common.{rules, ◌↔◌, IsTrue, sym}
 use Rattle.slh_par.specs.Verdicts.{IsVerified}
 use Rattle.slh_examples.proofs.Verdicts.{first_verdict, second_verdict}

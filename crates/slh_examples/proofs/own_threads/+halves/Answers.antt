@@ -1,3 +1,4 @@
+-- Each half of the jobs has room for its answers in its part of the buffer, and the two together have all.
 use Rattle.std.proofs.Common.{rules, arith, ◌≡◌, ◌+◌, ◌-◌, ◌/◌, ℕ, length, refl}
 use Rattle.slh_jobs.specs.Jobs.{start_of}
 use Rattle.slh_examples.specs.JobRanges.{IsRoomFor}

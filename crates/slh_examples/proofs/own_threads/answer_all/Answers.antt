@@ -1,3 +1,4 @@
+-- The buffer has room for the answers of all jobs, from the first on.
 use Rattle.slh_jobs.specs.Jobs.{jobs}
 use Rattle.slh_examples.specs.JobRanges.{AreAnswersOf}
 use Rattle.slh_examples.proofs.JobRanges.{some_job, room_for_all, all_jobs}

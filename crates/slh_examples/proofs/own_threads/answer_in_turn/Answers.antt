@@ -1,3 +1,4 @@
+-- Each job's answer lies inside the buffer, and what was written before it stays.
 use Rattle.std.proofs.Common.{rules, arith, ◌≡◌, ◌+◌, ◌-◌, ◌≤◌, ◌<◌, length, refl}
 use Rattle.slh_jobs.specs.Jobs.{start_of, len_of}
 use Rattle.slh_examples.specs.JobRanges.{IsRoomFor}

@@ -1,3 +1,4 @@
+-- The answers of all jobs fit together, so that `sign_join` does not refuse them and gives the signature.
 use Rattle.std.proofs.Common.{rules, ◌≡◌, [], length, ◌∙◌}
 use Rattle.slh_core.specs.Messages.{pure_message}
 use Rattle.slh_core.specs.declared.randomizer.Randomizer.TheVariants.{Deterministic}

@@ -1,3 +1,4 @@
+-- What the loop keeps: covers, records and kept values are those of the ranges so far, in their order.
 use Rattle.std.proofs.Common.{◌≡◌, ◌++◌, map}
 use Rattle.std.specs.List.{flat_map}
 use Rattle.std.specs.Vec.Iter.{into_iter_items}

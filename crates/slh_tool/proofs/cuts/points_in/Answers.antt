@@ -1,3 +1,4 @@
+-- The points read so far are those of the parts so far; one part that is no number, or a 257th, refuses the list.
 use Rattle.std.proofs.Common.{lit<, ◌≡◌, ◌≢◌, Some, ◌+◌, length, rules, arith, ◌∙◌}
 use Rattle.std.proofs.lemmas.Iterator.Consumers.{YieldsList-end, YieldsList-turn}
 use Rattle.std.proofs.lemmas.Iterator.Splits.{YieldsList-from_str_split}

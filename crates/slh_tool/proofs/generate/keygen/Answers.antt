@@ -1,3 +1,4 @@
+-- The set that was found is the label's, so the refusal or the key is what the arguments ask for.
 use Rattle.std.proofs.Common.{◌≡◌, Some, rules, string_bytes}
 use Rattle.slh_params.specs.Label.{set_of_label}
 use Rattle.slh_tool.specs.Keys.{key_of_seeds}

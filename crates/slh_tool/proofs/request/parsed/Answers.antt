@@ -1,3 +1,4 @@
+-- The words ask for what the program's command line, as `clap` reads it, says, or are refused as it refuses.
 use Rattle.std.proofs.Common.{◌≡◌, ◌∙◌, List, map, string_bytes, sym, ap, subst}
 use Rattle.clap.specs.Words.{App, Text, app_of, fault_of, is_simple, kind_of, subcommand_of}
 use Rattle.clap.specs.Faults.{is_simple_and_free}

@@ -1,3 +1,4 @@
+-- Options that were read are the arguments', so the refusal or the signature is what the arguments ask for.
 use Rattle.std.proofs.Common.{◌≡◌, Some, option_map, sym, subst}
 use Rattle.slh_params.specs.declared.param_set.ParamSet.{ParamSet}
 use Rattle.slh_tool.specs.Cuts.{IsCutting}

@@ -1,3 +1,4 @@
+-- Where the number can't be written, what is there is a prefix of the whole; else it is the whole.
 use Rattle.std.proofs.Common.{rules, ◌++◌, ℕ, List, codes}
 use Rattle.std.specs.Fmt.{decimal}
 use Rattle.slh_devices.proofs.Texts.{ended, stopped}

@@ -1,3 +1,4 @@
+-- Reading the key keeps the files, so the verdict is of the files as they were.
 use Rattle.std.proofs.Common.{subst}
 use Rattle.slh_devices.specs.Devices.{FilesState}
 use Rattle.slh_tool.specs.Replies.{JudgesWith, RefusesVerify}

@@ -1,3 +1,4 @@
+-- The verdict is that of the bytes read: the message's file, and the front of the signature's.
 use Rattle.std.proofs.Common.{subst}
 use Rattle.slh_devices.specs.Devices.{FilesState}
 use Rattle.slh_tool.specs.Reading.{IsFile}

@@ -1,3 +1,4 @@
+-- Where a part of the line can't be written, what is there is a prefix of it; else it is the whole.
 use Rattle.std.proofs.Common.{rules, ◌++◌, ℕ, List, codes}
 use Rattle.std.specs.Fmt.{decimal}
 use Rattle.slh_params.specs.ParamSet as param_set

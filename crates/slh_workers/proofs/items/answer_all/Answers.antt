@@ -1,3 +1,4 @@
+-- The answers so far are those of the items so far, and the next workers' follow in their order.
 use Rattle.std.proofs.Common.{◌≡◌, ℕ, ◌+◌, ◌-◌, ◌≤◌, ◌++◌, length, take, drop, sym, subst, arith, rules}
 use Rattle.slh_workers.specs.Items.{AreAnswers}
 use Rattle.slh_workers.proofs.ItemAnswers.{Answered, answered_more}

@@ -1,3 +1,4 @@
+-- The draws of all seats cover the jobs, each once, so in the order of the numbers each job has its right answer.
 use Rattle.std.proofs.Common.{rules, arith, ◌≡◌, ℕ, ◌<◌, length, subst, sym, ap, ◌∙◌}
 use Rattle.std.proofs.Math.ListN.{length-replicate}
 use Rattle.slh_board.specs.Seats.{new_seat}

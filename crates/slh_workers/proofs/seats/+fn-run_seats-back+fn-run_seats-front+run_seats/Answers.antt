@@ -1,3 +1,4 @@
+-- Both halves of the seats are ready, and what both ran is what all ran.
 use Rattle.std.proofs.Common.{rules, arith, length, length-append, ◌≡◌, ◌+◌, ap, ◌∙◌}
 use Rattle.std.proofs.lemmas.Grind.{common_steps}
 use Rattle.std.proofs.lemmas.Result.{IfOk-at_ok}

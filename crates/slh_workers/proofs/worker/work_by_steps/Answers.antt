@@ -1,3 +1,4 @@
+-- Drawn numbers rise below the number of jobs, so the loop ends, and each turn adds one job with its right answer.
 use Rattle.std.proofs.Common.{rules, arith, ◌≡◌, ◌≤◌, ◌+◌, ap, ◌∙◌}
 use Rattle.slh_workers.proofs.Draws.{next_above, next_above-push, next_above-le, answered_more, right_more, reported_more}
 use Rattle.slh_workers.proofs.worker.work_by_steps.Goals as goal

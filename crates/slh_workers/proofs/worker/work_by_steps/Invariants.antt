@@ -1,3 +1,4 @@
+-- What the loop keeps: the seat is of this board, and what it drew has right answers and is reported.
 use Rattle.std.proofs.Common.{◌≡◌, ◌-◌, ◌++◌}
 use Rattle.std.specs.List.{All}
 use Rattle.slh_workers.specs.Answers.{AllRight, numbers}

@@ -1,3 +1,4 @@
+-- The seats joined so far have their draws together; with all of them joined these are the board's, each once.
 use Rattle.std.proofs.Common.{rules, arith, ap, sym, subst, ◌∙◌, ◌≡◌, ℕ, min, not, nat_eq, length}
 use Rattle.atomic_table.specs.Table.{Me}
 use Rattle.slh_board.specs.declared.view.View.{View}

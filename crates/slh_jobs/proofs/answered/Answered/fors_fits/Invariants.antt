@@ -1,3 +1,4 @@
+-- What the loop keeps: the FORS trees before number j have the roots that their parts give.
 use Rattle.std.proofs.Common.{◌≡◌, ℕ, ◌<◌}
 use Rattle.slh_few.specs.Fors.{fors_root}
 use Rattle.slh_core.specs.Cut.{md, idx_tree, idx_leaf}

@@ -1,3 +1,4 @@
+-- What the loop keeps: what this layer signs, and that the layers before it give what the next one signs.
 use Rattle.std.proofs.Common.{◌≡◌, ℕ, ◌<◌, length}
 use Rattle.slh_few.specs.Xmss.{xmss_pk_from_sig}
 use Rattle.slh_core.specs.Keys.{public_of, pk_seed}

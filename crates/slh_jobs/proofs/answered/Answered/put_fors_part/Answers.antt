@@ -1,3 +1,4 @@
+-- The part stands in the middle of the buffer, and all else stays.
 use Rattle.std.proofs.Common.{◌≡◌, ◌+◌, ◌-◌, ◌++◌, length, take, ap, sym, ◌∙◌, arith, rules}
 use Rattle.std.proofs.lemmas.Slice.{take-put_mid}
 use Rattle.slh_params.specs.ParamSet.{params}

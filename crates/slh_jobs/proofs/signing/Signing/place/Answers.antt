@@ -1,3 +1,4 @@
+-- The kept place of a layer is the definition's, so its leaf is below 2^h' and its layer is the one asked for.
 use Rattle.std.proofs.Common.{◌^◌, ◌<◌, sym, subst, ap, ◌∙◌}
 use Rattle.slh_params.specs.ParamSet.{params}
 use Rattle.slh_few.specs.declared.place.Place.{Place}

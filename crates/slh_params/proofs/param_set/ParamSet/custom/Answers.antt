@@ -1,3 +1,4 @@
+-- Numbers are valid exactly where no member is refused.
 use Rattle.std.proofs.Common.{refl}
 use Rattle.slh_params.specs.Params.{numbers}
 use Rattle.slh_params.specs.ParamSet.{params}

@@ -1,3 +1,4 @@
+-- The label has room for each part, and the parts one after the other are the label.
 use Rattle.std.proofs.Common.{arith, sym, ◌∙◌}
 use Rattle.slh_params.specs.ParamSet.{params}
 use Rattle.slh_params.proofs.Bounds.{d_high}

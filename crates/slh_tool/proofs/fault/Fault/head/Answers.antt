@@ -1,3 +1,4 @@
+-- The head of each fault's line: its number in digits, and its name.
 use Rattle.std.proofs.Common.{refl, arith}
 use Rattle.slh_tool.specs.Faults.{head}
 use Rattle.slh_tool.proofs.Digits.{one_digit, two_digits}
