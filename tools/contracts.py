@@ -1,7 +1,7 @@
 #!/usr/bin/env python3
 """Writes the tables of docs/PROVED.md from the sources: for each crate the calls that other crates have, the clauses of
 their contracts, and the must-fail edits of their bodies. A private function is listed where an edit turns it. It also
-looks whether the code on docs/CALLING.md is that of crates/slh_examples.
+looks whether the code on docs/CALLING.md is that of crates/slh_letter and crates/slh_examples.
 
 Usage: tools/contracts.py           writes the tables
        tools/contracts.py --check   fails where a table or the code is not what the sources say
@@ -99,9 +99,9 @@ def table(crate):
 
 
 def strange_code():
-    """Of docs/CALLING.md the first lines of code that stands in no file of slh_examples, and the lines of crates.txt
-    that are not there."""
-    files = [read("slh_examples", path) for path in sources("slh_examples")]
+    """Of docs/CALLING.md the first lines of code that stands in no file of slh_letter and slh_examples, and the lines of
+    crates.txt that are not there."""
+    files = [read(crate, path) for crate in ("slh_letter", "slh_examples") for path in sources(crate)]
     with open(os.path.join(ROOT, "crates.txt")) as crates, open(CALLING) as page:
         known, text = crates.read().split("\n"), page.read()
     pieces = re.findall(r"^```rust\n(.*?)^```$", text, re.M | re.S)
@@ -125,7 +125,7 @@ def main():
         sys.exit("docs/PROVED.md is not what the sources say: run tools/contracts.py")
     strange = strange_code()
     if strange:
-        sys.exit("docs/CALLING.md has what stands neither in slh_examples nor in crates.txt: " + "; ".join(strange))
+        sys.exit("docs/CALLING.md has what stands neither in slh_letter, slh_examples nor in crates.txt: " + "; ".join(strange))
 
 
 main()

@@ -1,4 +1,4 @@
-//! What the tests share.
+//! Keys, cuttings, gates and comparisons that the tests of `slh_par` share.
 ghost use Rattle.std.specs.Prelude.{◌≡◌, ◌==◌, IfOk, replicate};
 ghost use Rattle.std.specs.List.{list_all};
 ghost use Rattle.slh_params.specs.Params.{sig_len};
