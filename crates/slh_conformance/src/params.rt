@@ -219,6 +219,7 @@ fn groups_of_bits(rt: HostRuntime) -> Result<(), Fail> {
 fn numbers_and_bytes(rt: HostRuntime) -> Result<(), Fail> {
     for (bytes, expected) in &NUMBERS_OF_BYTES {
         let bytes = bytes_of(rt.alloc(), bytes)?;
+        // `to_int` asks for at most 8 bytes.
         assert!(rt; bytes.len() <= 8);
         assert_eq!(rt; to_int(bytes.as_slice()), *expected);
     }
