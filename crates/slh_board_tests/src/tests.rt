@@ -2,27 +2,35 @@ use super::*;
 use linked_list_allocator::LocalHeap;
 use slh_board::{BoardFault, Tally};
 use std::alloc::AllocError;
+use std::fmt::Debug;
+use std::process::Abort;
 use std::test::Fail;
+
+/// Fails the test where the two are not equal.
+fn equal<T: PartialEq + Debug>(rt: &impl Abort, found: &T, expected: &T) {
+    assert_eq!(rt; found, expected);
+}
 
 #[test]
 fn seats_share_the_jobs_in_their_order(rt: HostRuntime) -> Result<(), Fail> {
     let (board, mut seats) = Board::start(rt.alloc(), 3, 2)?;
     let mut b = seats.pop().ok_or("a seat")?;
     let mut a = seats.pop().ok_or("a seat")?;
-    assert_eq!(rt; board.claim(&mut a), Claim::Job(0));
-    assert_eq!(rt; board.claim(&mut b), Claim::Job(1));
-    assert_eq!(rt; board.claim(&mut a), Claim::Job(2));
-    assert_eq!(rt; board.claim(&mut b), Claim::Done);
-    assert_eq!(rt; board.claim(&mut b), Claim::Done);
-    assert_eq!(rt; board.claim(&mut a), Claim::Done);
+    equal(&rt, &board.claim(&mut a), &Claim::Job(0));
+    equal(&rt, &board.claim(&mut b), &Claim::Job(1));
+    equal(&rt, &board.claim(&mut a), &Claim::Job(2));
+    equal(&rt, &board.claim(&mut b), &Claim::Done);
+    equal(&rt, &board.claim(&mut b), &Claim::Done);
+    equal(&rt, &board.claim(&mut a), &Claim::Done);
     seats.push_reserved(a);
     seats.push_reserved(b);
-    assert_eq!(rt;
-        board.finish(seats),
-        Tally {
+    equal(
+        &rt,
+        &board.finish(seats),
+        &Tally {
             drawn: 3,
-            stopped: false
-        }
+            stopped: false,
+        },
     );
     Ok(())
 }
@@ -31,14 +39,15 @@ fn seats_share_the_jobs_in_their_order(rt: HostRuntime) -> Result<(), Fail> {
 fn no_jobs_are_done_at_once(rt: HostRuntime) -> Result<(), Fail> {
     let (board, mut seats) = Board::start(rt.alloc(), 0, 1)?;
     let mut seat = seats.pop().ok_or("a seat")?;
-    assert_eq!(rt; board.claim(&mut seat), Claim::Done);
+    equal(&rt, &board.claim(&mut seat), &Claim::Done);
     seats.push_reserved(seat);
-    assert_eq!(rt;
-        board.finish(seats),
-        Tally {
+    equal(
+        &rt,
+        &board.finish(seats),
+        &Tally {
             drawn: 0,
-            stopped: false
-        }
+            stopped: false,
+        },
     );
     Ok(())
 }
@@ -48,19 +57,20 @@ fn every_seat_sees_a_stop(rt: HostRuntime) -> Result<(), Fail> {
     let (board, mut seats) = Board::start(rt.alloc(), 5, 2)?;
     let mut b = seats.pop().ok_or("a seat")?;
     let mut a = seats.pop().ok_or("a seat")?;
-    assert_eq!(rt; board.claim(&mut a), Claim::Job(0));
+    equal(&rt, &board.claim(&mut a), &Claim::Job(0));
     board.stop(&mut b);
-    assert_eq!(rt; board.claim(&mut a), Claim::Stopped);
-    assert_eq!(rt; board.claim(&mut a), Claim::Stopped);
-    assert_eq!(rt; board.claim(&mut b), Claim::Stopped);
+    equal(&rt, &board.claim(&mut a), &Claim::Stopped);
+    equal(&rt, &board.claim(&mut a), &Claim::Stopped);
+    equal(&rt, &board.claim(&mut b), &Claim::Stopped);
     seats.push_reserved(a);
     seats.push_reserved(b);
-    assert_eq!(rt;
-        board.finish(seats),
-        Tally {
+    equal(
+        &rt,
+        &board.finish(seats),
+        &Tally {
             drawn: 1,
-            stopped: true
-        }
+            stopped: true,
+        },
     );
     Ok(())
 }
@@ -108,18 +118,19 @@ fn each_growth_of_start_is_refused(rt: HostRuntime) -> Result<(), Fail> {
         match Board::start(&heap, 1000, 64) {
             Ok((board, seats)) => {
                 assert!(rt; seats_refused && words_refused);
-                assert_eq!(rt;
-                    board.finish(seats),
-                    Tally {
+                equal(
+                    &rt,
+                    &board.finish(seats),
+                    &Tally {
                         drawn: 0,
-                        stopped: false
-                    }
+                        stopped: false,
+                    },
                 );
                 return Ok(());
             }
-            Err(fault) => assert_eq!(rt; fault, BoardFault::NoMemory),
+            Err(fault) => equal(&rt, &fault, &BoardFault::NoMemory),
         }
-        assert_eq!(rt; heap.used(), 0);
+        equal(&rt, &heap.used(), &0);
         let seats: Result<Vec<Seat, &LocalHeap>, AllocError> = Vec::with_capacity(&heap, 64);
         if seats.is_err() {
             assert!(rt; !words_refused);
@@ -133,6 +144,6 @@ fn each_growth_of_start_is_refused(rt: HostRuntime) -> Result<(), Fail> {
 
 #[test]
 fn the_refusal_has_a_number_and_a_name(rt: HostRuntime) {
-    assert_eq!(rt; BoardFault::NoMemory.number(), 1);
-    assert_eq!(rt; BoardFault::NoMemory.name(), "NoMemory");
+    equal(&rt, &BoardFault::NoMemory.number(), &1);
+    equal(&rt, &BoardFault::NoMemory.name(), &"NoMemory");
 }

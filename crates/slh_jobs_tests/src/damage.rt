@@ -3,7 +3,9 @@ ghost use Rattle.std.specs.Prelude.{◌≡◌, ◌<◌, length};
 ghost use Rattle.slh_params.specs.ParamSet.{params};
 ghost use Rattle.slh_jobs.specs.Jobs.{start_len as length_of_start};
 
-use crate::fixtures::{OF_ABC, answers, begin_pure, flip, join, key, key_from, levels, sha256_hex};
+use crate::fixtures::{
+    OF_ABC, answers, begin_pure, equal, flip, join, key, key_from, levels, sha256_hex,
+};
 use slh_core::SecretKey;
 use slh_jobs::{JoinFault, Levels, answer_len, answer_start, answers_len, sign_jobs};
 use slh_params::ParamSet;
@@ -74,7 +76,7 @@ fn one_bit_in_each_field(rt: HostRuntime) -> Result<(), Fail> {
     let levels = levels(sk.set(), 1, 1)?;
     let start = begin_pure(alloc, b"abc", &sk)?;
     let mut answers = answers(&rt, alloc, &levels, &sk, &start)?;
-    assert_eq!(rt; sign_jobs(&levels), 110);
+    equal(&rt, &sign_jobs(&levels), &110);
     for first in [0, 6, 42, 44, 108] {
         let signing = signing_job(&rt, &levels, &answers, first);
         let at = place(&rt, &levels, signing);
@@ -97,7 +99,7 @@ fn one_bit_in_each_field(rt: HostRuntime) -> Result<(), Fail> {
         // What the answer of the other range holds after its tag is not read.
         flip(&rt, &mut answers, other + 40);
         let sig = join(&rt, alloc, &levels, &sk, &start, &answers)??;
-        assert_eq!(rt; sha256_hex(alloc, &sig)?.as_str(), OF_ABC);
+        equal(&rt, &sha256_hex(alloc, &sig)?.as_str(), &OF_ABC);
     }
     Ok(())
 }
@@ -173,7 +175,7 @@ fn answers_of_others(rt: HostRuntime) -> Result<(), Fail> {
     }
     for given in [&of_message, &of_key] {
         let refused = join(&rt, alloc, &levels, &sk, &start, given)?;
-        assert_eq!(rt; refused.err(), Some(JoinFault::AnswersDisagree));
+        equal(&rt, &refused.err(), &Some(JoinFault::AnswersDisagree));
     }
     // Too short, too long, none, and any bytes.
     let mut longer = own.as_slice().to_vec(alloc)?;
@@ -181,12 +183,12 @@ fn answers_of_others(rt: HostRuntime) -> Result<(), Fail> {
     assert!(rt; 1 <= own.len());
     for given in [&own[..own.len() - 1], longer.as_slice(), &[]] {
         let refused = join(&rt, alloc, &levels, &sk, &start, given)?;
-        assert_eq!(rt; refused.err(), Some(JoinFault::BadAnswersLength));
+        equal(&rt, &refused.err(), &Some(JoinFault::BadAnswersLength));
     }
     for byte in [0x00, 0xff] {
         let any = vec![in alloc; byte; answers_len(&levels)]?;
         let refused = join(&rt, alloc, &levels, &sk, &start, &any)?;
-        assert_eq!(rt; refused.err(), Some(JoinFault::AnswersDisagree));
+        equal(&rt, &refused.err(), &Some(JoinFault::AnswersDisagree));
     }
     Ok(())
 }

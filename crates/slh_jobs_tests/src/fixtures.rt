@@ -12,8 +12,14 @@ use slh_jobs::{
 };
 use slh_params::ParamSet;
 use std::alloc::Global;
+use std::fmt::Debug;
 use std::process::Abort;
 use std::test::Fail;
+
+/// Fails the test where the two are not equal.
+pub(crate) fn equal<T: PartialEq + Debug>(rt: &impl Abort, found: &T, expected: &T) {
+    assert_eq!(rt; found, expected);
+}
 
 /// The bytes from `first` on.
 pub(crate) fn counting(first: u8) -> [u8; 96] {

@@ -1,5 +1,5 @@
 //! Keys from jobs, and the refusals.
-use crate::fixtures::{counting, flip, key, levels};
+use crate::fixtures::{counting, equal, flip, key, levels};
 use slh_core::{Form, Randomizer, SecretKey};
 use slh_jobs::{
     JoinFault, Levels, key_answer_len, keygen_job, keygen_jobs, keygen_join, sign_start, start_len,
@@ -65,18 +65,18 @@ fn keys(rt: HostRuntime) -> Result<(), Fail> {
         for from in [0, n, 2 * n] {
             flip(&rt, &mut seeds, from);
             let refused = join_key(&levels, &seeds, &answers).err();
-            assert_eq!(rt; refused, Some(JoinFault::AnswersDisagree));
+            equal(&rt, &refused, &Some(JoinFault::AnswersDisagree));
             flip(&rt, &mut seeds, from);
         }
         assert!(rt; 2 * n <= answers.len());
         for from in [answers.len() - 2 * n, answers.len() - n] {
             flip(&rt, &mut answers, from);
             let refused = join_key(&levels, &seeds, &answers).err();
-            assert_eq!(rt; refused, Some(JoinFault::AnswersDisagree));
+            equal(&rt, &refused, &Some(JoinFault::AnswersDisagree));
             flip(&rt, &mut answers, from);
         }
         let refused = join_key(&levels, &seeds, &answers[..answers.len() - 2 * n]).err();
-        assert_eq!(rt; refused, Some(JoinFault::BadAnswersLength));
+        equal(&rt, &refused, &Some(JoinFault::BadAnswersLength));
     }
     Ok(())
 }
@@ -90,13 +90,13 @@ fn exchanged_key_answers_and_refusals(rt: HostRuntime) -> Result<(), Fail> {
     let mut exchanged = second.to_vec(alloc)?;
     exchanged.extend_from_slice(first)?;
     let refused = join_key(&levels, &counting(0), &exchanged).err();
-    assert_eq!(rt; refused, Some(JoinFault::AnswersDisagree));
+    equal(&rt, &refused, &Some(JoinFault::AnswersDisagree));
     for (fault, number, name) in [
         (JoinFault::BadAnswersLength, 20, "BadAnswersLength"),
         (JoinFault::AnswersDisagree, 25, "AnswersDisagree"),
     ] {
-        assert_eq!(rt; fault.number(), number);
-        assert_eq!(rt; fault.name(), name);
+        equal(&rt, &fault.number(), &number);
+        equal(&rt, &fault.name(), &name);
     }
     let sk = key(ParamSet::S128f);
     let mut start = vec![in alloc; 0x55; start_len(sk.set())]?;
@@ -109,7 +109,7 @@ fn exchanged_key_answers_and_refusals(rt: HostRuntime) -> Result<(), Fail> {
         Randomizer::Deterministic,
         &mut start,
     );
-    assert_eq!(rt; refused.err().map(|fault| fault.number()), Some(2));
+    equal(&rt, &refused.err().map(|fault| fault.number()), &Some(2));
     assert!(rt; start.iter().all(|&byte| byte == 0x55));
     Ok(())
 }

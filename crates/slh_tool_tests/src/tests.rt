@@ -17,9 +17,15 @@ mod workers;
 use crate::{Answer, Folder, words_of};
 use slh_devices::{Files, Reader, Sink, Source, Writer};
 use slh_tool::command;
+use std::fmt::Debug;
 use std::process::Abort;
 use std::test::Fail;
 use std::thread::Threads;
+
+/// Fails the test where the two are not equal.
+fn equal<T: PartialEq + Debug>(rt: &impl Abort, found: &T, expected: &T) {
+    assert_eq!(rt; found, expected);
+}
 
 /// Runs a command over files, an input and an output.
 fn run_to<R: AllocGlobal + Threads + Sync, F: Files, S: Source, O: Sink>(
@@ -77,7 +83,7 @@ fn run_over<R: AllocGlobal + Threads + Sync, F: Files>(
 
 /// A refusal: these errors, no output, and the status 2.
 fn check_refused(rt: &impl Abort, answer: &Answer, errors: &[u8]) {
-    assert_eq!(rt; answer.errors.as_slice(), errors);
+    equal(rt, &answer.errors.as_slice(), &errors);
     assert!(rt; answer.output.is_empty());
-    assert_eq!(rt; answer.status, 2);
+    equal(rt, &answer.status, &2);
 }

@@ -7,6 +7,13 @@ mod reports;
 
 use super::{VectorFault, read_vectors};
 use std::alloc::Global;
+use std::fmt::Debug;
+use std::process::Abort;
+
+/// Fails the test where the two are not equal.
+fn equal<T: PartialEq + Debug>(rt: &impl Abort, found: &T, expected: &T) {
+    assert_eq!(rt; found, expected);
+}
 
 /// The fault of a file, where it has one.
 fn fault_of(alloc: Global, file: &[u8]) -> Option<VectorFault> {

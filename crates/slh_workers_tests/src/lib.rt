@@ -10,3 +10,9 @@ mod run;
 #[cfg(test)]
 mod work_off;
 pub mod works;
+
+/// Fails the test where the two are not equal.
+#[cfg(test)]
+fn equal<T: PartialEq + std::fmt::Debug>(rt: &impl std::process::Abort, found: &T, expected: &T) {
+    assert_eq!(rt; found, expected);
+}

@@ -1,4 +1,5 @@
 // Calls with the 1st growth refused, then the 2nd, and so on until a call meets no refusal.
+use crate::equal;
 use crate::works::{AfterRefusal, Lists, Recorded, Squares};
 use refusing_allocator::Refusing;
 use slh_board::Board;
@@ -90,8 +91,8 @@ fn work_off_stops_the_board_at_each_growth(rt: HostRuntime) -> Result<(), Fail> 
         let worked = work_off(alloc.clone()?, &board, &mut seats[0], &work, 0, &NoGate);
         let tally = board.finish(seats);
         if !alloc.has_refused() {
-            assert_eq!(rt; worked.end, End::Done);
-            assert_eq!(rt; worked.answers.len(), 10);
+            equal(&rt, &worked.end, &End::Done);
+            equal(&rt, &worked.answers.len(), &10);
             assert!(rt; !tally.stopped);
             break;
         }
@@ -119,13 +120,15 @@ fn room_for_an_answer_is_made_before_its_job_is_entered(rt: HostRuntime) -> Resu
             &recorded,
         );
         let answered = worked.answers.len();
-        assert_eq!(rt;
-            recorded.entered.load(Ordering::SeqCst).count_ones() as usize,
-            answered
+        equal(
+            &rt,
+            &(recorded.entered.load(Ordering::SeqCst).count_ones() as usize),
+            &answered,
         );
-        assert_eq!(rt;
-            recorded.ran.load(Ordering::SeqCst).count_ones() as usize,
-            answered
+        equal(
+            &rt,
+            &(recorded.ran.load(Ordering::SeqCst).count_ones() as usize),
+            &answered,
         );
         if !alloc.has_refused() {
             break;

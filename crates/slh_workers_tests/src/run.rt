@@ -1,4 +1,5 @@
 // Runs of all jobs.
+use crate::equal;
 use crate::gates::{BothThenStop, Numbered, StopAt};
 use crate::works::{FirstWaits, Meeting, Recorded, Squares};
 use slh_workers::{NoGate, RunFault, Workers, run_all};
@@ -12,7 +13,7 @@ fn workers_are_from_1_to_64(rt: HostRuntime) -> Result<(), Fail> {
     }
     for number in [1u8, 64] {
         let workers = Workers::new(number).ok_or("workers")?;
-        assert_eq!(rt; workers.number(), number);
+        equal(&rt, &workers.number(), &number);
     }
     Ok(())
 }
@@ -40,7 +41,7 @@ fn two_workers_run_two_jobs_at_the_same_time(rt: HostRuntime) -> Result<(), Fail
         called: AtomicU64::new(0),
     };
     let answers = run_all(&rt, rt.alloc(), &work, workers, &NoGate)?;
-    assert_eq!(rt; answers.len(), 2);
+    equal(&rt, &answers.len(), &2);
     Ok(())
 }
 
@@ -52,7 +53,7 @@ fn a_worker_takes_the_jobs_that_a_busy_one_leaves(rt: HostRuntime) -> Result<(),
         ran: AtomicU64::new(0),
     };
     let answers = run_all(&rt, rt.alloc(), &work, workers, &NoGate)?;
-    assert_eq!(rt; answers.len(), 10);
+    equal(&rt, &answers.len(), &10);
     Ok(())
 }
 
@@ -66,9 +67,9 @@ fn the_gate_gets_the_number_of_each_worker(rt: HostRuntime) -> Result<(), Fail> 
         told: AtomicU64::new(0),
     };
     let answers = run_all(&rt, rt.alloc(), &Squares::new(3), workers, &gate)?;
-    assert_eq!(rt; answers.len(), 3);
-    assert_eq!(rt; gate.asked.load(Ordering::SeqCst), 0b111);
-    assert_eq!(rt; gate.told.load(Ordering::SeqCst), 0b111);
+    equal(&rt, &answers.len(), &3);
+    equal(&rt, &gate.asked.load(Ordering::SeqCst), &0b111);
+    equal(&rt, &gate.told.load(Ordering::SeqCst), &0b111);
     Ok(())
 }
 
@@ -104,9 +105,9 @@ fn a_gate_stops_the_run(rt: HostRuntime) -> Result<(), Fail> {
         }
         let gate = StopAt::new(10);
         let squares = run_all(&rt, rt.alloc(), &Squares::new(10), workers, &gate)?;
-        assert_eq!(rt; squares.len(), 10);
-        assert_eq!(rt; gate.entered.load(Ordering::SeqCst), 10);
-        assert_eq!(rt; gate.left.load(Ordering::SeqCst), 10);
+        equal(&rt, &squares.len(), &10);
+        equal(&rt, &gate.entered.load(Ordering::SeqCst), &10);
+        equal(&rt, &gate.left.load(Ordering::SeqCst), &10);
     }
     Ok(())
 }
@@ -119,10 +120,10 @@ fn each_job_is_entered_then_run_then_left(rt: HostRuntime) -> Result<(), Fail> {
         let recorded = Recorded::new(None, None);
         let answers = run_all(&rt, rt.alloc(), &recorded, workers, &recorded)?;
         assert!(rt; answers.iter().copied().eq(0..10));
-        assert_eq!(rt; recorded.entered.load(Ordering::SeqCst), all);
-        assert_eq!(rt; recorded.ran.load(Ordering::SeqCst), all);
-        assert_eq!(rt; recorded.left.load(Ordering::SeqCst), all);
-        assert_eq!(rt; recorded.out_of_turn.load(Ordering::SeqCst), 0);
+        equal(&rt, &recorded.entered.load(Ordering::SeqCst), &all);
+        equal(&rt, &recorded.ran.load(Ordering::SeqCst), &all);
+        equal(&rt, &recorded.left.load(Ordering::SeqCst), &all);
+        equal(&rt, &recorded.out_of_turn.load(Ordering::SeqCst), &0);
     }
     Ok(())
 }
@@ -137,10 +138,10 @@ fn a_job_at_which_the_gate_stops_is_not_run(rt: HostRuntime) -> Result<(), Fail>
             assert_eq!(rt; outcome.err(), Some(RunFault::Stopped), "job {job}");
             let bit = 1u64.unbounded_shl(job);
             let ran = recorded.ran.load(Ordering::SeqCst);
-            assert_eq!(rt; ran | bit, recorded.entered.load(Ordering::SeqCst));
+            equal(&rt, &(ran | bit), &recorded.entered.load(Ordering::SeqCst));
             assert_eq!(rt; ran & bit, 0, "job {job}");
-            assert_eq!(rt; recorded.left.load(Ordering::SeqCst), ran);
-            assert_eq!(rt; recorded.out_of_turn.load(Ordering::SeqCst), 0);
+            equal(&rt, &recorded.left.load(Ordering::SeqCst), &ran);
+            equal(&rt, &recorded.out_of_turn.load(Ordering::SeqCst), &0);
         }
     }
     Ok(())
@@ -156,9 +157,9 @@ fn a_job_that_is_refused_memory_is_left(rt: HostRuntime) -> Result<(), Fail> {
             assert_eq!(rt; outcome.err(), Some(RunFault::NoMemory), "job {job}");
             let ran = recorded.ran.load(Ordering::SeqCst);
             assert!(rt; ran & 1u64.unbounded_shl(job) > 0, "job {job}");
-            assert_eq!(rt; recorded.entered.load(Ordering::SeqCst), ran);
-            assert_eq!(rt; recorded.left.load(Ordering::SeqCst), ran);
-            assert_eq!(rt; recorded.out_of_turn.load(Ordering::SeqCst), 0);
+            equal(&rt, &recorded.entered.load(Ordering::SeqCst), &ran);
+            equal(&rt, &recorded.left.load(Ordering::SeqCst), &ran);
+            equal(&rt, &recorded.out_of_turn.load(Ordering::SeqCst), &0);
         }
     }
     Ok(())
@@ -176,16 +177,16 @@ fn want_of_memory_comes_before_a_stop(rt: HostRuntime) -> Result<(), Fail> {
         refused: 0,
     };
     let outcome = run_all(&rt, rt.alloc(), &work, workers, &gate);
-    assert_eq!(rt; outcome.err(), Some(RunFault::NoMemory));
-    assert_eq!(rt; gate.entered.load(Ordering::SeqCst), 2);
-    assert_eq!(rt; gate.gave_up.load(Ordering::SeqCst), 0);
+    equal(&rt, &outcome.err(), &Some(RunFault::NoMemory));
+    equal(&rt, &gate.entered.load(Ordering::SeqCst), &2);
+    equal(&rt, &gate.gave_up.load(Ordering::SeqCst), &0);
     Ok(())
 }
 
 #[test]
 fn refusals_have_numbers_and_names(rt: HostRuntime) {
-    assert_eq!(rt; RunFault::NoMemory.number(), 1);
-    assert_eq!(rt; RunFault::NoMemory.name(), "NoMemory");
-    assert_eq!(rt; RunFault::Stopped.number(), 6);
-    assert_eq!(rt; RunFault::Stopped.name(), "Stopped");
+    equal(&rt, &RunFault::NoMemory.number(), &1);
+    equal(&rt, &RunFault::NoMemory.name(), &"NoMemory");
+    equal(&rt, &RunFault::Stopped.number(), &6);
+    equal(&rt, &RunFault::Stopped.name(), &"Stopped");
 }

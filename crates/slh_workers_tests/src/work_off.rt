@@ -1,4 +1,5 @@
 // One worker after another at the seats of a board, on this thread.
+use crate::equal;
 use crate::gates::StopAt;
 use crate::works::Squares;
 use slh_board::{Board, Tally};
@@ -12,18 +13,19 @@ fn the_first_worker_leaves_no_job_to_the_second(rt: HostRuntime) -> Result<(), F
     let (board, mut seats) = Board::start(rt.alloc(), 10, 2)?;
     let work = Squares::new(10);
     let first = work_off(rt.alloc(), &board, &mut seats[0], &work, 0, &NoGate);
-    assert_eq!(rt; first.end, End::Done);
+    equal(&rt, &first.end, &End::Done);
     let wanted = (0..10u32).map(|i| (i, u64::from(i).wrapping_mul(u64::from(i))));
     assert!(rt; first.answers.iter().copied().eq(wanted));
     let second = work_off(rt.alloc(), &board, &mut seats[1], &work, 1, &NoGate);
-    assert_eq!(rt; second.end, End::Done);
+    equal(&rt, &second.end, &End::Done);
     assert!(rt; second.answers.is_empty());
-    assert_eq!(rt;
-        board.finish(seats),
-        Tally {
+    equal(
+        &rt,
+        &board.finish(seats),
+        &Tally {
             drawn: 10,
-            stopped: false
-        }
+            stopped: false,
+        },
     );
     Ok(())
 }
@@ -39,19 +41,20 @@ fn check_end_at_job_3<R: Abort + AllocGlobal>(
 ) -> Result<(), Fail> {
     let (board, mut seats) = Board::start(rt.alloc(), work.jobs, 2)?;
     let first = work_off(rt.alloc(), &board, &mut seats[0], work, 0, gate);
-    assert_eq!(rt; first.end, end);
+    equal(rt, &first.end, &end);
     assert!(rt; first.answers.iter().copied().eq([(0, 0), (1, 1), (2, 4)]));
-    assert_eq!(rt; gate.entered.load(Ordering::SeqCst), 4);
-    assert_eq!(rt; gate.left.load(Ordering::SeqCst), left);
+    equal(rt, &gate.entered.load(Ordering::SeqCst), &4);
+    equal(rt, &gate.left.load(Ordering::SeqCst), &left);
     let second = work_off(rt.alloc(), &board, &mut seats[1], work, 1, gate);
-    assert_eq!(rt; second.end, End::Stopped);
+    equal(rt, &second.end, &End::Stopped);
     assert!(rt; second.answers.is_empty());
-    assert_eq!(rt;
-        board.finish(seats),
-        Tally {
+    equal(
+        rt,
+        &board.finish(seats),
+        &Tally {
             drawn: 4,
-            stopped: true
-        }
+            stopped: true,
+        },
     );
     Ok(())
 }

@@ -1,7 +1,7 @@
 //! Key files that are cut short, have a byte replaced, or have other lines, through the commands that read them.
 use super::messages::{PUBLIC, SIGN, VERIFY, joined, secret_key};
 use super::roots::seed_digits;
-use super::{check_refused, run, run_over};
+use super::{check_refused, equal, run, run_over};
 use crate::{Answer, Folder, check_known, verify_known};
 use slh_devices::Reader;
 use std::process::Abort;
@@ -46,8 +46,8 @@ fn verify_number<R: Abort + AllocGlobal + Threads + Sync>(rt: &R, file: &[u8]) -
     } else {
         (2, b"".as_slice())
     };
-    assert_eq!(rt; answer.status, status);
-    assert_eq!(rt; answer.output.as_slice(), output);
+    equal(rt, &answer.status, &status);
+    equal(rt, &answer.output.as_slice(), &output);
     Ok(number)
 }
 
@@ -96,7 +96,7 @@ fn checks_each_front<R: Abort + AllocGlobal + Threads + Sync>(
     rt: &R,
     secret: &[u8],
 ) -> Result<(), Fail> {
-    assert_eq!(rt; secret.len(), 164);
+    assert!(rt; secret.len() == 164);
     for len in 0..=164 {
         let number = cut_number(len, 163);
         let (status, output) = if number == 0 {
@@ -107,7 +107,7 @@ fn checks_each_front<R: Abort + AllocGlobal + Threads + Sync>(
         let answer = check_known(rt, &secret[..len.min(secret.len())])?;
         assert_eq!(rt; number_of(&answer), number, "{len} bytes");
         assert_eq!(rt; answer.output.as_slice(), output, "{len} bytes");
-        assert_eq!(rt; answer.status, status);
+        equal(rt, &answer.status, &status);
     }
     Ok(())
 }
@@ -174,8 +174,8 @@ fn takes_no_key_of_the_other_kind_before_it_reads_a_message(rt: HostRuntime) -> 
     ];
     for words in cases {
         let answer = answer_over_exchanged(&rt, words, secret.as_slice())?;
-        assert_eq!(rt; number_of(&answer), 11);
-        assert_eq!(rt; answer.status, 2);
+        equal(&rt, &number_of(&answer), &11);
+        equal(&rt, &answer.status, &2);
         assert!(rt; answer.output.is_empty());
     }
     Ok(())

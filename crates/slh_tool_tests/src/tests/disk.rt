@@ -2,7 +2,7 @@
 use super::devices::Folder;
 use super::messages::{PUBLIC, SIGN, VERIFY, joined, secret_key};
 use super::own_files::{Counts, OwnFiles, PLAIN, Ways};
-use super::{check_refused, run_over};
+use super::{check_refused, equal, run_over};
 use crate::Answer;
 use slh_devices::{Disk, Files};
 use std::process::Abort;
@@ -77,12 +77,12 @@ fn check_way<'f, R: Abort + AllocGlobal + Threads + Sync>(
 ) -> Result<(), Fail> {
     let counts = Counts::new();
     let signed = answer_over_own(rt, &SIGN, files, ways, &counts)?;
-    assert_eq!(rt; signed.output.as_slice(), signature);
-    assert_eq!(rt; counts.opens.get(), 2);
+    equal(rt, &signed.output.as_slice(), &signature);
+    equal(rt, &counts.opens.get(), &2);
     let told = answer_over_own(rt, &VERIFY, files, ways, &counts)?;
-    assert_eq!(rt; told.output.as_slice(), b"valid\n".as_slice());
-    assert_eq!(rt; counts.opens.get(), 5);
-    assert_eq!(rt; told.status, 0);
+    equal(rt, &told.output.as_slice(), &b"valid\n".as_slice());
+    equal(rt, &counts.opens.get(), &5);
+    equal(rt, &told.status, &0);
     Ok(())
 }
 
@@ -109,7 +109,7 @@ fn reads_files_in_any_pieces(rt: HostRuntime) -> Result<(), Fail> {
     let secret = secret_key(&rt)?;
     let message = long_message(&rt)?;
     let signature = signature(&rt, secret.as_slice(), message.as_slice())?;
-    assert_eq!(rt; signature.len(), 17088);
+    equal(&rt, &signature.len(), &17088);
     check_ways(
         &rt,
         secret.as_slice(),
@@ -131,7 +131,7 @@ fn reads<'f, R: Abort + AllocGlobal + Threads + Sync>(
             return Ok(fails_at - 1);
         }
         check_refused(rt, &answer, b"slh: 32 ReadFailed\n");
-        assert_eq!(rt; counts.reads.get(), fails_at);
+        equal(rt, &counts.reads.get(), &fails_at);
     }
     Err("no run without a failure".into())
 }
@@ -157,7 +157,7 @@ fn tells_each_read_that_fails(rt: HostRuntime) -> Result<(), Fail> {
         (&["vectors", "--file", "tests"], 2),
     ];
     for (words, count) in cases {
-        assert_eq!(rt; reads(&rt, words, &files)?, count);
+        equal(&rt, &reads(&rt, words, &files)?, &count);
     }
     Ok(())
 }
@@ -179,13 +179,13 @@ fn reads_two_files_by_turns(rt: HostRuntime) -> Result<(), Fail> {
             let got = disk.fetch(name, at as u64, &mut room);
             let left = &bytes[at.min(bytes.len())..];
             let most = left.len().min(3);
-            assert_eq!(rt; got, Ok(most));
-            assert_eq!(rt; &room[..most], &left[..most]);
+            equal(&rt, &got, &Ok(most));
+            equal(&rt, &&room[..most], &&left[..most]);
         }
     }
     let mut room = [0; 3];
-    assert_eq!(rt; disk.fetch("first", 10, &mut room), Ok(0));
+    equal(&rt, &disk.fetch("first", 10, &mut room), &Ok(0));
     assert!(rt; disk.fetch("none", 0, &mut room).is_err());
-    assert_eq!(rt; disk.failures, 1);
+    equal(&rt, &disk.failures, &1);
     Ok(())
 }

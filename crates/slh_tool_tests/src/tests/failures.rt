@@ -1,7 +1,7 @@
 //! Files and outputs that fail, and a file that never ends.
 use super::devices::{Folder, Full, WithEndlessFile};
 use super::messages::{PUBLIC, SIGN, VERIFY, joined, secret_key};
-use super::{run_over, run_to};
+use super::{equal, run_over, run_to};
 use slh_devices::Reader;
 use std::process::Abort;
 use std::test::Fail;
@@ -55,7 +55,7 @@ fn tells_each_fetch_that_fails(rt: HostRuntime) -> Result<(), Fail> {
         (verify_hashed.as_slice(), 6),
     ];
     for (words, count) in cases {
-        assert_eq!(rt; fetches(&rt, words, secret.as_slice())?, count);
+        equal(&rt, &fetches(&rt, words, secret.as_slice())?, &count);
     }
     Ok(())
 }
@@ -80,9 +80,13 @@ fn tells_an_output_that_breaks_off(rt: HostRuntime) -> Result<(), Fail> {
         let mut input = Reader::new(digits.as_slice());
         let mut folder = Folder::new(&files);
         let (status, errors) = run_to(&rt, words, &mut folder, &mut input, &mut output)?;
-        assert_eq!(rt; errors.as_slice(), b"slh: 33 WriteFailed\n".as_slice());
-        assert_eq!(rt; status, 2);
-        assert_eq!(rt; output.room, 0);
+        equal(
+            &rt,
+            &errors.as_slice(),
+            &b"slh: 33 WriteFailed\n".as_slice(),
+        );
+        equal(&rt, &status, &2);
+        equal(&rt, &output.room, &0);
     }
     Ok(())
 }
@@ -96,10 +100,11 @@ fn hashes_a_message_by_pieces_up_to_the_limit(rt: HostRuntime) -> Result<(), Fai
         name: "abc",
     };
     let answer = run_over(&rt, words.as_slice(), &mut files)?;
-    assert_eq!(rt;
-        answer.errors.as_slice(),
-        b"slh: 36 FileTooLong\n".as_slice()
+    equal(
+        &rt,
+        &answer.errors.as_slice(),
+        &b"slh: 36 FileTooLong\n".as_slice(),
     );
-    assert_eq!(rt; answer.status, 2);
+    equal(&rt, &answer.status, &2);
     Ok(())
 }

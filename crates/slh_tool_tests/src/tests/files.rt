@@ -1,7 +1,7 @@
 //! Options, and key files of other kinds.
 use super::devices::Folder;
 use super::messages::{SIGN, VERIFY, joined, secret_key};
-use super::{check_refused, run_over};
+use super::{check_refused, equal, run_over};
 use crate::Answer;
 use std::test::Fail;
 use std::thread::Threads;
@@ -67,8 +67,8 @@ fn judges_the_key_file_before_options(rt: HostRuntime) -> Result<(), Fail> {
     ];
     for (key, errors) in cases {
         let answer = refusal(&rt, key, &["--context", "4"])?;
-        assert_eq!(rt; answer.errors.as_slice(), errors);
-        assert_eq!(rt; answer.status, 2);
+        equal(&rt, &answer.errors.as_slice(), &errors);
+        equal(&rt, &answer.status, &2);
     }
     Ok(())
 }
@@ -78,18 +78,20 @@ fn takes_no_key_of_the_other_kind(rt: HostRuntime) -> Result<(), Fail> {
     let secret = secret_key(&rt)?;
     let files = [("public", secret.as_slice())];
     let answer = run_over(&rt, &VERIFY, &mut Folder::new(&files))?;
-    assert_eq!(rt;
-        answer.errors.as_slice(),
-        b"slh: 11 NotAKeyFile\n".as_slice()
+    equal(
+        &rt,
+        &answer.errors.as_slice(),
+        &b"slh: 11 NotAKeyFile\n".as_slice(),
     );
     let mut long = secret;
     long.push(b'\n')?;
     let files = [("secret", long.as_slice())];
     for words in [["check", "--key", "secret"], ["public", "--key", "secret"]] {
         let answer = run_over(&rt, &words, &mut Folder::new(&files))?;
-        assert_eq!(rt;
-            answer.errors.as_slice(),
-            b"slh: 15 TrailingBytes\n".as_slice()
+        equal(
+            &rt,
+            &answer.errors.as_slice(),
+            &b"slh: 15 TrailingBytes\n".as_slice(),
         );
     }
     Ok(())

@@ -1,5 +1,6 @@
 //! Memory that is refused.
 use super::devices::Folder;
+use super::equal;
 use super::messages::{PUBLIC, SIGN, VERIFY, joined, secret_key};
 use super::vectors::{NOT_VALID, VECTORS};
 use crate::{Answer, words_of};
@@ -101,9 +102,10 @@ fn refuses_each_growth_and_then_works(rt: HostRuntime) -> Result<(), Fail> {
                 break;
             }
             assert!(rt; run.answer.output.is_empty());
-            assert_eq!(rt;
-                run.answer.errors.as_slice(),
-                b"slh: 1 NoMemory\n".as_slice()
+            equal(
+                &rt,
+                &run.answer.errors.as_slice(),
+                &b"slh: 1 NoMemory\n".as_slice(),
             );
             refusals = nth;
         }
@@ -132,7 +134,7 @@ fn growths_of_verify<R: AllocGlobal + Threads + Sync>(rt: &R, len: usize) -> Res
 fn holds_no_more_of_a_signature_than_a_byte_too_many(rt: HostRuntime) -> Result<(), Fail> {
     let least = growths_of_verify(&rt, 17089)?;
     for len in [17090, 40_000, 1_000_000] {
-        assert_eq!(rt; growths_of_verify(&rt, len)?, least);
+        equal(&rt, &growths_of_verify(&rt, len)?, &least);
     }
     Ok(())
 }
@@ -169,7 +171,7 @@ fn holds_a_front_of_a_long_key_file(rt: HostRuntime) -> Result<(), Fail> {
         let most = run_public(&rt, 600, after)?.growths;
         for digits in [4061, 4062, 40_000, 1_000_000] {
             let run = run_public(&rt, digits, after)?;
-            assert_eq!(rt; run.answer.errors.as_slice(), errors);
+            equal(&rt, &run.answer.errors.as_slice(), &errors);
             assert!(rt; run.growths <= most);
         }
     }

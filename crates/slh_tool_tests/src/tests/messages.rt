@@ -1,6 +1,6 @@
 //! Keys, signatures and their verification.
 use super::devices::Folder;
-use super::{run, run_over};
+use super::{equal, run, run_over};
 use sha2::{Digest, Sha256};
 use slh_devices::Reader;
 use std::test::Fail;
@@ -80,18 +80,18 @@ fn writes_key_files(rt: HostRuntime) -> Result<(), Fail> {
     let secret = secret_key(&rt)?;
     let lines = b"slh-dsa-secret 2\nSLH-DSA-SHA2-128f\n000102030405060708090a0b0c0d0e0f101112";
     assert!(rt; secret.as_slice().starts_with(lines));
-    assert_eq!(rt; secret.len(), 164);
-    assert_eq!(rt; &secret.as_slice()[99..], &PUBLIC[35..]);
+    assert!(rt; secret.len() == 164);
+    equal(&rt, &&secret.as_slice()[99..], &&PUBLIC[35..]);
     let files = [("secret", secret.as_slice())];
     let answer = run_over(
         &rt,
         &["public", "--key", "secret"],
         &mut Folder::new(&files),
     )?;
-    assert_eq!(rt; answer.output.as_slice(), PUBLIC);
+    equal(&rt, &answer.output.as_slice(), &PUBLIC);
     let answer = run_over(&rt, &["check", "--key", "secret"], &mut Folder::new(&files))?;
-    assert_eq!(rt; answer.output.as_slice(), b"consistent\n".as_slice());
-    assert_eq!(rt; answer.status, 0);
+    equal(&rt, &answer.output.as_slice(), &b"consistent\n".as_slice());
+    equal(&rt, &answer.status, &0);
     Ok(())
 }
 
@@ -102,8 +102,12 @@ fn tells_an_inconsistent_key(rt: HostRuntime) -> Result<(), Fail> {
     secret.push(b'0')?;
     let files = [("secret", secret.as_slice())];
     let answer = run_over(&rt, &["check", "--key", "secret"], &mut Folder::new(&files))?;
-    assert_eq!(rt; answer.output.as_slice(), b"inconsistent\n".as_slice());
-    assert_eq!(rt; answer.status, 1);
+    equal(
+        &rt,
+        &answer.output.as_slice(),
+        &b"inconsistent\n".as_slice(),
+    );
+    equal(&rt, &answer.status, &1);
     Ok(())
 }
 
@@ -114,12 +118,12 @@ fn signs_and_verifies(rt: HostRuntime) -> Result<(), Fail> {
         let files = [("secret", secret.as_slice()), ("abc", b"abc".as_slice())];
         let words = joined(&rt, &SIGN, options)?;
         let answer = run_over(&rt, words.as_slice(), &mut Folder::new(&files))?;
-        assert_eq!(rt; answer.status, 0);
+        equal(&rt, &answer.status, &0);
         let made = hex::encode(
             rt.alloc(),
             Sha256::digest(answer.output.as_slice()).as_slice(),
         )?;
-        assert_eq!(rt; made.as_str(), digest);
+        equal(&rt, &made.as_str(), &digest);
         for (message, line, status) in [("abc", "valid\n", 0), ("abd", "invalid\n", 1)] {
             let files = [
                 ("public", PUBLIC),
@@ -137,8 +141,8 @@ fn signs_and_verifies(rt: HostRuntime) -> Result<(), Fail> {
                 },
             )?;
             let told = run_over(&rt, words.as_slice(), &mut Folder::new(&files))?;
-            assert_eq!(rt; told.output.as_slice(), line.as_bytes());
-            assert_eq!(rt; told.status, status);
+            equal(&rt, &told.output.as_slice(), &line.as_bytes());
+            equal(&rt, &told.status, &status);
         }
     }
     Ok(())
@@ -170,14 +174,30 @@ fn verifies_no_other_length_or_form(rt: HostRuntime) -> Result<(), Fail> {
     let mut long = Vec::from_slice(rt.alloc(), pure.as_slice())?;
     long.push(0)?;
     let short = Vec::from_slice(rt.alloc(), &pure.as_slice()[..17087.min(pure.len())])?;
-    assert_eq!(rt; verdict(&rt, pure.as_slice(), &[])?.as_slice(), valid);
-    assert_eq!(rt; verdict(&rt, short.as_slice(), &[])?.as_slice(), invalid);
-    assert_eq!(rt; verdict(&rt, long.as_slice(), &[])?.as_slice(), invalid);
-    assert_eq!(rt; verdict(&rt, b"", &[])?.as_slice(), invalid);
+    equal(&rt, &verdict(&rt, pure.as_slice(), &[])?.as_slice(), &valid);
+    equal(
+        &rt,
+        &verdict(&rt, short.as_slice(), &[])?.as_slice(),
+        &invalid,
+    );
+    equal(
+        &rt,
+        &verdict(&rt, long.as_slice(), &[])?.as_slice(),
+        &invalid,
+    );
+    equal(&rt, &verdict(&rt, b"", &[])?.as_slice(), &invalid);
     let hashed = ["--prehash", "SHA2-256"];
-    assert_eq!(rt; verdict(&rt, pure.as_slice(), &hashed)?.as_slice(), invalid);
+    equal(
+        &rt,
+        &verdict(&rt, pure.as_slice(), &hashed)?.as_slice(),
+        &invalid,
+    );
     let signed = signature(&rt, &hashed)?;
-    assert_eq!(rt; verdict(&rt, signed.as_slice(), &[])?.as_slice(), invalid);
+    equal(
+        &rt,
+        &verdict(&rt, signed.as_slice(), &[])?.as_slice(),
+        &invalid,
+    );
     Ok(())
 }
 
@@ -193,21 +213,23 @@ const LONG_CONTEXT: &str = "a5a5a5a5a5a5a5a5a5a5a5a5a5a5a5a5a5a5a5a5a5a5a5a5a5a5
 
 #[test]
 fn refuses_a_long_context_in_signing_alone(rt: HostRuntime) -> Result<(), Fail> {
-    assert_eq!(rt; LONG_CONTEXT.len(), 512);
+    equal(&rt, &LONG_CONTEXT.len(), &512);
     let options = ["--context", LONG_CONTEXT];
     let secret = secret_key(&rt)?;
     let files = [("secret", secret.as_slice()), ("abc", b"abc".as_slice())];
     let words = joined(&rt, &SIGN, &options)?;
     let answer = run_over(&rt, words.as_slice(), &mut Folder::new(&files))?;
-    assert_eq!(rt;
-        answer.errors.as_slice(),
-        b"slh: 2 ContextTooLong\n".as_slice()
+    equal(
+        &rt,
+        &answer.errors.as_slice(),
+        &b"slh: 2 ContextTooLong\n".as_slice(),
     );
-    assert_eq!(rt; answer.status, 2);
+    equal(&rt, &answer.status, &2);
     let pure = signature(&rt, &[])?;
-    assert_eq!(rt;
-        verdict(&rt, pure.as_slice(), &options)?.as_slice(),
-        b"invalid\n".as_slice()
+    equal(
+        &rt,
+        &verdict(&rt, pure.as_slice(), &options)?.as_slice(),
+        &b"invalid\n".as_slice(),
     );
     Ok(())
 }

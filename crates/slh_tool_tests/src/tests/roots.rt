@@ -1,6 +1,6 @@
 //! `root` and its input.
 use super::devices::{Broken, Endless, Folder, Full};
-use super::{run, run_to};
+use super::{equal, run, run_to};
 use slh_devices::Reader;
 use std::test::Fail;
 
@@ -92,8 +92,12 @@ fn takes_seeds_in_either_case_and_refuses_others(rt: HostRuntime) -> Result<(), 
         let words = ["root", "--set", "SLH-DSA-SHA2-128f"];
         let answer = run(&rt, &words, &mut Reader::new(text.as_slice()))?;
         assert_eq!(rt; answer.errors.as_slice(), errors, "{front}:{end}");
-        assert_eq!(rt; answer.status, if errors.is_empty() { 0 } else { 2 });
-        assert_eq!(rt; answer.output.len(), if errors.is_empty() { 65 } else { 0 });
+        equal(&rt, &answer.status, &if errors.is_empty() { 0 } else { 2 });
+        equal(
+            &rt,
+            &answer.output.len(),
+            &if errors.is_empty() { 65 } else { 0 },
+        );
     }
     Ok(())
 }
@@ -127,8 +131,12 @@ fn refuses_seeds_of_another_length(rt: HostRuntime) -> Result<(), Fail> {
 fn takes_no_more_of_an_endless_input_than_a_key_needs(rt: HostRuntime) -> Result<(), Fail> {
     let mut input = Endless { taken: 0 };
     let answer = run(&rt, &["root", "--set", "SLH-DSA-SHA2-128s"], &mut input)?;
-    assert_eq!(rt; answer.errors.as_slice(), b"slh: 34 BadSeeds\n".as_slice());
-    assert_eq!(rt; input.taken, 98);
+    equal(
+        &rt,
+        &answer.errors.as_slice(),
+        &b"slh: 34 BadSeeds\n".as_slice(),
+    );
+    equal(&rt, &input.taken, &98);
     Ok(())
 }
 
@@ -138,7 +146,7 @@ fn tells_a_failed_read_and_a_failed_write(rt: HostRuntime) -> Result<(), Fail> {
     for good in [0, 1, 96, 97] {
         let mut input = Broken { good, failures: 0 };
         let answer = run(&rt, &words, &mut input)?;
-        assert_eq!(rt; answer.status, 2);
+        equal(&rt, &answer.status, &2);
         assert_eq!(rt;
             answer.errors.as_slice(),
             b"slh: 32 ReadFailed\n".as_slice(),
@@ -156,7 +164,7 @@ fn tells_a_failed_read_and_a_failed_write(rt: HostRuntime) -> Result<(), Fail> {
             &mut Reader::new(digits.as_slice()),
             &mut output,
         )?;
-        assert_eq!(rt; status, 2);
+        equal(&rt, &status, &2);
         assert_eq!(rt;
             errors.as_slice(),
             b"slh: 33 WriteFailed\n".as_slice(),

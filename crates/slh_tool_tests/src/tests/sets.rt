@@ -1,6 +1,6 @@
 //! Each set: keys, a signature of the empty message, and that signature with one bit flipped in each part.
 use super::roots::seed_digits;
-use super::{run, run_over};
+use super::{equal, run, run_over};
 use crate::{Folder, check_known, verify_known};
 use slh_devices::Reader;
 use std::process::Abort;
@@ -26,11 +26,11 @@ fn is_valid<R: Abort + AllocGlobal + Threads + Sync>(
 ) -> Result<bool, Fail> {
     let answer = verify_known(rt, public, b"", signature)?;
     if answer.status == 0 {
-        assert_eq!(rt; answer.output.as_slice(), b"valid\n".as_slice());
+        equal(rt, &answer.output.as_slice(), &b"valid\n".as_slice());
         return Ok(true);
     }
-    assert_eq!(rt; answer.status, 1);
-    assert_eq!(rt; answer.output.as_slice(), b"invalid\n".as_slice());
+    equal(rt, &answer.status, &1);
+    equal(rt, &answer.output.as_slice(), &b"invalid\n".as_slice());
     Ok(false)
 }
 
@@ -43,8 +43,8 @@ fn secret_of<R: Abort + AllocGlobal + Threads + Sync>(
     let mut input = Reader::new(digits.as_slice());
     let secret = run(rt, &["keygen", "--set", parts.set], &mut input)?.output;
     let answer = check_known(rt, secret.as_slice())?;
-    assert_eq!(rt; answer.output.as_slice(), b"consistent\n".as_slice());
-    assert_eq!(rt; answer.status, 0);
+    equal(rt, &answer.output.as_slice(), &b"consistent\n".as_slice());
+    equal(rt, &answer.status, &0);
     Ok(secret)
 }
 
@@ -67,7 +67,7 @@ fn refuses_a_bit_in_each_part<R: Abort + AllocGlobal + Threads + Sync>(
     let public = output_over(rt, &["public", "--key", "secret"], secret.as_slice())?;
     let words = ["sign", "--key", "secret", "--message", "empty"];
     let mut signature = output_over(rt, &words, secret.as_slice())?;
-    assert_eq!(rt; signature.len(), parts.signature);
+    equal(rt, &signature.len(), &parts.signature);
     assert!(rt; is_valid(rt, public.as_slice(), signature.as_slice())?);
     let n = usize::from(parts.n);
     let mut places = Vec::from_slice(rt.alloc(), &[0, n])?;
@@ -76,7 +76,7 @@ fn refuses_a_bit_in_each_part<R: Abort + AllocGlobal + Threads + Sync>(
     for place in (first_layer..parts.signature).step_by(parts.layer) {
         places.push(place)?;
     }
-    assert_eq!(rt; places.len(), parts.layers.saturating_add(2));
+    equal(rt, &places.len(), &parts.layers.saturating_add(2));
     for place in &places {
         assert!(rt; *place < signature.len());
         signature[*place] ^= 0x80;

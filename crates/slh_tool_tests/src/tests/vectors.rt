@@ -1,6 +1,6 @@
 //! The command `vectors`.
 use super::devices::{Folder, Full};
-use super::{check_refused, run_over, run_to};
+use super::{check_refused, equal, run_over, run_to};
 use crate::Answer;
 use slh_devices::Reader;
 use slh_tool::Fault;
@@ -54,9 +54,9 @@ fn reports_on_tests(rt: HostRuntime) -> Result<(), Fail> {
             let [command, option, path] = VECTORS;
             let words = [command, option, path, "--workers", workers];
             let answer = answer_to(&rt, &words, file)?;
-            assert_eq!(rt; answer.output.as_slice(), output);
+            equal(&rt, &answer.output.as_slice(), &output);
             assert!(rt; answer.errors.is_empty());
-            assert_eq!(rt; answer.status, status);
+            equal(&rt, &answer.status, &status);
         }
     }
     Ok(())
@@ -79,8 +79,8 @@ fn reports_on_tests_in_their_order(rt: HostRuntime) -> Result<(), Fail> {
         let [command, option, path] = VECTORS;
         let words = [command, option, path, "--workers", workers];
         let answer = answer_to(&rt, &words, file.as_slice())?;
-        assert_eq!(rt; answer.output.as_slice(), report.as_slice());
-        assert_eq!(rt; answer.status, 1);
+        equal(&rt, &answer.output.as_slice(), &report.as_slice());
+        equal(&rt, &answer.status, &1);
     }
     Ok(())
 }
@@ -132,19 +132,24 @@ fn tells_a_read_and_a_write_that_fail(rt: HostRuntime) -> Result<(), Fail> {
         let mut folder = Folder::new(&files);
         folder.fails_at = fails_at;
         let answer = run_over(&rt, &VECTORS, &mut folder)?;
-        assert_eq!(rt;
-            answer.errors.as_slice(),
-            b"slh: 32 ReadFailed\n".as_slice()
+        equal(
+            &rt,
+            &answer.errors.as_slice(),
+            &b"slh: 32 ReadFailed\n".as_slice(),
         );
-        assert_eq!(rt; answer.status, 2);
+        equal(&rt, &answer.status, &2);
     }
     for room in [0, 1, 40] {
         let mut output = Full { room, failures: 0 };
         let mut input = Reader::new([].as_slice());
         let mut folder = Folder::new(&[("tests", NOT_VALID)]);
         let (status, errors) = run_to(&rt, &VECTORS, &mut folder, &mut input, &mut output)?;
-        assert_eq!(rt; errors.as_slice(), b"slh: 33 WriteFailed\n".as_slice());
-        assert_eq!(rt; status, 2);
+        equal(
+            &rt,
+            &errors.as_slice(),
+            &b"slh: 33 WriteFailed\n".as_slice(),
+        );
+        equal(&rt, &status, &2);
     }
     Ok(())
 }
@@ -155,6 +160,6 @@ fn a_fault_of_a_member_has_its_number_and_name(rt: HostRuntime) {
         test: 1,
         member: Member::Kind,
     };
-    assert_eq!(rt; fault.number(), 23);
-    assert_eq!(rt; fault.name(), "Missing");
+    equal(&rt, &fault.number(), &23);
+    equal(&rt, &fault.name(), &"Missing");
 }

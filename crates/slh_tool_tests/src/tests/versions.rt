@@ -1,6 +1,6 @@
 //! Key files of both versions: `upgrade`, and keys of a set that is not one of the standard's.
 use super::messages::{PUBLIC, PUBLIC_1, SIGN, joined, secret_key};
-use super::{check_refused, run, run_over};
+use super::{check_refused, equal, run, run_over};
 use crate::{Answer, Folder, verify_known};
 use sha2::{Digest, Sha256};
 use slh_devices::Reader;
@@ -32,8 +32,8 @@ fn upgrades_key_files(rt: HostRuntime) -> Result<(), Fail> {
         (secret.as_slice(), secret.as_slice()),
     ] {
         let answer = upgraded(&rt, file)?;
-        assert_eq!(rt; answer.output.as_slice(), written);
-        assert_eq!(rt; answer.status, 0);
+        equal(&rt, &answer.output.as_slice(), &written);
+        equal(&rt, &answer.status, &0);
     }
     Ok(())
 }
@@ -93,22 +93,22 @@ const SIGNATURE: &str = "3a0c76bb813b33f4f1aa5293781e7b20d932ebe2710959718dbf3ea
 fn generates_and_checks_keys_of_a_custom_set(rt: HostRuntime) -> Result<(), Fail> {
     let words = ["keygen", "--set", "custom:16,2,1,1,1,1"];
     let answer = run(&rt, &words, &mut Reader::new(SEEDS.as_slice()))?;
-    assert_eq!(rt; answer.output.as_slice(), SECRET_FILE);
+    equal(&rt, &answer.output.as_slice(), &SECRET_FILE);
     let files = [("secret", SECRET_FILE)];
     let answer = run_over(
         &rt,
         &["public", "--key", "secret"],
         &mut Folder::new(&files),
     )?;
-    assert_eq!(rt; answer.output.as_slice(), PUBLIC_FILE);
+    equal(&rt, &answer.output.as_slice(), &PUBLIC_FILE);
     let answer = run_over(&rt, &["check", "--key", "secret"], &mut Folder::new(&files))?;
-    assert_eq!(rt; answer.output.as_slice(), b"consistent\n".as_slice());
+    equal(&rt, &answer.output.as_slice(), &b"consistent\n".as_slice());
     for file in [SECRET_FILE, PUBLIC_FILE] {
-        assert_eq!(rt; upgraded(&rt, file)?.output.as_slice(), file);
+        equal(&rt, &upgraded(&rt, file)?.output.as_slice(), &file);
     }
     let words = ["root", "--set", "custom:16,2,1,1,1,1"];
     let answer = run(&rt, &words, &mut Reader::new(SEEDS.as_slice()))?;
-    assert_eq!(rt; answer.output.as_slice(), &PUBLIC_FILE[37..]);
+    equal(&rt, &answer.output.as_slice(), &&PUBLIC_FILE[37..]);
     Ok(())
 }
 
@@ -124,13 +124,13 @@ fn signs_and_verifies_under_a_custom_set(rt: HostRuntime) -> Result<(), Fail> {
     let several: [&[&str]; 2] = [&[], &["--workers", "3", "--xmss-levels", "1"]];
     for options in several {
         let signature = signed(&rt, options)?.output;
-        assert_eq!(rt; signature.len(), 1152);
+        equal(&rt, &signature.len(), &1152);
         let digest = Sha256::digest(signature.as_slice());
         let digits = hex::encode(rt.alloc(), digest.as_slice())?;
-        assert_eq!(rt; digits.as_str(), SIGNATURE);
+        equal(&rt, &digits.as_str(), &SIGNATURE);
         let answer = verify_known(&rt, PUBLIC_FILE, b"abc", signature.as_slice())?;
-        assert_eq!(rt; answer.output.as_slice(), b"valid\n".as_slice());
-        assert_eq!(rt; answer.status, 0);
+        equal(&rt, &answer.output.as_slice(), &b"valid\n".as_slice());
+        equal(&rt, &answer.status, &0);
     }
     let answer = signed(&rt, &["--xmss-levels", "2"])?;
     check_refused(&rt, &answer, b"slh: 4 BadCutting\n");

@@ -1,5 +1,5 @@
 //! The arguments of commands, and `params`.
-use super::run;
+use super::{equal, run};
 use slh_devices::Reader;
 use slh_tool::Fault;
 use std::test::Fail;
@@ -55,9 +55,9 @@ fn answers_or_refuses_words(rt: HostRuntime) -> Result<(), Fail> {
     ];
     for (words, output, errors) in cases {
         let answer = run(&rt, words, &mut Reader::new([].as_slice()))?;
-        assert_eq!(rt; answer.output.as_slice(), output);
-        assert_eq!(rt; answer.errors.as_slice(), errors);
-        assert_eq!(rt; answer.status, if errors.is_empty() { 0 } else { 2 });
+        equal(&rt, &answer.output.as_slice(), &output);
+        equal(&rt, &answer.errors.as_slice(), &errors);
+        equal(&rt, &answer.status, &if errors.is_empty() { 0 } else { 2 });
     }
     Ok(())
 }
@@ -66,15 +66,16 @@ fn answers_or_refuses_words(rt: HostRuntime) -> Result<(), Fail> {
 fn prints_one_line_for_each_set(rt: HostRuntime) -> Result<(), Fail> {
     for words in [[].as_slice(), &["params"]] {
         let answer = run(&rt, words, &mut Reader::new([].as_slice()))?;
-        assert_eq!(rt; answer.status, 0);
-        assert_eq!(rt;
-            answer
+        equal(&rt, &answer.status, &0);
+        equal(
+            &rt,
+            &answer
                 .output
                 .as_slice()
                 .iter()
                 .filter(|b| **b == b'\n')
                 .count(),
-            6
+            &6,
         );
         assert!(rt; answer.output.as_slice().ends_with(LAST_LINE));
     }
@@ -185,7 +186,7 @@ fn help_names_the_options_and_an_example(rt: HostRuntime) -> Result<(), Fail> {
         for part in parts {
             assert!(rt; text.contains(*part), "{part}");
         }
-        assert_eq!(rt; answer.status, 0);
+        equal(&rt, &answer.status, &0);
         assert!(rt; answer.errors.is_empty());
     }
     Ok(())
@@ -193,6 +194,6 @@ fn help_names_the_options_and_an_example(rt: HostRuntime) -> Result<(), Fail> {
 
 #[test]
 fn a_fault_has_its_number_and_name(rt: HostRuntime) {
-    assert_eq!(rt; Fault::BadSeeds.number(), 34);
-    assert_eq!(rt; Fault::BadSeeds.name(), "BadSeeds");
+    equal(&rt, &Fault::BadSeeds.number(), &34);
+    equal(&rt, &Fault::BadSeeds.name(), &"BadSeeds");
 }

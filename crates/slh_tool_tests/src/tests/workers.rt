@@ -1,7 +1,7 @@
 //! `keygen` and `sign` with workers and cuts.
 use super::messages::{SIGN, SIGNATURES, joined, secret_key};
 use super::roots::seed_digits;
-use super::{check_refused, run, run_over};
+use super::{check_refused, equal, run, run_over};
 use crate::{Answer, Folder};
 use sha2::{Digest, Sha256};
 use slh_devices::Reader;
@@ -47,8 +47,8 @@ fn workers_and_cuts_write_the_same_bytes(rt: HostRuntime) -> Result<(), Fail> {
     for sharing in SHARINGS {
         let words = joined(&rt, &KEYGEN, sharing)?;
         let answer = run(&rt, &words, &mut Reader::new(digits.as_slice()))?;
-        assert_eq!(rt; answer.output.as_slice(), SECRET);
-        assert_eq!(rt; answer.status, 0);
+        equal(&rt, &answer.output.as_slice(), &SECRET);
+        equal(&rt, &answer.status, &0);
         let files = [("secret", SECRET), ("abc", b"abc".as_slice())];
         let words = joined(&rt, &plain, sharing)?;
         let answer = run_over(&rt, &words, &mut Folder::new(&files))?;
@@ -56,8 +56,8 @@ fn workers_and_cuts_write_the_same_bytes(rt: HostRuntime) -> Result<(), Fail> {
             rt.alloc(),
             Sha256::digest(answer.output.as_slice()).as_slice(),
         )?;
-        assert_eq!(rt; made.as_str(), digest);
-        assert_eq!(rt; answer.status, 0);
+        equal(&rt, &made.as_str(), &digest);
+        equal(&rt, &answer.status, &0);
     }
     Ok(())
 }
@@ -130,7 +130,7 @@ fn a_list_has_at_most_256_numbers(rt: HostRuntime) -> Result<(), Fail> {
             } else {
                 b"slh: 35 BadOption\n".as_slice()
             };
-            assert_eq!(rt; answer.errors.as_slice(), errors);
+            equal(&rt, &answer.errors.as_slice(), &errors);
         }
     }
     Ok(())
@@ -166,9 +166,10 @@ fn judges_cuts_between_the_form_and_the_message(rt: HostRuntime) -> Result<(), F
     }
     let unknown = ["keygen", "--set", "SLH-DSA-SHAKE-128f", "--xmss-cuts", "x"];
     let answer = run(&rt, &unknown, &mut Reader::new([].as_slice()))?;
-    assert_eq!(rt;
-        answer.errors.as_slice(),
-        b"slh: 12 UnknownSet\n".as_slice()
+    equal(
+        &rt,
+        &answer.errors.as_slice(),
+        &b"slh: 12 UnknownSet\n".as_slice(),
     );
     Ok(())
 }

@@ -1,6 +1,6 @@
 //! The first fault of a file.
-use super::fault_of;
 use super::files::{KEYGEN, SIGN, VERIFY, file_of, file_with};
+use super::{equal, fault_of};
 use crate::{Member, VectorFault};
 use std::test::Fail;
 
@@ -46,7 +46,7 @@ fn judges_the_file(rt: HostRuntime) {
         ),
     ];
     for (file, fault) in cases {
-        assert_eq!(rt; fault_of(rt.alloc(), file), fault);
+        equal(&rt, &fault_of(rt.alloc(), file), &fault);
     }
 }
 
@@ -55,15 +55,15 @@ fn judges_members_in_order(rt: HostRuntime) -> Result<(), Fail> {
     let alloc = rt.alloc();
     for members in [KEYGEN.as_slice(), SIGN.as_slice(), VERIFY.as_slice()] {
         let file = file_of(alloc, members)?;
-        assert_eq!(rt; fault_of(alloc, file.as_bytes()), None);
+        equal(&rt, &fault_of(alloc, file.as_bytes()), &None);
         for (at, (member, _)) in members.iter().enumerate() {
             for whole in [true, false] {
                 let file = file_with(alloc, members, at, None, whole)?;
-                assert_eq!(rt; fault_of(alloc, file.as_bytes()), missing(1, *member));
+                equal(&rt, &fault_of(alloc, file.as_bytes()), &missing(1, *member));
                 // Not one of these is a value of any member.
                 for value in ["1", "\"0\"", "\"0g\"", "null", "[\"00\"]"] {
                     let file = file_with(alloc, members, at, Some(value), whole)?;
-                    assert_eq!(rt; fault_of(alloc, file.as_bytes()), bad(1, *member));
+                    equal(&rt, &fault_of(alloc, file.as_bytes()), &bad(1, *member));
                 }
             }
         }
@@ -83,12 +83,12 @@ fn judges_lengths(rt: HostRuntime) -> Result<(), Fail> {
             } else {
                 bad(1, *member)
             };
-            assert_eq!(rt; fault_of(alloc, file.as_bytes()), fault);
+            equal(&rt, &fault_of(alloc, file.as_bytes()), &fault);
         }
     }
     // No random bytes, and one byte too many.
     let none = file_with(alloc, &SIGN, 6, Some("\"\""), true)?;
-    assert_eq!(rt; fault_of(alloc, none.as_bytes()), None);
+    equal(&rt, &fault_of(alloc, none.as_bytes()), &None);
     let longer = file_with(
         alloc,
         &SIGN,
@@ -96,7 +96,11 @@ fn judges_lengths(rt: HostRuntime) -> Result<(), Fail> {
         Some("\"000102030405060708090a0b0c0d0e0f10\""),
         true,
     )?;
-    assert_eq!(rt; fault_of(alloc, longer.as_bytes()), bad(1, Member::Random));
+    equal(
+        &rt,
+        &fault_of(alloc, longer.as_bytes()),
+        &bad(1, Member::Random),
+    );
     Ok(())
 }
 
@@ -113,7 +117,7 @@ fn asks_for_a_context_unless_internal(rt: HostRuntime) -> Result<(), Fail> {
         let mut members = VERIFY;
         members[3] = (Member::Form, form);
         let file = file_with(alloc, &members, 5, None, true)?;
-        assert_eq!(rt; fault_of(alloc, file.as_bytes()), fault);
+        equal(&rt, &fault_of(alloc, file.as_bytes()), &fault);
     }
     Ok(())
 }
@@ -124,7 +128,11 @@ fn a_front_of_a_file_is_no_json(rt: HostRuntime) -> Result<(), Fail> {
     let file = file_of(alloc, &VERIFY)?;
     let bytes = file.as_bytes();
     for len in 0..bytes.len() {
-        assert_eq!(rt; fault_of(alloc, &bytes[..len]), Some(VectorFault::NotJson));
+        equal(
+            &rt,
+            &fault_of(alloc, &bytes[..len]),
+            &Some(VectorFault::NotJson),
+        );
     }
     Ok(())
 }
@@ -139,9 +147,10 @@ fn nests_no_deeper_than_json_is_read(rt: HostRuntime) -> Result<(), Fail> {
     for _ in 0..100_000 {
         file.push_str("]")?;
     }
-    assert_eq!(rt;
-        fault_of(alloc, file.as_bytes()),
-        Some(VectorFault::NotJson)
+    equal(
+        &rt,
+        &fault_of(alloc, file.as_bytes()),
+        &Some(VectorFault::NotJson),
     );
     Ok(())
 }
@@ -152,7 +161,7 @@ fn a_fault_has_its_number_and_name(rt: HostRuntime) {
         test: 7,
         member: Member::PkSeed,
     };
-    assert_eq!(rt; fault.number(), 24);
-    assert_eq!(rt; fault.name(), "Bad");
-    assert_eq!(rt; Member::PkSeed.name(), "pkSeed");
+    equal(&rt, &fault.number(), &24);
+    equal(&rt, &fault.name(), &"Bad");
+    equal(&rt, &Member::PkSeed.name(), &"pkSeed");
 }

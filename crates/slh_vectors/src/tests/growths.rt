@@ -1,4 +1,5 @@
 //! Runs of tests with the 1st growth refused, then the 2nd, and so on until a run meets no refusal.
+use super::equal;
 use super::files::{KEYGEN, SIGN, VERIFY, file_of};
 use crate::{Member, Test, VectorFault, read_vectors, run_test, run_vectors};
 use refusing_allocator::Refusing;
@@ -32,7 +33,7 @@ fn was_refused<T: Drop>(
         assert!(rt; outcome.is_ok());
         return false;
     }
-    assert_eq!(rt; outcome.err(), Some(VectorFault::NoMemory));
+    equal(rt, &outcome.err(), &Some(VectorFault::NoMemory));
     true
 }
 
@@ -49,7 +50,7 @@ fn run_test_refuses_at_each_growth(rt: HostRuntime) -> Result<(), Fail> {
             }
             refusals = nth;
         }
-        assert_eq!(rt; refusals, growths);
+        equal(&rt, &refusals, &growths);
     }
     Ok(())
 }

@@ -1,4 +1,5 @@
 //! What comes of tests, all under SLH-DSA-SHA2-128f and the seeds 00, 01, 02, ...
+use super::equal;
 use super::files::{VERIFY, file_of, file_with};
 use crate::{Member, Outcome, all_passed, read_vectors, run_test, run_vectors};
 use slh_core::{Randomizer, keygen_internal, sign};
@@ -78,7 +79,7 @@ fn keygen_passes_with_both_keys(rt: HostRuntime) -> Result<(), Fail> {
             (Member::Sk, sk),
             (Member::Pk, pk),
         ];
-        assert_eq!(rt; outcome_of(rt.alloc(), &members)?, outcome);
+        equal(&rt, &outcome_of(rt.alloc(), &members)?, &outcome);
     }
     Ok(())
 }
@@ -108,7 +109,7 @@ fn sign_passes_with_exactly_the_signature(rt: HostRuntime) -> Result<(), Fail> {
             (Member::Random, random),
             (Member::Signature, signature),
         ];
-        assert_eq!(rt; outcome_of(alloc, &members)?, outcome);
+        equal(&rt, &outcome_of(alloc, &members)?, &outcome);
     }
     Ok(())
 }
@@ -150,7 +151,7 @@ fn verify_passes_with_its_answer(rt: HostRuntime) -> Result<(), Fail> {
                 (Member::Valid, answer),
             ];
             let outcome = if agrees { Outcome::Pass } else { Outcome::Fail };
-            assert_eq!(rt; outcome_of(alloc, &members)?, outcome);
+            equal(&rt, &outcome_of(alloc, &members)?, &outcome);
         }
     }
     Ok(())

@@ -1,6 +1,7 @@
 //! Reports, through sinks that take all or fail in mid-stream.
 ghost use Rattle.std.specs.Prelude.{◌≡◌, IfOk, None, length};
 
+use super::equal;
 use super::files::{KEYGEN, SIGN, VERIFY, file_of};
 use crate::{Outcome, Test, read_vectors, report};
 use slh_devices::{Sink, WriteFault, Writer};
@@ -33,8 +34,8 @@ const REPORT: &[u8] =
 fn a_test_has_its_kind_and_set(rt: HostRuntime) -> Result<(), Fail> {
     let tests = three_tests(rt.alloc())?;
     for (test, kind) in tests.iter().zip(["keygen", "sign", "verify"]) {
-        assert_eq!(rt; test.kind(), kind);
-        assert_eq!(rt; test.set().name(), "SLH-DSA-SHA2-128f");
+        equal(&rt, &test.kind(), &kind);
+        equal(&rt, &test.set().name(), &"SLH-DSA-SHA2-128f");
     }
     Ok(())
 }
@@ -45,13 +46,14 @@ fn reports_a_line_for_each_test(rt: HostRuntime) -> Result<(), Fail> {
     let tests = three_tests(alloc)?;
     let mut output = Writer::new(Vec::new(alloc));
     assert!(rt; report(&tests, &OUTCOMES, &mut output).is_ok());
-    assert_eq!(rt; output.into_inner().as_slice(), REPORT);
+    equal(&rt, &output.into_inner().as_slice(), &REPORT);
 
     let mut output = Writer::new(Vec::new(alloc));
     assert!(rt; report(&[], &[], &mut output).is_ok());
-    assert_eq!(rt;
-        output.into_inner().as_slice(),
-        b"passed 0 failed 0\n".as_slice()
+    equal(
+        &rt,
+        &output.into_inner().as_slice(),
+        &b"passed 0 failed 0\n".as_slice(),
     );
     Ok(())
 }
@@ -89,8 +91,8 @@ fn a_failed_write_lets_a_front_through(rt: HostRuntime) -> Result<(), Fail> {
             failures: 0,
         };
         let done = report(&tests, &OUTCOMES, &mut output);
-        assert_eq!(rt; done.is_ok(), room == REPORT.len());
-        assert_eq!(rt; output.taken.as_slice(), &REPORT[..room]);
+        equal(&rt, &done.is_ok(), &(room == REPORT.len()));
+        equal(&rt, &output.taken.as_slice(), &&REPORT[..room]);
     }
     Ok(())
 }
