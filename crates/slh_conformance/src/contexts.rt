@@ -3,7 +3,7 @@ ghost use Rattle.std.specs.Prelude.{◌≡◌, length};
 ghost use Rattle.slh_params.specs.Params.{sig_len};
 ghost use Rattle.slh_params.specs.ParamSet.{params};
 
-use crate::fixtures::{hash_signature, key, signature};
+use crate::fixtures::{equal, hash_signature, key, signature};
 use slh_core::{
     PreHash, PreHasher, Randomizer, SecretKey, hash_sign, hash_sign_digest, hash_verify,
     hash_verify_digest, sign, sign_internal, verify,
@@ -25,9 +25,10 @@ fn messages(rt: HostRuntime) -> Result<(), Fail> {
     let alloc = rt.alloc();
     let sk = key(ParamSet::S128f);
     let pure = internal_signature(alloc, &[0, 0, 0x61, 0x62, 0x63], &sk)?;
-    assert_eq!(rt;
-        signature(alloc, b"abc", b"", &sk)?.as_slice(),
-        pure.as_slice()
+    equal(
+        &rt,
+        &signature(alloc, b"abc", b"", &sk)?.as_slice(),
+        &pure.as_slice(),
     );
 
     // 01, the length of "x", "x", the object identifier, and the SHA-256 of "abc".
@@ -35,10 +36,10 @@ fn messages(rt: HostRuntime) -> Result<(), Fail> {
         alloc,
         "0101780609608648016503040201ba7816bf8f01cfea414140de5dae2223b00361a396177a9cb410ff61f20015ad",
     )?;
-    assert_eq!(rt; message.len(), 46);
+    equal(&rt, &message.len(), &46);
     let pre_hashed = internal_signature(alloc, &message, &sk)?;
     let expected = hash_signature(alloc, b"abc", b"x", PreHash::Sha256, &sk)?;
-    assert_eq!(rt; pre_hashed.as_slice(), expected.as_slice());
+    equal(&rt, &pre_hashed.as_slice(), &expected.as_slice());
     Ok(())
 }
 
@@ -75,7 +76,7 @@ fn refuse(rt: &impl Abort, ctx: &[u8], sk: &SecretKey, out: &mut [u8])
         .is_err(),
         hash_sign_digest(&digest, ctx, sk, Randomizer::Deterministic, out).is_err(),
     ];
-    assert_eq!(rt; refused, [true; 3]);
+    equal(rt, &refused, &[true; 3]);
     let pk = sk.public();
     assert!(rt; !verify(b"abc", ctx, out, &pk));
     assert!(rt; !hash_verify(b"abc", ctx, PreHash::Sha256, out, &pk));
@@ -89,9 +90,10 @@ fn long_context(rt: HostRuntime) -> Result<(), Fail> {
     refuse(&rt, &[7; 256], &sk, &mut out);
     assert!(rt; out.iter().all(|&byte| byte == 1));
     let refused = sign(b"abc", &[7; 256], &sk, Randomizer::Deterministic, &mut out).err();
-    assert_eq!(rt;
-        refused.map(|fault| (fault.number(), fault.name())),
-        Some((2, "ContextTooLong"))
+    equal(
+        &rt,
+        &refused.map(|fault| (fault.number(), fault.name())),
+        &Some((2, "ContextTooLong")),
     );
     Ok(())
 }
@@ -101,7 +103,7 @@ fn signature_lengths(rt: HostRuntime) -> Result<(), Fail> {
     let sk = key(ParamSet::S128f);
     let pk = sk.public();
     let mut sig = signature(rt.alloc(), b"abc", b"", &sk)?;
-    assert_eq!(rt; sig.len(), 17088);
+    equal(&rt, &sig.len(), &17088);
     let last = sig.pop().ok_or("no bytes")?;
     assert!(rt; !verify(b"abc", b"", &sig, &pk));
     assert!(rt; !verify(b"abc", b"", b"", &pk));

@@ -1,4 +1,5 @@
 //! Parameter sets of other numbers than the standard's: what is refused, and labels.
+use crate::fixtures::equal;
 use slh_params::{ParamSet, RecordFault};
 use std::test::Fail;
 
@@ -39,26 +40,31 @@ fn refused_member(record: &[u32; 6]) -> &'static str {
 #[test]
 fn invalid_numbers_are_refused(rt: HostRuntime) {
     for (record, member) in &REFUSED {
-        assert_eq!(rt; refused_member(record), *member);
+        equal(&rt, &refused_member(record), &*member);
     }
 }
 
 #[test]
 fn a_refusal_is_told(rt: HostRuntime) -> Result<(), Fail> {
     let fault = RecordFault::BadRecord { member: "lg_w" };
-    assert_eq!(rt; fault.number(), 5);
-    assert_eq!(rt; fault.name(), "BadRecord");
+    equal(&rt, &fault.number(), &5);
+    equal(&rt, &fault.name(), &"BadRecord");
     let text = fault.to_string(rt.alloc())?;
-    assert_eq!(rt;
-        text.as_str(),
-        "the member lg_w of the parameter set is invalid"
+    equal(
+        &rt,
+        &text.as_str(),
+        &"the member lg_w of the parameter set is invalid",
     );
     Ok(())
 }
 
 #[test]
 fn labels_of_sets(rt: HostRuntime) -> Result<(), Fail> {
-    assert_eq!(rt; ParamSet::custom(16, 4, 3, 22, 6, 33)?, ParamSet::S128f);
+    equal(
+        &rt,
+        &ParamSet::custom(16, 4, 3, 22, 6, 33)?,
+        &ParamSet::S128f,
+    );
     let rows = [
         (ParamSet::custom(16, 2, 1, 1, 1, 1)?, "custom:16,2,1,1,1,1"),
         (
@@ -77,7 +83,7 @@ fn labels_of_sets(rt: HostRuntime) -> Result<(), Fail> {
         (ParamSet::S256f, "SLH-DSA-SHA2-256f"),
     ];
     for (set, text) in &rows {
-        assert_eq!(rt; set.label().as_str(), *text);
+        equal(&rt, &set.label().as_str(), &*text);
         assert_eq!(rt; ParamSet::from_label(text.as_bytes()), Some(*set), "{text}");
     }
     Ok(())
@@ -107,5 +113,5 @@ fn other_texts_are_no_labels(rt: HostRuntime) {
     for text in &OTHER_TEXTS {
         assert_eq!(rt; ParamSet::from_label(text.as_bytes()), None, "{text}");
     }
-    assert_eq!(rt; ParamSet::from_label(&[0xff]), None);
+    equal(&rt, &ParamSet::from_label(&[0xff]), &None);
 }

@@ -1,4 +1,5 @@
 //! Worked examples of cuttings, of job numbers and of what is refused.
+use crate::fixtures::equal;
 use Cuts::{Levels, Points};
 use slh_cutting::{
     CutFault, CutTree, Cuts, Cutting, JobRange, JobTree, job, keygen_job, keygen_jobs, sign_jobs,
@@ -20,10 +21,10 @@ struct Example<'a> {
 
 /// The cutting has these numbers of jobs, and these jobs.
 fn has_jobs(rt: &impl Abort, cutting: &Cutting, example: &Example<'_>) {
-    assert_eq!(rt; cutting.set(), example.set);
-    assert_eq!(rt; sign_jobs(cutting), example.sign_jobs);
-    assert_eq!(rt; keygen_jobs(cutting), example.keygen_jobs);
-    assert_eq!(rt; cutting.xmss_ranges(), example.keygen_jobs);
+    equal(rt, &cutting.set(), &example.set);
+    equal(rt, &sign_jobs(cutting), &example.sign_jobs);
+    equal(rt, &keygen_jobs(cutting), &example.keygen_jobs);
+    equal(rt, &cutting.xmss_ranges(), &example.keygen_jobs);
     for (number, tree, lo, hi) in example.jobs {
         assert!(rt; *number < sign_jobs(cutting));
         let range = JobRange {
@@ -169,9 +170,9 @@ fn bad_cuts_are_refused(rt: HostRuntime) {
             tree: *tree,
             place: *place,
         };
-        assert_eq!(rt; Cutting::new(*set, *xmss, *fors).err(), Some(fault));
-        assert_eq!(rt; fault.number(), 4);
-        assert_eq!(rt; fault.name(), "BadCutting");
+        equal(&rt, &Cutting::new(*set, *xmss, *fors).err(), &Some(fault));
+        equal(&rt, &fault.number(), &4);
+        equal(&rt, &fault.name(), &"BadCutting");
     }
 }
 
@@ -179,18 +180,19 @@ fn bad_cuts_are_refused(rt: HostRuntime) {
 #[tactic(auto, unfolding(slh_params::specs::ParamSet::params))]
 fn jobs_of_one_tree(rt: HostRuntime) -> Result<(), Fail> {
     let cutting = Cutting::new(ParamSet::S128f, Points(&[3]), Levels(1))?;
-    assert_eq!(rt; cutting.fors_ranges(), 2);
-    assert_eq!(rt; cutting.first_job(JobTree::Xmss(21)), 42);
-    assert_eq!(rt; cutting.first_job(JobTree::Fors(32)), 108);
+    equal(&rt, &cutting.fors_ranges(), &2);
+    equal(&rt, &cutting.first_job(JobTree::Xmss(21)), &42);
+    equal(&rt, &cutting.first_job(JobTree::Fors(32)), &108);
     assert!(rt; 1 < keygen_jobs(&cutting));
     let top = JobTree::Xmss(21);
-    assert_eq!(rt;
-        keygen_job(&cutting, 1),
-        JobRange {
+    equal(
+        &rt,
+        &keygen_job(&cutting, 1),
+        &JobRange {
             tree: top,
             lo: 3,
-            hi: 8
-        }
+            hi: 8,
+        },
     );
     Ok(())
 }

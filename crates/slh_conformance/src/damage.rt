@@ -1,5 +1,5 @@
 //! Damaged signatures of the set 128f, which `verify` refuses.
-use crate::fixtures::{flip, key, key_from, signature};
+use crate::fixtures::{equal, flip, key, key_from, signature};
 use slh_core::verify;
 use slh_params::ParamSet;
 use std::test::Fail;
@@ -9,7 +9,7 @@ fn one_bit_in_each_node(rt: HostRuntime) -> Result<(), Fail> {
     let sk = key(ParamSet::S128f);
     let pk = sk.public();
     let mut sig = signature(rt.alloc(), b"abc", b"", &sk)?;
-    assert_eq!(rt; sig.len(), 1068 * 16);
+    equal(&rt, &sig.len(), &(1068 * 16));
     for node in 0..1068 {
         flip(&rt, &mut sig, 16 * node);
         assert!(rt; !verify(b"abc", b"", &sig, &pk), "in node {node}");

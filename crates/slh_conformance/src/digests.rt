@@ -1,5 +1,5 @@
 //! Cuts of message digests.
-use crate::fixtures::{counting, set_of};
+use crate::fixtures::{counting, equal, set_of};
 use slh_core::cut_digest;
 use slh_few::layer_place;
 use slh_params::{ParamSet, base_2b};
@@ -80,7 +80,7 @@ fn last_of_256f(rt: HostRuntime) {
     }
     let mut indices = [0; 35];
     base_2b(&[0xff; 40], 9, &mut indices);
-    assert_eq!(rt; indices, [511; 35]);
+    equal(&rt, &indices, &[511; 35]);
 }
 
 /// What the digest 00, 01, .. of 128f asks for in layer 1, and in the first FORS trees; and what the digest
@@ -93,13 +93,13 @@ fn places_of_128(rt: HostRuntime) {
     assert!(rt; m <= digest.len());
     let cut = cut_digest(set, &digest[..m]);
     let at = layer_place(set, cut.idx_tree, cut.idx_leaf, 1);
-    assert_eq!(rt; (at.tree, at.pair), (0x0323436383a3c3e4, 0));
+    equal(&rt, &(at.tree, at.pair), &(0x0323436383a3c3e4, 0));
     let mut indices = [0; 8];
     base_2b(&digest, 6, &mut indices);
-    assert_eq!(rt; indices, [0, 0, 4, 2, 0, 48, 16, 5]);
+    equal(&rt, &indices, &[0, 0, 4, 2, 0, 48, 16, 5]);
     let mut indices = [0; 14];
     base_2b(&[0xff; 21], 12, &mut indices);
-    assert_eq!(rt; indices, [4095; 14]);
+    equal(&rt, &indices, &[4095; 14]);
 }
 
 /// The digests ff, ff, .. of a record of one layer, and of one of 65 layers.
@@ -108,15 +108,15 @@ fn places_of_records(rt: HostRuntime) -> Result<(), Fail> {
     let low = set_of("custom:16,2,1,1,1,1")?;
     assert!(rt; low.m() == 2);
     let cut = cut_digest(low, &[0xff; 2]);
-    assert_eq!(rt; (cut.idx_tree, cut.idx_leaf), (0, 1));
+    equal(&rt, &(cut.idx_tree, cut.idx_leaf), &(0, 1));
     let mut indices = [0; 1];
     base_2b(&[0xff], 1, &mut indices);
-    assert_eq!(rt; indices, [1]);
+    equal(&rt, &indices, &[1]);
     let high = set_of("custom:24,2,1,65,1,8")?;
     assert!(rt; high.m() == 10);
     let cut = cut_digest(high, &[0xff; 10]);
-    assert_eq!(rt; (cut.idx_tree, cut.idx_leaf), (u64::MAX, 1));
+    equal(&rt, &(cut.idx_tree, cut.idx_leaf), &(u64::MAX, 1));
     let at = layer_place(high, cut.idx_tree, cut.idx_leaf, 64);
-    assert_eq!(rt; (at.tree, at.pair), (0, 1));
+    equal(&rt, &(at.tree, at.pair), &(0, 1));
     Ok(())
 }

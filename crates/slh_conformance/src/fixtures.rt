@@ -8,8 +8,14 @@ use sha2::{Digest, Sha256};
 use slh_core::{PreHash, Randomizer, SecretKey, hash_sign, keygen_internal, sign};
 use slh_params::{Node, ParamSet, node_of};
 use std::alloc::Global;
+use std::fmt::Debug;
 use std::process::Abort;
 use std::test::Fail;
+
+/// Fails the test where the two are not equal.
+pub(crate) fn equal<T: PartialEq + Debug>(rt: &impl Abort, found: &T, expected: &T) {
+    assert_eq!(rt; found, expected);
+}
 
 /// The bytes from `first` on: 00, 01, 02, .. where it is 0.
 pub(crate) fn counting(first: u8) -> [u8; 96] {

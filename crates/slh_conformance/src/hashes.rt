@@ -1,6 +1,6 @@
 //! HMAC, MGF1 and the tweakable and message hashes against values of other implementations.
 
-use crate::fixtures::{bytes_of, counting, hex_of, node_from, set_of};
+use crate::fixtures::{bytes_of, counting, equal, hex_of, node_from, set_of};
 use crate::hash_values::{HMAC, MGF1, VALUES};
 use sha2::{Digest, Sha256, Sha512};
 use slh_hash::{
@@ -17,8 +17,16 @@ fn hmac_values(rt: HostRuntime) -> Result<(), Fail> {
         let parts = [text.as_slice()];
         let sha256 = hmac_sha256(key.as_slice(), &parts);
         let sha512 = hmac_sha512(key.as_slice(), &parts);
-        assert_eq!(rt; hex_of(rt.alloc(), sha256.as_slice())?.as_str(), *short);
-        assert_eq!(rt; hex_of(rt.alloc(), sha512.as_slice())?.as_str(), *long);
+        equal(
+            &rt,
+            &hex_of(rt.alloc(), sha256.as_slice())?.as_str(),
+            &*short,
+        );
+        equal(
+            &rt,
+            &hex_of(rt.alloc(), sha512.as_slice())?.as_str(),
+            &*long,
+        );
     }
     Ok(())
 }
@@ -71,13 +79,15 @@ fn hmac_by_its_pads(rt: HostRuntime) {
         );
     }
     let long = [0x0b; 129];
-    assert_eq!(rt;
-        hmac_sha256(&long[..65], &[text]),
-        hmac_sha256(&Sha256::digest(&long[..65]), &[text])
+    equal(
+        &rt,
+        &hmac_sha256(&long[..65], &[text]),
+        &hmac_sha256(&Sha256::digest(&long[..65]), &[text]),
     );
-    assert_eq!(rt;
-        hmac_sha512(&long, &[text]),
-        hmac_sha512(&Sha512::digest(&long), &[text])
+    equal(
+        &rt,
+        &hmac_sha512(&long, &[text]),
+        &hmac_sha512(&Sha512::digest(&long), &[text]),
     );
 }
 
@@ -88,9 +98,9 @@ fn mgf1_values(rt: HostRuntime) -> Result<(), Fail> {
         let mut room = [0; 130];
         let len = (short.len() / 2).min(130);
         mgf1_sha256(&[seed.as_slice()], &mut room[..len]);
-        assert_eq!(rt; hex_of(rt.alloc(), &room[..len])?.as_str(), *short);
+        equal(&rt, &hex_of(rt.alloc(), &room[..len])?.as_str(), &*short);
         mgf1_sha512(&[seed.as_slice()], &mut room[..len]);
-        assert_eq!(rt; hex_of(rt.alloc(), &room[..len])?.as_str(), *long);
+        equal(&rt, &hex_of(rt.alloc(), &room[..len])?.as_str(), &*long);
     }
     Ok(())
 }
@@ -100,10 +110,10 @@ fn mgf1_values(rt: HostRuntime) -> Result<(), Fail> {
 fn mgf1_by_its_counter(rt: HostRuntime) {
     let mut block = [0; 32];
     mgf1_sha256(&[b"bar"], &mut block);
-    assert_eq!(rt; block, Sha256::digest(b"bar\x00\x00\x00\x00"));
+    equal(&rt, &block, &Sha256::digest(b"bar\x00\x00\x00\x00"));
     let mut longer = [0; 33];
     mgf1_sha256(&[b"bar"], &mut longer);
-    assert_eq!(rt; longer[32], Sha256::digest(b"bar\x00\x00\x00\x01")[0]);
+    equal(&rt, &longer[32], &Sha256::digest(b"bar\x00\x00\x00\x01")[0]);
 }
 
 /// SK.seed, SK.prf and PK.seed of n bytes each, which rise from 0 over all three.
@@ -159,7 +169,11 @@ fn tweakable_values(rt: HostRuntime) -> Result<(), Fail> {
             (t_of(set, pk_seed, &adrs, set.len()), values.t_len),
             (t_of(set, pk_seed, &adrs, set.k() as usize), values.t_k),
         ] {
-            assert_eq!(rt; hex_of(rt.alloc(), node.as_slice())?.as_str(), expected);
+            equal(
+                &rt,
+                &hex_of(rt.alloc(), node.as_slice())?.as_str(),
+                &expected,
+            );
         }
     }
     Ok(())
@@ -178,7 +192,11 @@ fn message_values(rt: HostRuntime) -> Result<(), Fail> {
             (b"abc".as_slice(), values.prf_msg_abc, values.h_msg_abc),
         ] {
             let node = prf_msg(set, sk_prf.as_slice(), opt_rand.as_slice(), &[message]);
-            assert_eq!(rt; hex_of(rt.alloc(), node.as_slice())?.as_str(), randomizer);
+            equal(
+                &rt,
+                &hex_of(rt.alloc(), node.as_slice())?.as_str(),
+                &randomizer,
+            );
             let mut room = [0; 122];
             let m = set.m();
             assert!(rt; m <= 122);
@@ -191,7 +209,7 @@ fn message_values(rt: HostRuntime) -> Result<(), Fail> {
                 &[message],
                 out,
             );
-            assert_eq!(rt; hex_of(rt.alloc(), out)?.as_str(), digest);
+            equal(&rt, &hex_of(rt.alloc(), out)?.as_str(), &digest);
         }
     }
     Ok(())

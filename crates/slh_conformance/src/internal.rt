@@ -2,7 +2,7 @@
 ghost use Rattle.slh_params.specs.ParamSet.{params};
 ghost use Rattle.slh_core.specs.Randomizers.{HasLength};
 
-use crate::fixtures::{key, sha256_hex};
+use crate::fixtures::{equal, key, sha256_hex};
 use slh_core::{Randomizer, SecretKey, sign_internal, verify_internal};
 use slh_params::ParamSet;
 use std::alloc::Global;
@@ -33,20 +33,22 @@ fn parts(rt: HostRuntime) -> Result<(), Fail> {
         &sk,
         Randomizer::Deterministic,
     )?;
-    assert_eq!(rt; cut.as_slice(), whole.as_slice());
+    equal(&rt, &cut.as_slice(), &whole.as_slice());
     let given = signature_of_parts(alloc, &[b"\0\0abc"], &sk, Randomizer::Given(sk.pk_seed()))?;
-    assert_eq!(rt; given.as_slice(), whole.as_slice());
+    equal(&rt, &given.as_slice(), &whole.as_slice());
     assert!(rt; verify_internal(&[b"\0\0", b"abc"], &whole, &sk.public()));
 
     // The FORS signature follows the 16 bytes of R, and has 3696 bytes.
-    assert_eq!(rt; whole.len(), 17088);
-    assert_eq!(rt;
-        sha256_hex(alloc, &whole.as_slice()[16..3712])?.as_str(),
-        "ec425869a102999188bff610a28ea7d26cbd03283bb2b39df8f82404d7316c89"
+    assert!(rt; whole.len() == 17088);
+    equal(
+        &rt,
+        &sha256_hex(alloc, &whole.as_slice()[16..3712])?.as_str(),
+        &"ec425869a102999188bff610a28ea7d26cbd03283bb2b39df8f82404d7316c89",
     );
-    assert_eq!(rt;
-        sha256_hex(alloc, &whole.as_slice()[3712..])?.as_str(),
-        "4c1a07f9704e23d0df1e76b3ea42ca0a1f89d3b3ee80b5790ddb39b32207a5d2"
+    equal(
+        &rt,
+        &sha256_hex(alloc, &whole.as_slice()[3712..])?.as_str(),
+        &"4c1a07f9704e23d0df1e76b3ea42ca0a1f89d3b3ee80b5790ddb39b32207a5d2",
     );
     Ok(())
 }

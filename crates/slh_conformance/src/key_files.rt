@@ -1,5 +1,5 @@
 //! Key files, and writing them within little memory.
-use crate::fixtures::key;
+use crate::fixtures::{equal, key};
 use linked_list_allocator::LocalHeap;
 use slh_files::{FileFault, write_public, write_secret};
 use slh_params::ParamSet;
@@ -11,9 +11,9 @@ mod lines;
 /// Whether the file was written as it should be; if not, memory ran out.
 fn is_written(rt: &impl Abort, written: Result<String<&LocalHeap>, FileFault>, file: &str) -> bool {
     match written {
-        Ok(text) => assert_eq!(rt; text.as_str(), file),
+        Ok(text) => equal(rt, &text.as_str(), &file),
         Err(fault) => {
-            assert_eq!(rt; fault, FileFault::NoMemory);
+            equal(rt, &fault, &FileFault::NoMemory);
             return false;
         }
     }

@@ -1,7 +1,7 @@
 //! Keys: their lengths, PK.root, and sources of random bytes.
 ghost use Rattle.std.specs.Prelude.{⊤};
 
-use crate::fixtures::{counting, key, key_from, signature};
+use crate::fixtures::{counting, equal, key, key_from, signature};
 use rand_core::Rng;
 use rand_pcg::Pcg32;
 use slh_core::{
@@ -55,7 +55,7 @@ fn failing_at(fails_at: u32) -> Counting {
 }
 
 fn same_key(rt: &impl Abort, sk: &SecretKey, expected: &SecretKey) {
-    assert_eq!(rt; sk.bytes(), expected.bytes());
+    equal(rt, &sk.bytes(), &expected.bytes());
     assert!(rt; check_pair(sk));
 }
 
@@ -64,8 +64,8 @@ fn failing_sources(rt: HostRuntime) -> Result<(), Fail> {
     for fails_at in 1..4 {
         let mut source = failing_at(fails_at);
         let refused = keygen(ParamSet::S128f, &mut source).err();
-        assert_eq!(rt; refused.map(|fault| fault.number()), Some(7));
-        assert_eq!(rt; source.draws, fails_at);
+        equal(&rt, &refused.map(|fault| fault.number()), &Some(7));
+        equal(&rt, &source.draws, &fails_at);
     }
     let sk = keygen(ParamSet::S128f, &mut failing_at(0))?;
     same_key(&rt, &sk, &key(ParamSet::S128f));
@@ -99,28 +99,32 @@ fn random_number_generator(rt: HostRuntime) -> Result<(), Fail> {
 #[test]
 fn lengths_and_parts(rt: HostRuntime) -> Result<(), Fail> {
     let refused = SecretKey::from_bytes(ParamSet::S128f, &[0; 63]).err();
-    assert_eq!(rt; refused.map(|fault| fault.number()), Some(3));
+    equal(&rt, &refused.map(|fault| fault.number()), &Some(3));
     let refused = PublicKey::from_bytes(ParamSet::S128f, &[0; 33]).err();
-    assert_eq!(rt; refused.map(|fault| fault.name()), Some("BadLength"));
+    equal(&rt, &refused.map(|fault| fault.name()), &Some("BadLength"));
 
     // The PK.root of OpenSSL 3.5 under the same seeds.
     let sk = key(ParamSet::S128f);
     let root = hex::decode(rt.alloc(), "3b56e816847f000386aeec2e2bb9e1b5")?;
-    assert_eq!(rt; sk.pk_root(), root.as_slice());
+    equal(&rt, &sk.pk_root(), &root.as_slice());
     let bytes = counting(0);
-    assert_eq!(rt; sk.sk_seed(), &bytes[..16]);
-    assert_eq!(rt; sk.sk_prf(), &bytes[16..32]);
-    assert_eq!(rt; sk.pk_seed(), &bytes[32..48]);
-    assert_eq!(rt; sk.public().bytes(), sk.public_bytes());
+    equal(&rt, &sk.sk_seed(), &&bytes[..16]);
+    equal(&rt, &sk.sk_prf(), &&bytes[16..32]);
+    equal(&rt, &sk.pk_seed(), &&bytes[32..48]);
+    equal(&rt, &sk.public().bytes(), &sk.public_bytes());
     let pk = PublicKey::from_bytes(ParamSet::S128f, sk.public_bytes())?;
-    assert_eq!(rt; (pk.pk_seed(), pk.pk_root()), (sk.pk_seed(), sk.pk_root()));
+    equal(
+        &rt,
+        &(pk.pk_seed(), pk.pk_root()),
+        &(sk.pk_seed(), sk.pk_root()),
+    );
     Ok(())
 }
 
 #[test]
 fn altered_root(rt: HostRuntime) -> Result<(), Fail> {
     let mut bytes = key(ParamSet::S128f).bytes().to_vec(rt.alloc())?;
-    assert_eq!(rt; bytes.len(), 64);
+    assert!(rt; bytes.len() == 64);
     bytes[63] ^= 1;
     let sk = SecretKey::from_bytes(ParamSet::S128f, &bytes)?;
     assert!(rt; !check_pair(&sk));

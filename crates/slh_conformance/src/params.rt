@@ -1,6 +1,6 @@
 //! Parameter sets, bits and addresses against tables of other implementations.
 
-use crate::fixtures::{bytes_of, hex_of};
+use crate::fixtures::{bytes_of, equal, hex_of};
 use slh_params::{Adrs, AdrsType, ParamSet, base_2b, to_byte, to_int};
 use std::test::Fail;
 
@@ -51,14 +51,14 @@ fn numbers_of_the_sets(rt: HostRuntime) -> Result<(), Fail> {
             set.m(),
         ];
         let lengths = [set.pk_len(), set.sk_len(), set.sig_len()];
-        assert_eq!(rt; set.name(), *name);
+        equal(&rt, &set.name(), &*name);
         assert_eq!(rt; set.n(), expected[0], "n of {name}");
         assert_eq!(rt; heights.as_slice(), &expected[1..6], "{name}");
         assert_eq!(rt; parts.as_slice(), &expected[6..11], "{name}");
         assert_eq!(rt; lengths.as_slice(), &expected[11..], "{name}");
     }
     for (set, (name, _)) in ParamSet::all().iter().zip(&NUMBERS) {
-        assert_eq!(rt; set.name(), *name);
+        equal(&rt, &set.name(), &*name);
     }
     for text in [
         "",
@@ -221,13 +221,13 @@ fn numbers_and_bytes(rt: HostRuntime) -> Result<(), Fail> {
         let bytes = bytes_of(rt.alloc(), bytes)?;
         // `to_int` asks for at most 8 bytes.
         assert!(rt; bytes.len() <= 8);
-        assert_eq!(rt; to_int(bytes.as_slice()), *expected);
+        equal(&rt, &to_int(bytes.as_slice()), &*expected);
     }
     for (x, expected) in &BYTES_OF_NUMBERS {
         let mut room = [0xff; 12];
         let len = (expected.len() / 2).min(12);
         to_byte(*x, &mut room[..len]);
-        assert_eq!(rt; hex_of(rt.alloc(), &room[..len])?.as_str(), *expected);
+        equal(&rt, &hex_of(rt.alloc(), &room[..len])?.as_str(), &*expected);
     }
     Ok(())
 }
@@ -239,7 +239,7 @@ fn addresses(rt: HostRuntime) -> Result<(), Fail> {
         adrs.set_layer(*layer);
         adrs.set_tree(*tree);
         adrs.set_type_and_clear(*kind);
-        assert_eq!(rt; (adrs.key_pair(), adrs.tree_index()), (0, 0));
+        equal(&rt, &(adrs.key_pair(), adrs.tree_index()), &(0, 0));
         adrs.set_key_pair(words[0]);
         match kind {
             AdrsType::Tree | AdrsType::ForsTree => {
@@ -251,11 +251,20 @@ fn addresses(rt: HostRuntime) -> Result<(), Fail> {
                 adrs.set_hash(words[2]);
             }
         }
-        assert_eq!(rt; (adrs.key_pair(), adrs.tree_index()), (words[0], words[2]));
-        assert_eq!(rt; hex_of(rt.alloc(), adrs.full().as_slice())?.as_str(), *full);
-        assert_eq!(rt;
-            hex_of(rt.alloc(), adrs.compressed().as_slice())?.as_str(),
-            *compressed
+        equal(
+            &rt,
+            &(adrs.key_pair(), adrs.tree_index()),
+            &(words[0], words[2]),
+        );
+        equal(
+            &rt,
+            &hex_of(rt.alloc(), adrs.full().as_slice())?.as_str(),
+            &*full,
+        );
+        equal(
+            &rt,
+            &hex_of(rt.alloc(), adrs.compressed().as_slice())?.as_str(),
+            &*compressed,
         );
     }
     Ok(())

@@ -1,5 +1,5 @@
 //! Digests of messages that come in pieces.
-use crate::fixtures::{hash_signature, key};
+use crate::fixtures::{equal, hash_signature, key};
 use slh_core::{
     MessageDigest, PreHash, PreHasher, Randomizer, SecretKey, hash_sign_digest, hash_verify_digest,
 };
@@ -31,13 +31,13 @@ fn pieces(rt: HostRuntime) -> Result<(), Fail> {
         "SHA2-512/256",
     ] {
         let function = PreHash::from_name(name).ok_or("no such function")?;
-        assert_eq!(rt; function.name(), name);
+        equal(&rt, &function.name(), &name);
         let mut hasher = PreHasher::new(function);
         hasher.update(b"a");
         hasher.update(b"");
         hasher.update(b"bc");
         let digest = hasher.finish();
-        assert_eq!(rt; digest.bytes().len(), function.digest_len());
+        equal(&rt, &digest.bytes().len(), &function.digest_len());
         let sig = digest_signature(rt.alloc(), &digest, b"x", &sk)?;
         let expected = hash_signature(rt.alloc(), b"abc", b"x", function, &sk)?;
         assert_eq!(rt; sig.as_slice(), expected.as_slice(), "{name}");
@@ -54,7 +54,7 @@ fn pieces(rt: HostRuntime) -> Result<(), Fail> {
 fn digest_lengths(rt: HostRuntime) -> Result<(), Fail> {
     assert!(rt; MessageDigest::from_bytes(PreHash::Sha256, &[0; 31]).is_none());
     let digest = MessageDigest::from_bytes(PreHash::Sha256, &[9; 32]).ok_or("no digest")?;
-    assert_eq!(rt; digest.function(), PreHash::Sha256);
-    assert_eq!(rt; digest.bytes(), [9; 32].as_slice());
+    equal(&rt, &digest.function(), &PreHash::Sha256);
+    equal(&rt, &digest.bytes(), &[9; 32].as_slice());
     Ok(())
 }

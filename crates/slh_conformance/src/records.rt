@@ -3,7 +3,7 @@ ghost use Rattle.std.specs.Prelude.{◌≡◌, IfOk, length};
 
 mod values;
 
-use crate::fixtures::{bytes_of, sha256_hex};
+use crate::fixtures::{bytes_of, equal, sha256_hex};
 use slh_core::{
     Form, PreHash, Randomizer, SecretKey, check_pair, keygen_internal, sign_internal,
     verify_internal,
@@ -31,7 +31,7 @@ fn check_numbers(rt: &impl Abort, set: ParamSet, record: &Record) {
         set.sk_len(),
         set.sig_len(),
     ];
-    assert_eq!(rt; set.label().as_str(), record.label);
+    equal(rt, &set.label().as_str(), &record.label);
     assert_eq!(rt; numbers, record.numbers, "{}", record.label);
 }
 
@@ -75,7 +75,7 @@ fn check_bytes(
     assert_eq!(rt; &sig[..n], r.as_slice(), "{}", want.sha256);
     let last = bytes_of(alloc, want.last)?;
     assert_eq!(rt; &sig[sig.len() - n..], last.as_slice(), "{}", want.sha256);
-    assert_eq!(rt; sha256_hex(alloc, sig)?.as_str(), want.sha256);
+    equal(rt, &sha256_hex(alloc, sig)?.as_str(), &want.sha256);
     Ok(())
 }
 

@@ -1,6 +1,7 @@
 //! Worked examples of paths, climbs and covers.
 ghost use Rattle.std.specs.Prelude.{◌<◌, ◌^◌};
 
+use crate::fixtures::equal;
 use example::{Example, node_at};
 use slh_params::node_of;
 use slh_tree::{Cover, PathRec, climb, gather, hash_range, path, root};
@@ -11,31 +12,33 @@ mod example;
 #[test]
 fn paths_and_climbs_of_four_leaves(rt: HostRuntime) {
     let tree = Example::of(2);
-    assert_eq!(rt; root(&tree).as_slice(), [2, 0, 0, 1].as_slice());
+    equal(&rt, &root(&tree).as_slice(), &[2, 0, 0, 1].as_slice());
     let mut out = [0u8; 8];
     path(&tree, 1, &mut out);
-    assert_eq!(rt; out, [0, 0, 0, 0, 1, 1, 2, 3]);
+    equal(&rt, &out, &[0, 0, 0, 0, 1, 1, 2, 3]);
     let leaf = node_of(&[0, 2, 0, 0]);
-    assert_eq!(rt;
-        climb(&tree, 2, &leaf, &out).as_slice(),
-        [2, 0, 1, 1].as_slice()
+    equal(
+        &rt,
+        &climb(&tree, 2, &leaf, &out).as_slice(),
+        &[2, 0, 1, 1].as_slice(),
     );
     path(&tree, 2, &mut out);
-    assert_eq!(rt; out, [0, 3, 0, 0, 1, 0, 0, 1]);
-    assert_eq!(rt;
-        climb(&tree, 2, &leaf, &out).as_slice(),
-        [2, 0, 0, 1].as_slice()
+    equal(&rt, &out, &[0, 3, 0, 0, 1, 0, 0, 1]);
+    equal(
+        &rt,
+        &climb(&tree, 2, &leaf, &out).as_slice(),
+        &[2, 0, 0, 1].as_slice(),
     );
     let mut short = [9u8; 4];
     path(&Example::of(1), 1, &mut short);
-    assert_eq!(rt; short, [0, 0, 0, 0]);
+    equal(&rt, &short, &[0, 0, 0, 0]);
 }
 
 #[test]
 fn every_leaf_climbs_to_the_root(rt: HostRuntime) {
     for height in 1..7 {
         let tree = Example::of(height);
-        assert_eq!(rt; root(&tree).as_slice(), node_at(height, 0).as_slice());
+        equal(&rt, &root(&tree).as_slice(), &node_at(height, 0).as_slice());
         for idx in 0..tree.leaves {
             climbs_to_the_root(&rt, &tree, idx);
         }
@@ -51,16 +54,16 @@ fn climbs_to_the_root(rt: &impl Abort, tree: &Example, idx: u32)
     let mut auth = [0u8; 24];
     let out = &mut auth[..4 * tree.height as usize];
     path(tree, idx, out);
-    assert_eq!(rt; tree.calls.get(), tree.leaves - 1);
-    assert_eq!(rt; tree.asked.get().count_ones(), tree.leaves - 1);
-    assert_eq!(rt; (tree.asked.get() >> (idx % 64)) & 1, 0);
+    equal(rt, &tree.calls.get(), &(tree.leaves - 1));
+    equal(rt, &tree.asked.get().count_ones(), &(tree.leaves - 1));
+    equal(rt, &((tree.asked.get() >> (idx % 64)) & 1), &0);
     for level in 0..tree.height {
         let start = 4 * level as usize;
         let sibling = &out[start..start + 4];
-        assert_eq!(rt; sibling, node_at(level, (idx >> level) ^ 1).as_slice());
+        equal(rt, &sibling, &node_at(level, (idx >> level) ^ 1).as_slice());
     }
     let last = climb(tree, idx, &node_of(&node_at(0, idx)), out);
-    assert_eq!(rt; last.as_slice(), node_at(tree.height, 0).as_slice());
+    equal(rt, &last.as_slice(), &node_at(tree.height, 0).as_slice());
 }
 
 #[test]
@@ -89,7 +92,7 @@ fn gathers_the_path(rt: &impl Abort, tree: &Example, cut: u32, idx: u32)
     ];
     rec.merge(&other);
     let last = gather(tree, &covers, &mut rec);
-    assert_eq!(rt; last.as_slice(), node_at(tree.height, 0).as_slice());
+    equal(rt, &last.as_slice(), &node_at(tree.height, 0).as_slice());
     for level in 0..tree.height {
         let sibling = node_at(level, (idx >> level) ^ 1);
         assert!(rt;
@@ -128,17 +131,17 @@ fn four_leaves_cut_at_one_and_three(rt: HostRuntime) {
     let tree = Example::of(2);
     let mut rec = PathRec::for_leaf(2, 1);
     let first = hash_range(&tree, 0, 1, &mut rec);
-    assert_eq!(rt; known_levels(&rec), [true, false, false]);
+    equal(&rt, &known_levels(&rec), &[true, false, false]);
     let mut other = PathRec::for_leaf(2, 1);
     let second = hash_range(&tree, 1, 3, &mut other);
     let third = hash_range(&tree, 3, 4, &mut other);
-    assert_eq!(rt; known_levels(&other), [false, false, false]);
+    equal(&rt, &known_levels(&other), &[false, false, false]);
     assert!(rt; has_nodes(&first, &[(0, 0)]));
     assert!(rt; has_nodes(&second, &[(0, 1), (0, 2)]));
     assert!(rt; has_nodes(&third, &[(0, 3)]));
     rec.merge(&other);
     gather(&tree, &[first, second, third], &mut rec);
-    assert_eq!(rt; known_levels(&rec), [true, true, false]);
+    equal(&rt, &known_levels(&rec), &[true, true, false]);
 }
 
 #[test]
@@ -157,15 +160,15 @@ fn eight_leaves_cut_at_three_and_six(rt: HostRuntime) {
     assert!(rt; has_nodes(&covers[0], &[(1, 0), (0, 2)]));
     assert!(rt; has_nodes(&covers[1], &[(0, 3), (1, 2)]));
     assert!(rt; has_nodes(&covers[2], &[(1, 3)]));
-    assert_eq!(rt; known_levels(&recs[0]), [false, false, false]);
-    assert_eq!(rt; known_levels(&recs[1]), [true, false, false]);
-    assert_eq!(rt; known_levels(&recs[2]), [false, true, false]);
+    equal(&rt, &known_levels(&recs[0]), &[false, false, false]);
+    equal(&rt, &known_levels(&recs[1]), &[true, false, false]);
+    equal(&rt, &known_levels(&recs[2]), &[false, true, false]);
     let [mut rec, second, third] = recs;
     rec.merge(&second);
     rec.merge(&third);
     let last = gather(&tree, &covers, &mut rec);
-    assert_eq!(rt; last.as_slice(), [3, 0, 0, 1].as_slice());
-    assert_eq!(rt; known_levels(&rec), [true, true, true]);
+    equal(&rt, &last.as_slice(), &[3, 0, 0, 1].as_slice());
+    equal(&rt, &known_levels(&rec), &[true, true, true]);
 }
 
 /// At which of the three lowest heights the record knows its path's node.

@@ -2,7 +2,7 @@
 
 use super::fors_values::{FORS, ForsValues};
 use super::{is_digest, is_hex, low_tree, public, seeds};
-use crate::fixtures::{counting, set_of};
+use crate::fixtures::{counting, equal, set_of};
 use slh_core::signing_steps::fors_sig_len;
 use slh_few::{ForsTree, fors_pk_from_sig, fors_sign};
 use slh_hash::{f, h, prf};
@@ -81,9 +81,13 @@ fn indices_through_all_trees(rt: HostRuntime) {
     adrs.set_key_pair(3);
     adrs.set_hash(53248);
     let leaf = f(set, seeds.pk_seed, &adrs, &secret);
-    assert_eq!(rt; tree.leaf(0).as_slice(), leaf.as_slice());
+    equal(&rt, &tree.leaf(0).as_slice(), &leaf.as_slice());
     adrs.set_chain(2);
     adrs.set_hash(13317);
     let node = h(set, seeds.pk_seed, &adrs, &secret, &leaf);
-    assert_eq!(rt; tree.join(2, 5, &secret, &leaf).as_slice(), node.as_slice());
+    equal(
+        &rt,
+        &tree.join(2, 5, &secret, &leaf).as_slice(),
+        &node.as_slice(),
+    );
 }

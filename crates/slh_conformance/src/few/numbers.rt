@@ -2,7 +2,7 @@
 
 use super::digit_values::DIGITS;
 use super::place_values::PLACES;
-use crate::fixtures::{bytes_of, set_of};
+use crate::fixtures::{bytes_of, equal, set_of};
 use slh_few::{digits, layer_place};
 use slh_params::{ParamSet, base_2b, node_of};
 use std::alloc::Global;
@@ -43,15 +43,16 @@ fn digits_of_known_messages(rt: HostRuntime) -> Result<(), Fail> {
 /// The tree and the leaf of each layer above those of layer 0.
 #[tactic(auto, using(slh_params::proofs::Bounds::hp_high))]
 fn check_places(rt: &impl Abort, set: ParamSet, layers: &[(u64, u32)]) {
-    assert_eq!(rt; layers.len(), set.d() as usize);
+    equal(rt, &layers.len(), &(set.d() as usize));
     assert!(rt; layers.len() < 256);
     for layer in 0..layers.len() {
         let (tree, leaf) = layers[0];
         assert!(rt; leaf < 1 << set.hp());
         let at = layer_place(set, tree, leaf, layer as u8);
-        assert_eq!(rt;
-            (at.layer as usize, at.tree, at.pair),
-            (layer, layers[layer].0, layers[layer].1)
+        equal(
+            rt,
+            &(at.layer as usize, at.tree, at.pair),
+            &(layer, layers[layer].0, layers[layer].1),
         );
     }
 }

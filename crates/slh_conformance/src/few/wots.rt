@@ -3,7 +3,7 @@
 use super::custom_wots_values::CUSTOM_WOTS;
 use super::wots_values::{WOTS, WotsValues};
 use super::{is_digest, is_hex, public, seeds};
-use crate::fixtures::{counting, node_from, set_of};
+use crate::fixtures::{counting, equal, node_from, set_of};
 use slh_few::{Place, Seeds, chain, wots_pk, wots_pk_from_sig, wots_sig_len, wots_sign};
 use slh_hash::prf;
 use slh_params::{Adrs, AdrsType, ParamSet};
@@ -52,9 +52,10 @@ fn check_chain(rt: &impl Abort, seeds: &Seeds, at: Place, text: &str) {
     let x1 = node_from(seeds.set, &counting(0x80));
     assert!(rt; is_hex(text, &chain(&public, at, 0, &x1, 1, 2)));
     let last = seeds.set.w() - 1;
-    assert_eq!(rt;
-        chain(&public, at, 0, &x1, last, 0).as_slice(),
-        x1.as_slice()
+    equal(
+        rt,
+        &chain(&public, at, 0, &x1, last, 0).as_slice(),
+        &x1.as_slice(),
     );
 }
 

@@ -1,4 +1,5 @@
 //! The lines of key files: what is written, what is read, and each refusal.
+use crate::fixtures::equal;
 use slh_core::{PublicKey, SecretKey};
 use slh_files::{
     AnyKey, FileFault, read_key, read_public, read_secret, write_public, write_secret,
@@ -62,9 +63,9 @@ fn status<K: Drop>(read: Result<K, FileFault>) -> u8 {
 #[test]
 fn writes_version_2(rt: HostRuntime) -> Result<(), Fail> {
     let text = write_public(rt.alloc(), &public_key()?)?;
-    assert_eq!(rt; text.as_str(), PUBLIC_2);
+    equal(&rt, &text.as_str(), &PUBLIC_2);
     let text = write_secret(rt.alloc(), &secret_key()?)?;
-    assert_eq!(rt; text.as_str(), SECRET_2);
+    equal(&rt, &text.as_str(), &SECRET_2);
     Ok(())
 }
 
@@ -72,19 +73,19 @@ fn writes_version_2(rt: HostRuntime) -> Result<(), Fail> {
 fn reads_both_versions(rt: HostRuntime) -> Result<(), Fail> {
     for file in [PUBLIC.as_slice(), PUBLIC_2.as_bytes()] {
         let key = read_public(file)?;
-        assert_eq!(rt; key.set(), ParamSet::S128f);
-        assert_eq!(rt; key.bytes(), PUBLIC_BYTES.as_slice());
+        equal(&rt, &key.set(), &ParamSet::S128f);
+        equal(&rt, &key.bytes(), &PUBLIC_BYTES.as_slice());
         match read_key(file)? {
-            AnyKey::Public(key) => assert_eq!(rt; key.bytes(), PUBLIC_BYTES.as_slice()),
+            AnyKey::Public(key) => equal(&rt, &key.bytes(), &PUBLIC_BYTES.as_slice()),
             AnyKey::Secret(_) => panic!(rt; "a public key"),
         }
     }
     for file in [SECRET.as_slice(), SECRET_2.as_bytes()] {
         let key = read_secret(file)?;
-        assert_eq!(rt; key.set(), ParamSet::S128f);
-        assert_eq!(rt; key.bytes(), SECRET_BYTES.as_slice());
+        equal(&rt, &key.set(), &ParamSet::S128f);
+        equal(&rt, &key.bytes(), &SECRET_BYTES.as_slice());
         match read_key(file)? {
-            AnyKey::Secret(key) => assert_eq!(rt; key.bytes(), SECRET_BYTES.as_slice()),
+            AnyKey::Secret(key) => equal(&rt, &key.bytes(), &SECRET_BYTES.as_slice()),
             AnyKey::Public(_) => panic!(rt; "a secret key"),
         }
     }
@@ -97,10 +98,10 @@ fn reads_sets_of_other_numbers(rt: HostRuntime) -> Result<(), Fail> {
     let set = ParamSet::custom(16, 2, 1, 1, 1, 1)?;
     let text = write_public(rt.alloc(), &PublicKey::from_bytes(set, &PUBLIC_BYTES)?)?;
     let file = format!(in rt.alloc(); "{KIND_2}custom:16,2,1,1,1,1\n{DIGITS}\n")?;
-    assert_eq!(rt; text.as_str(), file.as_str());
+    equal(&rt, &text.as_str(), &file.as_str());
     let key = read_public(file.as_bytes())?;
-    assert_eq!(rt; key.set(), set);
-    assert_eq!(rt; key.bytes(), PUBLIC_BYTES.as_slice());
+    equal(&rt, &key.set(), &set);
+    equal(&rt, &key.bytes(), &PUBLIC_BYTES.as_slice());
     Ok(())
 }
 
@@ -110,8 +111,8 @@ fn reads_either_case(rt: HostRuntime) -> Result<(), Fail> {
     for ending in ["\n", ""] {
         let file = format!(in rt.alloc(); "{KIND}{NAME}{upper}{ending}")?;
         let key = read_public(file.as_bytes())?;
-        assert_eq!(rt; key.set(), ParamSet::S128f);
-        assert_eq!(rt; key.bytes(), PUBLIC_BYTES.as_slice());
+        equal(&rt, &key.set(), &ParamSet::S128f);
+        equal(&rt, &key.bytes(), &PUBLIC_BYTES.as_slice());
     }
     Ok(())
 }
@@ -166,9 +167,9 @@ fn refuses_other_files(rt: HostRuntime) -> Result<(), Fail> {
         let file = format!(in rt.alloc(); "{first}{second}{third}")?;
         assert_eq!(rt; status(read_public(file.as_bytes())), number, "{file}");
     }
-    assert_eq!(rt; status(read_public(SECRET)), 11);
-    assert_eq!(rt; status(read_secret(PUBLIC)), 11);
-    assert_eq!(rt; FileFault::NotAKeyFile.name(), "NotAKeyFile");
+    equal(&rt, &status(read_public(SECRET)), &11);
+    equal(&rt, &status(read_secret(PUBLIC)), &11);
+    equal(&rt, &FileFault::NotAKeyFile.name(), &"NotAKeyFile");
     Ok(())
 }
 
