@@ -248,4 +248,24 @@ check "one thread for one worker" has_threads 1 "--workers 1"
 check "three threads for three workers" has_threads 3 "--workers 3"
 check "nine threads for nine workers" has_threads 9 "--workers 9"
 
+# ---- help, whose sentences no clause states
+
+# Each line on an option has the value's name in capitals, where there is one, and a sentence.
+explained() { ! grep '^ .*--' output | grep -q -v -E '^ +(-h, )?--[a-z-]+( <[A-Z]+>)? +[A-Z][^<>]+$'; }
+
+# The last run wrote help that begins with the sentence, explains each option and ends in an example of the command.
+helped() {
+    [ "$(cat status)" = 0 ] && [ ! -s errors ] && [ "$(head -n 1 output)" = "$2" ] && explained &&
+        tail -n 1 output | grep -q "^Example: slh $1 "
+}
+
+run --help
+sed -n '/^Commands:/,/^$/s/^  \([a-z]*\)  *\([A-Z].*\)$/\1 \2/p' output >commands
+check "help has a sentence for each of the 10 commands" [ "$(wc -l <commands)" = 10 ]
+while read -r command sentence; do
+    [ "$command" = help ] && continue
+    run "$command" --help
+    check "help of $command explains each option, and has an example" helped "$command" "$sentence"
+done <commands
+
 end_counts
