@@ -1,5 +1,5 @@
 #!/usr/bin/env bash
-# Runs the built program over real files, pipes and broken streams.
+# Runs the built program over real files, pipes and broken streams, and reads its help.
 #
 # usage: tools/streams.sh [PROGRAM]
 #
@@ -250,8 +250,11 @@ check "nine threads for nine workers" has_threads 9 "--workers 9"
 
 # ---- help, whose sentences no clause states
 
-# Each line on an option has the value's name in capitals, where there is one, and a sentence.
-explained() { ! grep '^ .*--' output | grep -q -v -E '^ +(-h, )?--[a-z-]+( <[A-Z]+>)? +[A-Z][^<>]+$'; }
+# There are lines on options, and each has the value's name in capitals, where there is one, and a sentence.
+explained() {
+    grep '^ .*--' output >options &&
+        ! grep -q -v -E '^ +(-h, )?--[a-z-]+( <[A-Z]+>)? +[A-Z][^<>]+$' options
+}
 
 # The last run wrote help that begins with the sentence, explains each option and ends in an example of the command.
 helped() {
@@ -259,7 +262,14 @@ helped() {
         tail -n 1 output | grep -q "^Example: slh $1 "
 }
 
+# The last run wrote help that says what the program is for and what its status means.
+introduced() {
+    [ "$(head -n 1 output)" = "Keys and signatures of SLH-DSA (FIPS 205) with SHA-2" ] &&
+        grep -q "^Exit status: 0 for done" output
+}
+
 run --help
+check "help says what the program is for, and what its status means" introduced
 sed -n '/^Commands:/,/^$/s/^  \([a-z]*\)  *\([A-Z].*\)$/\1 \2/p' output >commands
 check "help has a sentence for each of the 10 commands" [ "$(wc -l <commands)" = 10 ]
 while read -r command sentence; do
