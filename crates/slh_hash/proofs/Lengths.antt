@@ -1,5 +1,5 @@
 -- F, PRF, T and PRF_msg give n bytes.
-use Rattle.std.proofs.Common.{◌≡◌, ◌==◌, if◌then◌else◌, ℕ, ◌≤◌, true, false, List, ◌++◌, length, arith}
+use Rattle.std.proofs.Common.{◌≡◌, ◌==◌, if◌then◌else◌, ℕ, ◌≤◌, true, false, List, ◌++◌, length, take, arith}
 use Rattle.std.proofs.lemmas.List.{length-take-le}
 use Rattle.slh_params.specs.Address.{Address}
 use Rattle.slh_params.specs.Params.{Params}
@@ -29,9 +29,13 @@ length-hmac : (f : HashFunction) → IsSized f → (key text : List ℕ) → len
 unfolding hmac
 length-hmac f h key text = h.digests (xor_each 0x5c (key_block f key) ++ f.hash (xor_each 0x36 (key_block f key) ++ text))
 
-pub length-PRF_msg : (p : Params) (sk_prf opt_rand msg : List ℕ) → p.n ≤ 32 → length (PRF_msg p sk_prf opt_rand msg) ≡ p.n
-unfolding PRF_msg
-length-PRF_msg p sk_prf opt_rand msg h =
+-- an HMAC that is cut to n bytes
+pub length-cut_hmac : (p : Params) (key text : List ℕ) → p.n ≤ 32 → length (take p.n (hmac (category_function p) key text)) ≡ p.n
+length-cut_hmac p key text h =
     let f : HashFunction = category_function p in
     let sized : IsSized f = sized_category p in
-    length-take-le p.n _ (omega (arith, h, length-hmac f sized sk_prf (opt_rand ++ msg), sized.low))
+    length-take-le p.n _ (omega (arith, h, length-hmac f sized key text, sized.low))
+
+pub length-PRF_msg : (p : Params) (sk_prf opt_rand msg : List ℕ) → p.n ≤ 32 → length (PRF_msg p sk_prf opt_rand msg) ≡ p.n
+unfolding PRF_msg
+length-PRF_msg p sk_prf opt_rand msg h = length-cut_hmac p sk_prf (opt_rand ++ msg) h

@@ -4,6 +4,7 @@ ghost use Rattle.slh_params.specs.Params.{Params};
 ghost use Rattle.slh_params.specs.ParamSet.{params};
 ghost use Rattle.slh_hash.specs.HashFunctions.{category_function};
 
+use crate::hash_function::{DigestBytes, HashFunctionOf};
 use crate::tweakable::truncated;
 use sha2::{Digest, Sha256, Sha512};
 use slh_params::{Node, ParamSet};
@@ -56,6 +57,16 @@ impl CategoryHasher {
                 };
                 CategoryHasher::Long(copy)
             }
+        }
+    }
+
+    /// The digest.
+    pub(crate) fn digest(self) -> DigestBytes
+        ensures { (p : Params) (m : List ℕ) → HoldsFor self p m → result.items ≡ (category_function p).hash m }
+    {
+        match self {
+            CategoryHasher::Short(hasher) => hasher.finish(),
+            CategoryHasher::Long(hasher) => hasher.finish(),
         }
     }
 

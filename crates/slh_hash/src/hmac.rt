@@ -9,7 +9,7 @@ use arrayvec::ArrayVec;
 use sha2::{Digest, Sha256, Sha512};
 
 /// One block of a hash function, of at most 128 bytes.
-type Block = ArrayVec<u8, 128>;
+pub(crate) type Block = ArrayVec<u8, 128>;
 
 /// HMAC-SHA-256 (FIPS 198-1) of the parts put end to end, under a key of any length.
 pub fn hmac_sha256(key: &[u8], parts: &[&[u8]]) -> [u8; 32]
@@ -51,7 +51,7 @@ pub(crate) fn hmac_of<D: HashFunctionOf>(
 }
 
 /// K0: the key, or its digest where it is longer than a block, and zeros up to a block.
-fn key_block<D: HashFunctionOf>(key: &[u8]) -> Block
+pub(crate) fn key_block<D: HashFunctionOf>(key: &[u8]) -> Block
     ensures { result.items ≡ key_block D.function key.now }
 {
     let len = D::block_len();
@@ -85,7 +85,7 @@ fn append(block: &mut Block, bytes: &[u8])
 }
 
 /// The block with each byte xor the pad.
-fn xor_each(block: &Block, pad: u8) -> Block
+pub(crate) fn xor_each(block: &Block, pad: u8) -> Block
     ensures { result.items ≡ xor_each pad block.now.items }
 {
     // For the prover: a block has at most 128 bytes.

@@ -1,6 +1,7 @@
 //! The hash functions of SLH-DSA with SHA-2 (FIPS 205, section 11.2). Nothing here takes memory or refuses.
 #![tactic(auto, using(slh_params::proofs::Bounds::n_high))]
 
+pub use category_hmac::CategoryHmac;
 pub use hmac::{hmac_sha256, hmac_sha512};
 pub use message::{h_msg, prf_msg};
 pub use mgf1::{mgf1_sha256, mgf1_sha512};
@@ -9,6 +10,7 @@ pub use t_stream::{SeededTreeHash, TStream};
 pub use tweakable::{f, h, prf};
 
 mod category_hasher;
+mod category_hmac;
 mod hash_function;
 mod hmac;
 mod message;
