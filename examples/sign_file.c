@@ -1,16 +1,18 @@
-/* Makes a key, signs a file into FILE.sig and verifies the signature: sign_file FILE */
+/* Makes a key, signs a file and verifies the signature, and then writes it into FILE.sig and the public key into
+   FILE.pub: sign_file FILE */
 #include <slh.h>
 
 #include <stdio.h>
 #include <stdlib.h>
-#include <string.h>
 
 #define SET SLH_DSA_SHA2_128F
+enum { N = SLH_DSA_SHA2_128F_N };
 
-static void stop(const char *step, uint32_t answer) {
+static void expect_done(const char *step, uint32_t result) {
+    if (result == SLH_DONE) return;
     char name[SLH_MAX_NAME] = "Invalid";
-    slh_refusal_name(answer, name, sizeof name);
-    fprintf(stderr, "%s: %u %s\n", step, (unsigned)answer, name);
+    slh_refusal_name(result, name, sizeof name);
+    fprintf(stderr, "%s: %u %s\n", step, (unsigned)result, name);
     exit(1);
 }
 
@@ -28,31 +30,29 @@ static uint8_t *read_file(const char *path, size_t *len) {
     return bytes;
 }
 
+static void write_file(const char *path, const char *suffix, const uint8_t *bytes, size_t len) {
+    char name[4096];
+    int is_whole = (size_t)snprintf(name, sizeof name, "%s%s", path, suffix) < sizeof name;
+    FILE *file = is_whole ? fopen(name, "wb") : NULL;
+    if (file == NULL || fwrite(bytes, 1, len, file) != len || fclose(file) != 0) exit(1);
+}
+
 int main(int count, char **words) {
-    enum { N = SLH_DSA_SHA2_128F_N };
     uint8_t seeds[4 * N], sk[SLH_DSA_SHA2_128F_SECRET_KEY], pk[SLH_DSA_SHA2_128F_PUBLIC_KEY];
     static uint8_t sig[SLH_DSA_SHA2_128F_SIGNATURE];
     if (count != 2) return 2;
     size_t len;
     uint8_t *msg = read_file(words[1], &len);
-
     FILE *random = fopen("/dev/urandom", "rb");
-    if (random == NULL || fread(seeds, 1, sizeof seeds, random) != sizeof seeds) return 1;
-    fclose(random);
+    if (random == NULL || fread(seeds, 1, sizeof seeds, random) != sizeof seeds || fclose(random) != 0) return 1;
 
-    uint32_t answer = slh_keygen(SET, seeds, N, seeds + N, N, seeds + 2 * N, N, sk, sizeof sk);
-    if (answer != SLH_DONE) stop("keygen", answer);
-    if ((answer = slh_public(SET, sk, sizeof sk, pk, sizeof pk)) != SLH_DONE) stop("public", answer);
-
+    expect_done("keygen", slh_keygen(SET, seeds, N, seeds + N, N, seeds + 2 * N, N, sk, sizeof sk));
+    expect_done("public", slh_public(SET, sk, sizeof sk, pk, sizeof pk));
     /* an empty context, and a randomizer of n bytes */
-    answer = slh_sign(SET, sk, sizeof sk, msg, len, NULL, 0, seeds + 3 * N, N, sig, sizeof sig);
-    if (answer != SLH_DONE) stop("sign", answer);
-    char path[4096];
-    snprintf(path, sizeof path, "%s.sig", words[1]);
-    FILE *out = fopen(path, "wb");
-    if (out == NULL || fwrite(sig, 1, sizeof sig, out) != sizeof sig || fclose(out) != 0) return 1;
-
-    if ((answer = slh_verify(SET, pk, sizeof pk, msg, len, NULL, 0, sig, sizeof sig)) != SLH_DONE) stop("verify", answer);
+    expect_done("sign", slh_sign(SET, sk, sizeof sk, msg, len, NULL, 0, seeds + 3 * N, N, sig, sizeof sig));
+    expect_done("verify", slh_verify(SET, pk, sizeof pk, msg, len, NULL, 0, sig, sizeof sig));
+    write_file(words[1], ".sig", sig, sizeof sig);
+    write_file(words[1], ".pub", pk, sizeof pk);
     puts("valid");
     free(msg);
     return 0;

@@ -1,4 +1,5 @@
-"""Makes a key, signs a file into FILE.sig and verifies the signature: python3 sign_file.py libslh.so FILE"""
+"""Makes a key, signs a file and verifies the signature, and then writes it into FILE.sig and the public key into
+FILE.pub: python3 sign_file.py libslh.so FILE"""
 import ctypes
 import os
 import pathlib
@@ -9,7 +10,7 @@ library = ctypes.CDLL(os.path.abspath(sys.argv[1]))
 
 
 def call(name, *arguments):
-    """Calls with each text of bytes as a pointer and a length. Answers SLH_DONE, SLH_INVALID, or a refusal's number."""
+    """Calls with each text of bytes as a pointer and a length. Returns SLH_DONE, SLH_INVALID, or a refusal's number."""
     words = []
     for it in arguments:
         if isinstance(it, int):
@@ -22,11 +23,11 @@ def call(name, *arguments):
 
 
 def done(name, *arguments):
-    answer = call(name, *arguments)
-    if answer != 0:
+    result = call(name, *arguments)
+    if result != 0:
         refusal = ctypes.create_string_buffer(20)
-        call("slh_refusal_name", answer, refusal)
-        sys.exit(f"{name}: {answer} {refusal.value.decode() or 'Invalid'}")
+        call("slh_refusal_name", result, refusal)
+        sys.exit(f"{name}: {result} {refusal.value.decode() or 'Invalid'}")
 
 
 lengths = [ctypes.c_size_t() for _ in range(4)]
@@ -42,6 +43,7 @@ done("slh_public", SET, sk, pk)
 
 # an empty context, and a randomizer of n bytes
 done("slh_sign", SET, sk, message, b"", os.urandom(n), sig)
-path.with_name(path.name + ".sig").write_bytes(sig.raw)
 done("slh_verify", SET, pk, message, b"", sig)
+path.with_name(path.name + ".sig").write_bytes(sig.raw)
+path.with_name(path.name + ".pub").write_bytes(pk.raw)
 print("valid")

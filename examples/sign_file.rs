@@ -1,4 +1,5 @@
-//! Makes a key, signs a file into FILE.sig and verifies the signature: sign_file FILE
+//! Makes a key, signs a file and verifies the signature, and then writes it into FILE.sig and the public key into
+//! FILE.pub: sign_file FILE
 use std::{env, error::Error, fs, io::Read};
 
 const SET: u32 = 2; // SLH_DSA_SHA2_128F
@@ -16,8 +17,8 @@ unsafe extern "C" {
         sig: *const u8, sig_len: usize) -> u32;
 }
 
-fn done(step: &str, answer: u32) -> Result<(), String> {
-    if answer == 0 { Ok(()) } else { Err(format!("{step}: {answer}")) }
+fn done(step: &str, result: u32) -> Result<(), String> {
+    if result == 0 { Ok(()) } else { Err(format!("{step}: {result}")) }
 }
 
 #[rustfmt::skip]
@@ -49,8 +50,9 @@ fn main() -> Result<(), Box<dyn Error>> {
     fs::File::open("/dev/urandom")?.read_exact(seeds.as_flattened_mut())?;
     let (sk, pk) = keygen(&seeds)?;
     let sig = sign(&sk, &msg, b"", &seeds[3])?;
-    fs::write(format!("{path}.sig"), &sig)?;
     verify(&pk, &msg, b"", &sig)?;
+    fs::write(format!("{path}.sig"), &sig)?;
+    fs::write(format!("{path}.pub"), &pk)?;
     println!("valid");
     Ok(())
 }

@@ -1,5 +1,7 @@
-/* Signs a file by threads of its own into FILE.sig and verifies the signature: sign_threads THREADS KEY FILE
-   KEY has the 64 bytes of a secret key of the set 128f. The signature is the deterministic one, under the empty context. */
+/* Signs a file by threads of its own and verifies the signature, and then writes it into FILE.sig and the public key
+   into FILE.pub: sign_threads THREADS KEY FILE [RANDOM]
+   KEY has the 64 bytes of a secret key of the set 128f. The context is empty. The randomizer is the first 16 bytes of
+   /dev/urandom, or of the file RANDOM, for tests that have to know them. */
 #include <slh.h>
 
 #include <pthread.h>
@@ -7,7 +9,8 @@
 #include <stdlib.h>
 
 #define SET SLH_DSA_SHA2_128F
-enum { XMSS_LEVELS = 1, FORS_LEVELS = 1, MOST_THREADS = 64, SK = SLH_DSA_SHA2_128F_SECRET_KEY };
+enum { XMSS_LEVELS = 1, FORS_LEVELS = 1, MOST_THREADS = 64, N = SLH_DSA_SHA2_128F_N };
+enum { SK = SLH_DSA_SHA2_128F_SECRET_KEY, PK = SLH_DSA_SHA2_128F_PUBLIC_KEY };
 
 /* One signature in work: what all jobs are given, the room for their answers, and the number of the next job. */
 struct signing {
@@ -16,21 +19,29 @@ struct signing {
     uint32_t next, jobs;
 };
 
-static void expect_done(const char *step, uint32_t answer) {
-    if (answer == SLH_DONE) return;
+static void expect_done(const char *step, uint32_t result) {
+    if (result == SLH_DONE) return;
     char name[SLH_MAX_NAME] = "Invalid";
-    slh_refusal_name(answer, name, sizeof name);
-    fprintf(stderr, "%s: %u %s\n", step, (unsigned)answer, name);
+    slh_refusal_name(result, name, sizeof name);
+    fprintf(stderr, "%s: %u %s\n", step, (unsigned)result, name);
     exit(1);
 }
 
-static size_t read_file(const char *path, uint8_t *bytes, size_t room) {
+/* Reads up to `room` bytes of a file, which ends there unless it may go on. */
+static size_t read_file(const char *path, uint8_t *bytes, size_t room, int may_go_on) {
     FILE *file = fopen(path, "rb");
     if (file == NULL) exit(1);
     size_t len = fread(bytes, 1, room, file);
-    if (ferror(file) || fgetc(file) != EOF) exit(1);
+    if (ferror(file) || (!may_go_on && fgetc(file) != EOF)) exit(1);
     fclose(file);
     return len;
+}
+
+static void write_file(const char *path, const char *suffix, const uint8_t *bytes, size_t len) {
+    char name[4096];
+    int is_whole = (size_t)snprintf(name, sizeof name, "%s%s", path, suffix) < sizeof name;
+    FILE *file = is_whole ? fopen(name, "wb") : NULL;
+    if (file == NULL || fwrite(bytes, 1, len, file) != len || fclose(file) != 0) exit(1);
 }
 
 /* What each thread does: it takes the number of a job while there is one, and writes that job's answer in its place. */
@@ -51,14 +62,16 @@ static void *work(void *handed) {
 int main(int count, char **words) {
     static uint8_t msg[1 << 20], sig[SLH_DSA_SHA2_128F_SIGNATURE];
     static struct signing it = {.lock = PTHREAD_MUTEX_INITIALIZER};
+    uint8_t randomizer[N], pk[PK];
     pthread_t threads[MOST_THREADS];
-    int wanted = count == 4 ? atoi(words[1]) : 0;
-    if (wanted < 1 || wanted > MOST_THREADS || read_file(words[2], it.sk, SK) != SK) return 2;
-    size_t len = read_file(words[3], msg, sizeof msg), start_len, answers_len;
+    int wanted = count == 4 || count == 5 ? atoi(words[1]) : 0;
+    if (wanted < 1 || wanted > MOST_THREADS || read_file(words[2], it.sk, SK, 0) != SK) return 2;
+    if (read_file(count == 5 ? words[4] : "/dev/urandom", randomizer, N, 1) != N) return 2;
+    size_t len = read_file(words[3], msg, sizeof msg, 0), start_len, answers_len;
 
     expect_done("jobs", slh_sign_jobs(SET, XMSS_LEVELS, FORS_LEVELS, &it.jobs, &start_len, &answers_len));
     if (start_len != sizeof it.start || (it.answers = calloc(answers_len, 1)) == NULL) return 1;
-    expect_done("start", slh_sign_start(SET, it.sk, SK, msg, len, NULL, 0, NULL, 0, it.start, start_len));
+    expect_done("start", slh_sign_start(SET, it.sk, SK, msg, len, NULL, 0, randomizer, N, it.start, start_len));
 
     for (int i = 0; i < wanted; i++)
         if (pthread_create(&threads[i], NULL, work, &it) != 0) return 1;
@@ -70,11 +83,10 @@ int main(int count, char **words) {
     /* The answers are as secret as the key: a program that goes on erases both by what its system has for that. */
     free(it.answers);
 
-    char path[4096];
-    snprintf(path, sizeof path, "%s.sig", words[3]);
-    FILE *out = fopen(path, "wb");
-    if (out == NULL || fwrite(sig, 1, sizeof sig, out) != sizeof sig || fclose(out) != 0) return 1;
-    expect_done("verify", slh_verify(SET, it.sk + SK / 2, SK / 2, msg, len, NULL, 0, sig, sizeof sig));
+    expect_done("public", slh_public(SET, it.sk, SK, pk, PK));
+    expect_done("verify", slh_verify(SET, pk, PK, msg, len, NULL, 0, sig, sizeof sig));
+    write_file(words[3], ".sig", sig, sizeof sig);
+    write_file(words[3], ".pub", pk, PK);
     puts("valid");
     return 0;
 }

@@ -1,13 +1,15 @@
-//! Signs a file by threads of its own into FILE.sig and verifies the signature: sign_threads THREADS KEY FILE
-//! KEY has the 64 bytes of a secret key of the set 128f. The signature is the deterministic one, under the empty
-//! context.
+//! Signs a file by threads of its own and verifies the signature, and then writes it into FILE.sig and the public key
+//! into FILE.pub: sign_threads THREADS KEY FILE [RANDOM]
+//! KEY has the 64 bytes of a secret key of the set 128f. The context is empty. The randomizer is the first 16 bytes of
+//! /dev/urandom, or of the file RANDOM, for tests that have to know them.
 use std::sync::atomic::{AtomicU32, Ordering};
-use std::{env, error::Error, fs, io, thread};
+use std::{env, error::Error, fs, io, io::Read, thread};
 
 const SET: u32 = 2; // SLH_DSA_SHA2_128F
 const XMSS: u32 = 1; // each XMSS tree is cut into two ranges,
 const FORS: u32 = 1; // and so is each FORS tree
 const SK: usize = 64;
+const N: usize = 16;
 
 #[rustfmt::skip]
 #[link(name = "slh", kind = "static")]
@@ -25,8 +27,8 @@ unsafe extern "C" {
         ctx_len: usize, sig: *const u8, sig_len: usize) -> u32;
 }
 
-fn done(step: &str, answer: u32) -> io::Result<()> {
-    if answer == 0 { Ok(()) } else { Err(io::Error::other(format!("{step}: {answer}"))) }
+fn done(step: &str, result: u32) -> io::Result<()> {
+    if result == 0 { Ok(()) } else { Err(io::Error::other(format!("{step}: {result}"))) }
 }
 
 /// The answer of a job, and where it begins among those of all jobs.
@@ -41,15 +43,14 @@ fn answer(sk: &[u8], start: &[u8], job: u32) -> io::Result<(usize, Vec<u8>)> {
     Ok((at, answer))
 }
 
-/// The signature, by that many threads, this one among them.
+/// The signature, by that many threads, this one among them. There is no context.
 #[rustfmt::skip]
-fn sign(sk: &[u8], msg: &[u8], threads: usize) -> io::Result<Vec<u8>> {
+fn sign(sk: &[u8], msg: &[u8], randomizer: &[u8; N], threads: usize) -> io::Result<Vec<u8>> {
     let (mut jobs, mut start_len, mut answers_len) = (0, 0, 0);
     done("jobs", unsafe { slh_sign_jobs(SET, XMSS, FORS, &mut jobs, &mut start_len, &mut answers_len) })?;
     let (mut start, mut answers, mut sig) = (vec![0; start_len], vec![0; answers_len], vec![0; 17088]);
-    // no context, and no randomizer: the deterministic variant
     done("start", unsafe { slh_sign_start(SET, sk.as_ptr(), sk.len(), msg.as_ptr(), msg.len(), b"".as_ptr(), 0,
-        b"".as_ptr(), 0, start.as_mut_ptr(), start_len) })?;
+        randomizer.as_ptr(), N, start.as_mut_ptr(), start_len) })?;
 
     let next = AtomicU32::new(0);
     let numbers = || (0..jobs).map(|_| next.fetch_add(1, Ordering::Relaxed)).take_while(|&job| job < jobs);
@@ -75,11 +76,17 @@ fn verify(pk: &[u8], msg: &[u8], sig: &[u8]) -> io::Result<()> {
 
 fn main() -> Result<(), Box<dyn Error>> {
     let words: Vec<String> = env::args().collect();
-    let [_, threads, key, path] = words.as_slice() else { return Err("sign_threads THREADS KEY FILE".into()) };
+    let [_, threads, key, path, random @ ..] = words.as_slice() else {
+        return Err("sign_threads THREADS KEY FILE [RANDOM]".into());
+    };
+    let mut randomizer = [0; N];
+    fs::File::open(random.first().map_or("/dev/urandom", String::as_str))?.read_exact(&mut randomizer)?;
     let (sk, msg) = (fs::read(key)?, fs::read(path)?);
-    let sig = sign(&sk, &msg, threads.parse()?)?;
+    let sig = sign(&sk, &msg, &randomizer, threads.parse()?)?;
+    let pk = &sk[SK / 2..];
+    verify(pk, &msg, &sig)?;
     fs::write(format!("{path}.sig"), &sig)?;
-    verify(&sk[SK / 2..], &msg, &sig)?;
+    fs::write(format!("{path}.pub"), pk)?;
     println!("valid");
     Ok(())
 }

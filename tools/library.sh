@@ -2,6 +2,7 @@
 # Builds the library for C and installs it:
 #
 #   PREFIX/include/slh.h            the header
+#   PREFIX/include/slh_internal.h   the calls for test vectors of the internal functions
 #   PREFIX/lib/libslh.a             all calls
 #   PREFIX/lib/libslh.so            the same as a shared object
 #   PREFIX/lib/libslh_verify.a      slh_verify and slh_hash_verify alone, cut out of the same object file
@@ -47,7 +48,7 @@ Libs: -L${libdir} -lslh
 Cflags: -I${includedir}
 END
 
-install -m 644 "$here/include/slh.h" "$prefix/include/slh.h"
+install -m 644 "$here/include/slh.h" "$here/include/slh_internal.h" "$prefix/include/"
 install -m 644 "$archive" "$prefix/lib/libslh.a"
 install -m 644 "$work/libslh_verify.a" "$prefix/lib/libslh_verify.a"
 install -m 755 "$work/libslh.so" "$prefix/lib/libslh.so"

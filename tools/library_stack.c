@@ -19,38 +19,38 @@ static uint8_t seeds[3 * SLH_MAX_N], sk[SLH_MAX_SECRET_KEY], sig[SLH_MAX_SIGNATU
 static size_t pk_len, sk_len, sig_len, n;
 static uint8_t start[SLH_MAX_START], *answers;
 static size_t start_len, answers_len;
-static uint32_t set, answer, jobs;
+static uint32_t set, result, jobs;
 
 static void *nothing(void *it) { return it; }
 
 static void *keygen(void *it) {
-    answer = slh_keygen(set, seeds, n, seeds + n, n, seeds + 2 * n, n, sk, sk_len);
+    result = slh_keygen(set, seeds, n, seeds + n, n, seeds + 2 * n, n, sk, sk_len);
     return it;
 }
 
 static void *sign(void *it) {
-    answer = slh_sign(set, sk, sk_len, msg, sizeof msg, ctx, sizeof ctx, seeds, n, sig, sig_len);
+    result = slh_sign(set, sk, sk_len, msg, sizeof msg, ctx, sizeof ctx, seeds, n, sig, sig_len);
     return it;
 }
 
 static void *verify(void *it) {
-    answer = slh_verify(set, sk + 2 * n, pk_len, msg, sizeof msg, ctx, sizeof ctx, sig, sig_len);
+    result = slh_verify(set, sk + 2 * n, pk_len, msg, sizeof msg, ctx, sizeof ctx, sig, sig_len);
     return it;
 }
 
 /* All jobs of a signature, one after the other. */
 static void *job(void *it) {
-    for (uint32_t number = 0; number < jobs && answer == SLH_DONE; number++) {
+    for (uint32_t number = 0; number < jobs && result == SLH_DONE; number++) {
         size_t at, len;
-        answer = slh_answer_place(set, 1, 1, number, &at, &len);
-        if (answer == SLH_DONE)
-            answer = slh_sign_job(set, 1, 1, sk, sk_len, start, start_len, number, answers + at, len);
+        result = slh_answer_place(set, 1, 1, number, &at, &len);
+        if (result == SLH_DONE)
+            result = slh_sign_job(set, 1, 1, sk, sk_len, start, start_len, number, answers + at, len);
     }
     return it;
 }
 
 static void *join(void *it) {
-    answer = slh_sign_join(set, 1, 1, sk, sk_len, start, start_len, answers, answers_len, sig, sig_len);
+    result = slh_sign_join(set, 1, 1, sk, sk_len, start, start_len, answers, answers_len, sig, sig_len);
     return it;
 }
 
@@ -67,9 +67,9 @@ static size_t used(void *(*run)(void *)) {
     pthread_t thread;
     if (stack == MAP_FAILED) exit(2);
     memset(stack, PAINT, STACK);
-    answer = SLH_DONE;
+    result = SLH_DONE;
     if (pthread_attr_init(&attributes) || pthread_attr_setstack(&attributes, stack, STACK) ||
-        pthread_create(&thread, &attributes, run, NULL) || pthread_join(thread, NULL) || answer != SLH_DONE)
+        pthread_create(&thread, &attributes, run, NULL) || pthread_join(thread, NULL) || result != SLH_DONE)
         exit(2);
     size_t untouched = 0;
     while (untouched < STACK && stack[untouched] == PAINT) untouched++;

@@ -5,7 +5,7 @@
  * Each argument is a block of its own, of just the length that is handed in, so that the sanitizers see a read or a
  * write beyond it in the calls of memcpy, memmove and memset.
  */
-#include <slh.h>
+#include <slh_internal.h>
 
 #include <pthread.h>
 #include <stdio.h>
@@ -129,17 +129,17 @@ static int is_painted(struct bytes out) {
     return 1;
 }
 
-/* Runs a call with copies of its arguments, one of which has another length, and with a fresh output. What is answered
+/* Runs a call with copies of its arguments, one of which has another length, and with a fresh output. What is returned
    must be `wanted`, and the output must be written where that is SLH_DONE, and else be as it was. */
-static void expect_answer(const struct call *call, const struct given *good, enum argument changed, size_t len,
+static void expect_result(const struct call *call, const struct given *good, enum argument changed, size_t len,
                           uint32_t wanted, const char *what) {
     struct given given = *good;
     for (int it = 0; it < OUT; it++)
         given.of[it] = copy(good->of[it], it == (int)changed ? len : good->of[it].len);
     given.of[OUT] = painted(changed == OUT ? len : good->of[OUT].len);
-    uint32_t answer = call->run(&given);
+    uint32_t result = call->run(&given);
     int has_output = call->writes != OUT && given.of[OUT].len > 0;
-    expect(answer == wanted && (!has_output || is_painted(given.of[OUT]) == (answer != SLH_DONE)), what, call->name,
+    expect(result == wanted && (!has_output || is_painted(given.of[OUT]) == (result != SLH_DONE)), what, call->name,
            good->set, len);
     for (int it = 0; it < ARGUMENTS; it++) free(given.of[it].at);
 }
@@ -169,9 +169,9 @@ static struct given in_rule(uint32_t set, uint32_t function) {
     given.of[SIG] = painted(sig_len);
     struct given making = given;
     making.of[OUT] = given.of[SK];
-    expect(keygen(&making) == SLH_DONE, "answer", "keygen", set, 0);
+    expect(keygen(&making) == SLH_DONE, "result", "keygen", set, 0);
     making.of[OUT] = given.of[PK];
-    expect(public(&making) == SLH_DONE, "answer", "public", set, 0);
+    expect(public(&making) == SLH_DONE, "result", "public", set, 0);
     return given;
 }
 
@@ -179,8 +179,8 @@ static void drop(struct given given) {
     for (int it = 0; it < OUT; it++) free(given.of[it].at);
 }
 
-/* What a call answers where this argument has another length, and all else is valid. */
-static uint32_t answer_to_length(const struct call *call, enum argument of) {
+/* What a call returns where this argument has another length, and all else is valid. */
+static uint32_t result_of_length(const struct call *call, enum argument of) {
     int is_verify = (call->takes & A(SIG)) != 0;
     switch (of) {
     case SK_SEED:
@@ -202,22 +202,22 @@ static int is_fast(uint32_t set) { return set % 2 == 0; }
 static void other_lengths(const struct call *call, const struct given *good) {
     for (int it = 0; it < ARGUMENTS; it++) {
         if (it == OUT ? call->writes == OUT : !(call->takes & A(it))) continue;
-        uint32_t wanted = answer_to_length(call, (enum argument)it);
+        uint32_t wanted = result_of_length(call, (enum argument)it);
         if (wanted == SLH_DONE && !is_fast(good->set)) continue;
         size_t len = good->of[it].len;
-        expect_answer(call, good, (enum argument)it, len - 1, wanted, "a byte less");
-        expect_answer(call, good, (enum argument)it, len + 1, wanted, "a byte more");
+        expect_result(call, good, (enum argument)it, len - 1, wanted, "a byte less");
+        expect_result(call, good, (enum argument)it, len + 1, wanted, "a byte more");
         if (it == RANDOMIZER) wanted = SLH_DONE;
         if (wanted == SLH_DONE && !is_fast(good->set)) continue;
-        expect_answer(call, good, (enum argument)it, 0, wanted, "a null pointer");
+        expect_result(call, good, (enum argument)it, 0, wanted, "a null pointer");
     }
 }
 
 static void other_contexts(const struct call *call, const struct given *good) {
     int is_verify = (call->takes & A(SIG)) != 0;
     if (!(call->takes & A(CTX)) || !is_fast(good->set)) return;
-    expect_answer(call, good, CTX, 255, is_verify ? SLH_INVALID : SLH_DONE, "a context of 255 bytes");
-    expect_answer(call, good, CTX, 256, is_verify ? SLH_INVALID : SLH_CONTEXT_TOO_LONG, "a context of 256 bytes");
+    expect_result(call, good, CTX, 255, is_verify ? SLH_INVALID : SLH_DONE, "a context of 255 bytes");
+    expect_result(call, good, CTX, 256, is_verify ? SLH_INVALID : SLH_CONTEXT_TOO_LONG, "a context of 256 bytes");
 }
 
 static void other_numbers(const struct call *call, const struct given *good) {
@@ -225,45 +225,59 @@ static void other_numbers(const struct call *call, const struct given *good) {
     for (size_t i = 0; i < sizeof none / sizeof none[0]; i++) {
         struct given given = *good;
         given.set = none[i];
-        expect_answer(call, &given, ARGUMENTS, 0, SLH_NO_SUCH_SET, "a number of no set");
+        expect_result(call, &given, ARGUMENTS, 0, SLH_NO_SUCH_SET, "a number of no set");
         given = *good;
         given.function = none[i];
-        if (call->has_function) expect_answer(call, &given, ARGUMENTS, 0, SLH_NO_SUCH_FUNCTION, "a number of no function");
+        if (call->has_function) expect_result(call, &given, ARGUMENTS, 0, SLH_NO_SUCH_FUNCTION, "a number of no function");
     }
 }
 
-/* All is invalid, and then one thing after the other is mended: each time the next one is answered. */
+/* All is invalid, and then one thing after the other is mended: each time the number of the next one is returned. */
 static void order(const struct call *call, const struct given *good) {
     struct given given = *good;
     for (int it = 0; it < OUT; it++) given.of[it].len = it == CTX ? 0 : good->of[it].len - 1;
     given.of[CTX] = counted(256, 0);
     given.of[OUT].len = good->of[OUT].len + 1;
     given.set = given.function = 0;
-    expect_answer(call, &given, ARGUMENTS, 0, SLH_NO_SUCH_SET, "first refusal");
+    expect_result(call, &given, ARGUMENTS, 0, SLH_NO_SUCH_SET, "first refusal");
     given.set = good->set;
-    if (call->has_function) expect_answer(call, &given, ARGUMENTS, 0, SLH_NO_SUCH_FUNCTION, "second refusal");
+    if (call->has_function) expect_result(call, &given, ARGUMENTS, 0, SLH_NO_SUCH_FUNCTION, "second refusal");
     given.function = good->function;
     static const enum argument judged[] = {SK_SEED, SK_PRF, PK_SEED, SK, PK, DIGEST, RANDOMIZER, OUT};
     for (size_t i = 0; i < sizeof judged / sizeof judged[0]; i++) {
         enum argument it = judged[i];
         if (it == OUT ? call->writes == OUT : !(call->takes & A(it))) continue;
-        expect_answer(call, &given, ARGUMENTS, 0, answer_to_length(call, it), "next refusal");
+        expect_result(call, &given, ARGUMENTS, 0, result_of_length(call, it), "next refusal");
         given.of[it].len = good->of[it].len;
     }
     if (call->takes & A(CTX))
-        expect_answer(call, &given, ARGUMENTS, 0, call->writes == SIG ? SLH_CONTEXT_TOO_LONG : SLH_INVALID, "last refusal");
+        expect_result(call, &given, ARGUMENTS, 0, call->writes == SIG ? SLH_CONTEXT_TOO_LONG : SLH_INVALID, "last refusal");
     free(given.of[CTX].at);
+}
+
+/* A signature with one bit off in R, in the first FORS secret, in the middle and at the end is SLH_INVALID, which is not
+   the 1 that other libraries return for a valid signature. */
+static void damaged(const struct call *verifying, const struct given *good) {
+    const struct bytes *sig = &good->of[SIG];
+    const size_t places[] = {0, good->of[RANDOMIZER].len, sig->len / 2, sig->len - 1};
+    expect(SLH_INVALID == 30, "not 1", verifying->name, good->set, SLH_INVALID);
+    for (size_t i = 0; i < sizeof places / sizeof places[0]; i++) {
+        sig->at[places[i]] ^= 1;
+        expect_result(verifying, good, ARGUMENTS, 0, SLH_INVALID, "a damaged signature");
+        sig->at[places[i]] ^= 1;
+    }
 }
 
 /* Signs, verifies under the same and under another message, and does so again with arguments that no 2 bytes align. */
 static void round_trip(const struct call *signing, const struct call *verifying, struct given *good) {
     good->of[OUT] = good->of[SIG];
-    expect(signing->run(good) == SLH_DONE, "answer", signing->name, good->set, 0);
-    expect_answer(verifying, good, ARGUMENTS, 0, SLH_DONE, "valid");
+    expect(signing->run(good) == SLH_DONE, "result", signing->name, good->set, 0);
+    expect_result(verifying, good, ARGUMENTS, 0, SLH_DONE, "valid");
     struct bytes *signed_ = &good->of[signing->takes & A(DIGEST) ? DIGEST : MSG];
     signed_->at[0] ^= 1;
-    expect_answer(verifying, good, ARGUMENTS, 0, SLH_INVALID, "another message");
+    expect_result(verifying, good, ARGUMENTS, 0, SLH_INVALID, "another message");
     signed_->at[0] ^= 1;
+    damaged(verifying, good);
 
     struct given shifted = *good;
     uint8_t *blocks[ARGUMENTS];
@@ -274,18 +288,18 @@ static void round_trip(const struct call *signing, const struct call *verifying,
     }
     if (is_fast(good->set)) {
         memset(shifted.of[OUT].at, PAINT, shifted.of[OUT].len);
-        expect(signing->run(&shifted) == SLH_DONE, "answer, unaligned", signing->name, good->set, 0);
+        expect(signing->run(&shifted) == SLH_DONE, "result, unaligned", signing->name, good->set, 0);
         expect(memcmp(shifted.of[OUT].at, good->of[SIG].at, good->of[SIG].len) == 0, "bytes, unaligned", signing->name,
                good->set, 0);
     }
-    expect(verifying->run(&shifted) == SLH_DONE, "answer, unaligned", verifying->name, good->set, 0);
+    expect(verifying->run(&shifted) == SLH_DONE, "result, unaligned", verifying->name, good->set, 0);
     for (int it = 0; it < ARGUMENTS; it++) free(blocks[it]);
 }
 
 static void set_by_set(void) {
     for (uint32_t set = 1; set <= SETS; set++) {
         struct given good = in_rule(set, set);
-        expect(check(&good) == SLH_DONE, "answer", "check", set, 0);
+        expect(check(&good) == SLH_DONE, "result", "check", set, 0);
         good.of[SK].at[good.of[SK].len - 1] ^= 1;
         expect(check(&good) == SLH_INVALID, "another root", "check", set, 0);
         good.of[SK].at[good.of[SK].len - 1] ^= 1;
@@ -315,7 +329,7 @@ static void lengths(void) {
     const size_t most[4] = {SLH_MAX_PUBLIC_KEY, SLH_MAX_SECRET_KEY, SLH_MAX_SIGNATURE, SLH_MAX_N};
     for (uint32_t set = SLH_DSA_SHA2_128S; set <= SLH_DSA_SHA2_256F; set++) {
         size_t of[4] = {0, 0, 0, 0};
-        expect(slh_lengths(set, &of[0], &of[1], &of[2], &of[3]) == SLH_DONE, "answer", "lengths", set, 0);
+        expect(slh_lengths(set, &of[0], &of[1], &of[2], &of[3]) == SLH_DONE, "result", "lengths", set, 0);
         for (int i = 0; i < 4; i++) {
             expect(of[i] == macros[set - 1][i], "a macro", "lengths", set, (size_t)i);
             expect(of[i] <= most[i], "the largest", "lengths", set, (size_t)i);
@@ -323,7 +337,7 @@ static void lengths(void) {
     }
     for (int i = 0; i < 3; i++) {
         size_t of[4] = {1, 2, 3, 4};
-        expect(slh_lengths(none[i], &of[0], &of[1], &of[2], &of[3]) == SLH_NO_SUCH_SET, "answer", "lengths", none[i], 0);
+        expect(slh_lengths(none[i], &of[0], &of[1], &of[2], &of[3]) == SLH_NO_SUCH_SET, "result", "lengths", none[i], 0);
         expect(of[0] == 1 && of[1] == 2 && of[2] == 3 && of[3] == 4, "unchanged", "lengths", none[i], 0);
     }
 }
@@ -340,6 +354,7 @@ static void names(void) {
         {SLH_NO_SUCH_REFUSAL, "NoSuchRefusal"},             {SLH_BAD_CUTTING, "BadCutting"},
         {SLH_BAD_ANSWERS_LENGTH, "BadAnswersLength"},       {SLH_ANSWERS_DISAGREE, "AnswersDisagree"},
         {SLH_NO_SUCH_JOB, "NoSuchJob"},                     {SLH_BAD_START_LENGTH, "BadStartLength"},
+        {SLH_BAD_START, "BadStart"},
     };
     size_t found = 0;
     for (uint32_t number = 0; number < 300; number++) {
@@ -348,16 +363,16 @@ static void names(void) {
             if (table[i].number == number) wanted = table[i].name;
         char name[SLH_MAX_NAME];
         memset(name, PAINT, sizeof name);
-        uint32_t answer = slh_refusal_name(number, name, sizeof name);
+        uint32_t result = slh_refusal_name(number, name, sizeof name);
         if (wanted == NULL) {
             struct bytes out = {(uint8_t *)name, sizeof name};
-            expect(answer == SLH_NO_SUCH_REFUSAL && is_painted(out), "no name", "refusal_name", number, 0);
+            expect(result == SLH_NO_SUCH_REFUSAL && is_painted(out), "no name", "refusal_name", number, 0);
             continue;
         }
         found++;
         size_t len = strlen(wanted), zeros = 0;
         while (zeros < sizeof name && name[sizeof name - 1 - zeros] == 0) zeros++;
-        expect(answer == SLH_DONE && zeros == sizeof name - len && strcmp(name, wanted) == 0, "name", "refusal_name", number, 0);
+        expect(result == SLH_DONE && zeros == sizeof name - len && strcmp(name, wanted) == 0, "name", "refusal_name", number, 0);
         char *exact = or_stop(malloc(len + 1));
         expect(slh_refusal_name(number, exact, len + 1) == SLH_DONE && strcmp(exact, wanted) == 0, "just room",
                "refusal_name", number, len);
@@ -390,7 +405,7 @@ static void threads(void) {
         of[i] = in_rule(i % 2 == 0 ? SLH_DSA_SHA2_128F : SLH_DSA_SHA2_192F, 1);
         of[i].of[MSG].at[0] = (uint8_t)i;
         of[i].of[OUT] = painted(of[i].of[SIG].len);
-        expect(sign(&of[i]) == SLH_DONE, "answer, alone", "sign", of[i].set, i);
+        expect(sign(&of[i]) == SLH_DONE, "result, alone", "sign", of[i].set, i);
     }
     for (int i = 0; i < THREADS; i++)
         if (pthread_create(&all[i], NULL, in_thread, &of[i]) != 0) exit(2);

@@ -1,6 +1,6 @@
 #!/usr/bin/env bash
 # Builds the library for C by tools/library.sh into a folder of its own, and tests what was installed: its symbols, the
-# header, the calls with valid and invalid arguments, the vectors of other implementations, the stack, the examples.
+# headers, the calls with valid and invalid arguments, the vectors of other implementations, the stack, the examples.
 #
 # usage: tools/library_tests.sh
 #
@@ -61,37 +61,68 @@ of_c() {
     printf 'U %s\n' memcpy memmove memset
 }
 
-# Runs an example over a fresh file: it must say that its signature is valid, and leave one of the set's length beside
-# the file. Over a file that is not there it must fail.
+# Runs an example over a fresh file: it must say that its signature is valid, and leave it beside the file, and the
+# public key under which it is. Over a file that is not there it must fail.
 example() {
-    rm -f "$work/letter" "$work/letter.sig"
+    rm -f "$work"/letter*
     printf 'a letter\nof two lines' >"$work/letter"
-    [ "$("$@" "$work/letter")" = valid ] && [ "$(wc -c <"$work/letter.sig")" = 17088 ] && ! "$@" "$work/no_such_file"
+    [ "$("$@" "$work/letter")" = valid ] && verifies && ! "$@" "$work/no_such_file"
 }
 
-# Runs the example of threads over the deterministic tests of the pure form and the empty context in a vector file, by 1,
-# 2 and 4 threads: each signature must be the file's.
-by_threads() {
-    python3 - "$1" "$here/vectors/slh-dsa-sha2-128f.json" "$work" <<'END'
-import json, pathlib, subprocess, sys
-program, vectors, work = sys.argv[1], json.loads(pathlib.Path(sys.argv[2]).read_text()), pathlib.Path(sys.argv[3])
-key, letter, made = work / "signer.key", work / "letter", work / "letter.sig"
-wanted = dict(kind="sign", form="pure", context="", random="")
-tests = [it for it in vectors if wanted.items() <= it.items()]
-for test in tests:
-    key.write_bytes(bytes.fromhex(test["sk"]))
-    letter.write_bytes(bytes.fromhex(test["message"]))
-    for threads in "124":
-        made.unlink(missing_ok=True)
-        said = subprocess.run([program, threads, key, letter], capture_output=True, text=True)
-        if (said.stdout, said.returncode) != ("valid\n", 0) or made.read_bytes().hex() != test["signature"]:
-            sys.exit(f"{threads} threads: {said}")
-sys.exit(0 if tests else "no test")
+# Whether the signature beside the letter is valid under the public key beside it.
+verifies() {
+    python3 - "$lib/libslh.so" "$work/letter" <<'END'
+import ctypes, pathlib, sys
+letter, sig, pk = (pathlib.Path(sys.argv[2] + it).read_bytes() for it in ("", ".sig", ".pub"))
+some = [it for text in (pk, letter, b"", sig) for it in (text, ctypes.c_size_t(len(text)))]
+sys.exit(ctypes.CDLL(sys.argv[1]).slh_verify(2, *some))
 END
 }
 
+# Runs the example of threads over the tests of the pure form and the empty context in a vector file, by 1, 2 and 4
+# threads: each signature must be the file's. The deterministic variant takes PK.seed as its randomizer. With a key
+# whose PK.root is not that of its seeds it must fail and write nothing, and without a randomizer sign otherwise.
+by_threads() {
+    rm -f "$work"/letter*
+    python3 - "$1" "$here/vectors/slh-dsa-sha2-128f.json" "$work" <<'END' && verifies
+import json, pathlib, subprocess, sys
+program, vectors, work = sys.argv[1], json.loads(pathlib.Path(sys.argv[2]).read_text()), pathlib.Path(sys.argv[3])
+key, random, letter, made, public = (work / it for it in ("key", "random", "letter", "letter.sig", "letter.pub"))
+def run(threads, *more):
+    made.unlink(missing_ok=True)
+    public.unlink(missing_ok=True)
+    said = subprocess.run([program, threads, key, letter, *more], capture_output=True, text=True)
+    return said.stdout, said.returncode, made.exists() and made.read_bytes(), public.exists() and public.read_bytes()
+tests = [it for it in vectors if dict(kind="sign", form="pure", context="").items() <= it.items()]
+for test in tests:
+    sk, sig = bytes.fromhex(test["sk"]), bytes.fromhex(test["signature"])
+    key.write_bytes(sk)
+    random.write_bytes(bytes.fromhex(test["random"]) or sk[32:48])
+    letter.write_bytes(bytes.fromhex(test["message"]))
+    for threads in "124":
+        said = run(threads, random)
+        if said != ("valid\n", 0, sig, sk[32:]):
+            sys.exit(f"{threads} threads: {said[:2]}")
+key.write_bytes(sk[:-1] + bytes([sk[-1] ^ 1]))
+said = run("2", random)
+if said[0] or not said[1] or said[2] or said[3]:
+    sys.exit(f"a damaged key: {said[:2]}")
+key.write_bytes(sk)
+one, other = run("2"), run("2")
+sys.exit(0 if len(tests) > 2 and one[1] == other[1] == 0 and len({one[2], other[2], sig}) == 3 else "no random bytes")
+END
+}
+
+# A program over both headers, each of them twice, with more in its one function.
 declared() {
-    printf '#include <slh.h>\n#include <slh.h>\nint main(%s) { return SLH_DONE; }\n' "$1"
+    printf '#include <slh_%s.h>\n#include <slh.h>\n' internal internal
+    printf 'int main(%s) { %s return SLH_DONE; }\n' "$1" "${2-}"
+}
+
+# Whether a compiler warns of a result that is not looked at, and of nothing else.
+warns() {
+    ! "$@" -c -o "$work/unused.o" <(declared void 'slh_verify(1, 0, 0, 0, 0, 0, 0, 0, 0);') >"$work/warned" 2>&1 &&
+        [ "$(grep -c error: "$work/warned")" = 1 ] && grep -q 'error: .*unused-result' "$work/warned"
 }
 
 if ! "$here/tools/library.sh" "$prefix" >"$work/said" 2>&1; then
@@ -105,8 +136,18 @@ one "libslh.so as well" has_symbols "$lib/libslh.so" -D < <(calls; of_c)
 one "libslh_verify.a defines two calls" has_symbols "$lib/libslh_verify.a" \
     < <(printf 'T slh_%s\n' hash_verify verify; of_c)
 
-one "the header is C99" "$cc" -std=c99 "${strict[@]}" -I "$prefix/include" -fsyntax-only -x c <(declared void)
-one "the header is C++" "$cxx" -std=c++11 "${strict[@]}" -I "$prefix/include" -fsyntax-only -x c++ <(declared '')
+for standard in c99 c2x; do
+    one "the headers are $standard" "$cc" -std=$standard "${strict[@]}" -I "$prefix/include" -fsyntax-only -x c \
+        <(declared void)
+    one "an unused result in $standard" warns "$cc" -std=$standard "${strict[@]}" -I "$prefix/include" -x c
+done
+for standard in c++11 c++17; do
+    one "the headers are $standard" "$cxx" -std=$standard "${strict[@]}" -I "$prefix/include" -fsyntax-only -x c++ \
+        <(declared '')
+    one "an unused result in $standard" warns "$cxx" -std=$standard "${strict[@]}" -I "$prefix/include" -x c++
+done
+one "slh.h declares no call of the internal interface" \
+    awk '/_internal *\(/ { found = 1 } END { exit found }' "$prefix/include/slh.h"
 
 one "the test program compiles" "$cc" -std=c99 "${strict[@]}" "${sanitized[@]}" -I "$prefix/include" \
     -o "$work/tests" "$here/tools/library_tests.c" "$lib/libslh.a" -pthread

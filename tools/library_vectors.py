@@ -5,26 +5,35 @@ usage: tools/library_vectors.py [--verify-only] LIBRARY [VECTORS]
 
 LIBRARY is libslh.so as tools/library.sh installs it, VECTORS a folder of vector files (default: vectors). With
 --verify-only LIBRARY has slh_verify and slh_hash_verify alone, and what needs another call is passed over. Of each test
-the calls must answer what the file states:
+the calls must do what the file states:
 
 - keygen: slh_keygen of the seeds writes the secret key, slh_public the public key, and slh_check is done;
 - sign: the call of the test's form writes exactly its signature; under a context of over 255 bytes it is refused, and
   the output is as it was. With a pre-hash function both the call with the message and the one with its digest. In the
-  pure and the pre-hash forms also the calls for jobs, the last job first, under two cuttings;
+  pure and the pre-hash forms also the calls for jobs, the last job first, under two cuttings; the start and each answer
+  have the tag that Python's hmac gives;
 - verify: the call of the test's form is done where `valid` is true, and else invalid. With a pre-hash function both.
+
+Of one sign test of each set whose name ends in f, each answer in turn has a wrong node with its tag, as a fault inside
+a job would write it. Where the node is one above the leaf that signs, or of the top tree, it is not joined; elsewhere
+the signature is another one, and valid.
 
 Four tests at a time are run, each in a thread. The last line has the counts, and the status is 0 where no test failed.
 """
 import concurrent.futures
 import ctypes
 import hashlib
+import hmac
 import json
 import pathlib
 import sys
 
-DONE, INVALID, CONTEXT_TOO_LONG = 0, 1, 2
+DONE, INVALID, CONTEXT_TOO_LONG, ANSWERS_DISAGREE = 0, 30, 2, 25
 SETS = [f"SLH-DSA-SHA2-{it}" for it in ("128s", "128f", "192s", "192f", "256s", "256f")]
 FUNCTIONS = ["SHA2-224", "SHA2-256", "SHA2-384", "SHA2-512", "SHA2-512/224", "SHA2-512/256"]
+# n, lg_w, h', d, a and k of each set (FIPS 205, Table 2)
+RECORDS = [(16, 4, 9, 7, 12, 14), (16, 4, 3, 22, 6, 33), (24, 4, 9, 7, 14, 17)]
+RECORDS += [(24, 4, 3, 22, 8, 33), (32, 4, 8, 8, 14, 22), (32, 4, 4, 17, 9, 35)]
 
 words = sys.argv[1:]
 verify_only = words[0] == "--verify-only"
@@ -82,27 +91,65 @@ def keygen_passes(test):
     return (made, written, checked) == (DONE,) * 3 and (secret.raw.hex(), public.raw.hex()) == (test["sk"], test["pk"])
 
 
+def tag(sk, kind, *parts):
+    """The tag of a start (1: PK.root, R and the digest) or of an answer (2: the start, levels, job and node)."""
+    n, function = len(sk) // 4, "sha256" if len(sk) == 64 else "sha512"
+    sk_seed, sk_prf, pk_seed = sk[:n], sk[n : 2 * n], sk[2 * n : 3 * n]
+    return hmac.digest(sk_prf + sk_seed + pk_seed, bytes([kind]) + b"".join(parts), function)[:n]
+
+
+class Jobs:
+    """A signature as jobs: the start, and how to write answers and join them."""
+
+    def __init__(self, test, xmss, fors):
+        self.number, self.sk = SETS.index(test["set"]) + 1, bytes.fromhex(test["sk"])
+        self.cut, self.record = (self.number, xmss, fors), bytes(RECORDS[self.number - 1])
+        jobs, lens = ctypes.c_uint32(), [ctypes.c_size_t() for _ in range(2)]
+        asked = library.slh_sign_jobs(*self.cut, ctypes.byref(jobs), *map(ctypes.byref, lens))
+        if asked != DONE:
+            sys.exit(f"slh_sign_jobs returns {asked}")
+        self.jobs, self.start, self.answers = jobs.value, painted(lens[0].value), painted(lens[1].value)
+        given = [self.sk, *(bytes.fromhex(test[it]) for it in ("message", "context", "random"))]
+        if test["form"] == "pure":
+            self.begun = call("slh_sign_start", self.number, *given, self.start)
+        else:
+            self.begun = call("slh_hash_sign_start", self.number, FUNCTIONS.index(test["form"]) + 1, *given, self.start)
+
+    def answer_all(self):
+        """Writes the answers, the last one first. Whether each is done, and has its tag, as the start has."""
+        n, start = self.record[0], self.start.raw
+        well = start[-n:] == tag(self.sk, 1, self.record, self.sk[-n:], start[:-n])
+        for job in reversed(range(self.jobs)):
+            at, length = self.place(job)
+            answer = painted(length)
+            well &= call("slh_sign_job", *self.cut, self.sk, start, job, answer) == DONE
+            well &= answer.raw[n : 2 * n] == self.tag(job, answer.raw[:n])
+            self.put(at, answer.raw)
+        return well
+
+    def place(self, job):
+        at, length = ctypes.c_size_t(), ctypes.c_size_t()
+        if library.slh_answer_place(*self.cut, job, ctypes.byref(at), ctypes.byref(length)) != DONE:
+            sys.exit(f"slh_answer_place refuses the job {job}")
+        return at.value, length.value
+
+    def put(self, at, some):
+        ctypes.memmove(ctypes.byref(self.answers, at), some, len(some))
+
+    def tag(self, job, node):
+        return tag(self.sk, 2, self.record, self.start.raw, bytes(self.cut[1:]), job.to_bytes(4, "big"), node)
+
+    def join(self):
+        out = painted(lengths(self.number)[2])
+        return call("slh_sign_join", *self.cut, self.sk, self.start.raw, self.answers, out), out.raw
+
+
 def jobs_pass(test, xmss, fors, wanted):
     """Whether the signature of jobs is the wanted one, or beginning it is refused where there is none."""
-    number, form, sk = SETS.index(test["set"]) + 1, test["form"], bytes.fromhex(test["sk"])
-    given = [sk, *(bytes.fromhex(test[it]) for it in ("message", "context", "random"))]
-    jobs, at, lens = ctypes.c_uint32(), ctypes.c_size_t(), [ctypes.c_size_t() for _ in range(3)]
-    cut = (number, xmss, fors)
-    asked = library.slh_sign_jobs(*cut, ctypes.byref(jobs), ctypes.byref(lens[0]), ctypes.byref(lens[1]))
-    start, answers = painted(lens[0].value), painted(lens[1].value)
-    if form == "pure":
-        begun = call("slh_sign_start", number, *given, start)
-    else:
-        begun = call("slh_hash_sign_start", number, FUNCTIONS.index(form) + 1, *given, start)
+    jobs = Jobs(test, xmss, fors)
     if wanted is None:
-        return (asked, begun, start.raw) == (DONE, CONTEXT_TOO_LONG, painted(lens[0].value).raw)
-    for job in reversed(range(jobs.value)):
-        asked |= library.slh_answer_place(*cut, job, ctypes.byref(at), ctypes.byref(lens[2]))
-        answer = painted(lens[2].value)
-        asked |= call("slh_sign_job", *cut, sk, start.raw, job, answer)
-        ctypes.memmove(ctypes.byref(answers, at.value), answer, lens[2].value)
-    out = painted(lengths(number)[2])
-    return (asked, begun, call("slh_sign_join", *cut, sk, start.raw, answers, out), out.raw) == (DONE,) * 3 + (wanted,)
+        return (jobs.begun, jobs.start.raw) == (CONTEXT_TOO_LONG, painted(len(jobs.start)).raw)
+    return jobs.begun == DONE and jobs.answer_all() and jobs.join() == (DONE, wanted)
 
 
 def sign_passes(test):
@@ -111,12 +158,32 @@ def sign_passes(test):
     for name, *arguments in calls(test, "sign", bytes.fromhex(test["sk"]), bytes.fromhex(test["random"])):
         out = painted(lengths(SETS.index(test["set"]) + 1)[2])
         before = out.raw
-        answer = call(name, *arguments, out)
-        if (answer, out.raw) != ((CONTEXT_TOO_LONG, before) if is_refused else (DONE, wanted)):
+        result = call(name, *arguments, out)
+        if (result, out.raw) != ((CONTEXT_TOO_LONG, before) if is_refused else (DONE, wanted)):
             return False
     if test["form"] == "internal":
         return True
     return all(jobs_pass(test, *cut, None if is_refused else wanted) for cut in ((1, 1), (3, 4)))
+
+
+def faults_pass(test):
+    """Whether each answer with a wrong node, tagged, is refused or joined to another signature, which is valid."""
+    jobs, wanted = Jobs(test, 1, 1), bytes.fromhex(test["signature"])
+    n, layers = jobs.record[0], jobs.record[3]
+    well = jobs.answer_all() and jobs.join() == (DONE, wanted)
+    for job in range(jobs.jobs):
+        at, length = jobs.place(job)
+        own = jobs.answers.raw[at : at + length]
+        node = bytes([own[0] ^ 1]) + own[1:n]
+        jobs.put(at, node + jobs.tag(job, node))
+        result, out = jobs.join()
+        if any(own[2 * n :]) or job // 2 == layers - 1:
+            well &= (result, out) == (ANSWERS_DISAGREE, painted(len(out)).raw)
+        else:
+            well &= result == DONE and out != wanted
+            well &= all(call(*it) == DONE for it in calls(test, "verify", jobs.sk[2 * n :], out))
+        jobs.put(at, own)
+    return well and jobs.join() == (DONE, wanted)
 
 
 def verify_passes(test):
@@ -125,23 +192,26 @@ def verify_passes(test):
     return all(call(*it) == wanted for it in calls(test, "verify", bytes.fromhex(test["pk"]), signature))
 
 
-PASSES = {"keygen": keygen_passes, "sign": sign_passes, "verify": verify_passes}
+PASSES = {"keygen": keygen_passes, "sign": sign_passes, "faults": faults_pass, "verify": verify_passes}
 
 
 def main():
     tests = []
     for path in sorted(set(vectors.glob("*.json")) - {vectors / "records.json"}):
         tests += [(path.name, number, test) for number, test in enumerate(json.loads(path.read_text()), 1)]
+    for name in SETS[1::2]:
+        pure = [it for it in tests if (it[2]["kind"], it[2]["set"], it[2].get("form")) == ("sign", name, "pure")]
+        tests += [(file, number, dict(test, kind="faults")) for file, number, test in pure[:1]]
     if verify_only:
         tests = [it for it in tests if it[2]["kind"] == "verify" and it[2]["form"] != "internal"]
     with concurrent.futures.ThreadPoolExecutor(4) as pool:
-        answers = list(pool.map(lambda it: PASSES[it[2]["kind"]](it[2]), tests))
-    for (name, number, test), well in zip(tests, answers):
+        passes = list(pool.map(lambda it: PASSES[it[2]["kind"]](it[2]), tests))
+    for (name, number, test), well in zip(tests, passes):
         if not well:
             print(f"{name} test {number} {test['kind']} {test['set']}: fail")
-    failed = answers.count(False)
-    print(f"{len(answers) - failed} passed, {failed} failed")
-    sys.exit(1 if failed or not answers else 0)
+    failed = passes.count(False)
+    print(f"{len(passes) - failed} passed, {failed} failed")
+    sys.exit(1 if failed or not passes else 0)
 
 
 main()

@@ -5,6 +5,7 @@ use Rattle.slh_params.specs.ParamSet.{params}
 use Rattle.slh_hash.specs.Keyed.{PRF_msg}
 use Rattle.slh_core.specs.Keys.{Key, sk_prf, public_of, pk_seed}
 use Rattle.slh_core.specs.Signatures.{signature, digest_of}
+use Rattle.slh_jobs.specs.Starts.{start_tag}
 
 abbrev pub key : ParamSet → List ℕ → Key
 key set bytes = record { set = set; bytes = bytes }
@@ -18,8 +19,9 @@ opt_rand_of (byte ∷ bytes) sk = byte ∷ bytes
 abbrev pub signature_by : Key → List ℕ → List ℕ → List ℕ
 signature_by sk msg randomizer = signature sk msg (opt_rand_of randomizer sk)
 
--- R and the digest of M' under the bytes of a randomizer (Algorithm 19, lines 2 to 5)
+-- R and the digest of M' under the bytes of a randomizer (Algorithm 19, lines 2 to 5), and their tag
 abbrev pub start_by : Key → List ℕ → List ℕ → List ℕ
 start_by sk msg randomizer =
     let r = PRF_msg (params sk.set) (sk_prf sk) (opt_rand_of randomizer sk) msg in
-    r ++ digest_of (public_of sk) r msg
+    let begun = r ++ digest_of (public_of sk) r msg in
+    begun ++ start_tag sk begun

@@ -5,8 +5,9 @@ use Rattle.slh_params.specs.ParamSet.{params}
 use Rattle.slh_params.specs.declared.param_set.ParamSet.{ParamSet}
 use Rattle.slh_core.specs.PreHash.{digest_len}
 use Rattle.slh_core.specs.declared.pre_hash.PreHash.{PreHash}
-use Rattle.slh_jobs.specs.Jobs.{jobs, len_of, answers_len, start_len}
+use Rattle.slh_jobs.specs.Jobs.{jobs, len_of, answers_len}
 use Rattle.slh_jobs.specs.KeyJobs.{key_jobs}
+use Rattle.slh_jobs.specs.Tags.{start_len}
 use Rattle.slh_jobs.specs.declared.levels.Levels.{Levels}
 use Rattle.slh_c.specs.Cuttings.{levels_of}
 use Rattle.slh_c.specs.Numbers.{set_numbered, function_numbered}
@@ -127,11 +128,12 @@ abbrev pub hash_sign_start_rules : ℕ → ℕ → List ℕ → List ℕ → Lis
 hash_sign_start_rules set function sk ctx random out = in_set set (λ s. with_function function (λ _.
     secret s sk ∷ randomizer s random ∷ output (start_len (params s)) out ∷ context ctx ∷ []))
 
+-- whether the start has its tag is judged after these
 abbrev pub sign_job_rules : ℕ → ℕ → ℕ → List ℕ → List ℕ → ℕ → List ℕ → List Rule
 sign_job_rules set xmss fors sk start job out = cut_in set xmss fors (λ c.
     below job (jobs c) ∷ secret c.set sk ∷ begun c.set start ∷ output (len_of c job) out ∷ [])
 
--- whether the answers fit together is judged after these
+-- whether the start has its tag, and then whether the answers fit together, is judged after these
 abbrev pub sign_join_rules : ℕ → ℕ → ℕ → List ℕ → List ℕ → List ℕ → List ℕ → List Rule
 sign_join_rules set xmss fors sk start answers out = cut_in set xmss fors (λ c.
     secret c.set sk ∷ begun c.set start ∷ output (sig_len (params c.set)) out

@@ -1,10 +1,12 @@
 //! Key generation as jobs for threads of the caller's own.
-ghost use Rattle.std.specs.Prelude.{◌≡◌, ◌≢◌, ◌↔◌, ◌*◌, ◌++◌};
+ghost use Rattle.std.specs.Prelude.{◌≡◌, ◌≢◌, ◌↔◌, ◌*◌, ◌++◌, length, Some, IsOk, IfOk, IfErr};
+ghost use Rattle.slh_params.specs.Params.{sk_len};
 ghost use Rattle.slh_params.specs.ParamSet.{params};
 ghost use Rattle.slh_core.specs.Keys.{generated_key, IsGeneratedKey};
 ghost use Rattle.slh_jobs.specs.KeyJobs.{key_jobs, key_answer, key_root, AreKeyAnswers, AreTagged};
-ghost use Rattle.slh_c.specs.Cuttings.{WithLevels};
+ghost use Rattle.slh_c.specs.Cuttings.{WithLevels, levels_of};
 ghost use Rattle.slh_c.specs.Keys.{key};
+ghost use Rattle.slh_c.specs.Numbers.{set_numbered};
 ghost use Rattle.slh_c.specs.Refusals.{number};
 ghost use Rattle.slh_c.specs.Rules.{first_refusal, keygen_jobs_rules, keygen_job_rules, keygen_join_rules};
 ghost use Rattle.slh_c.specs.declared.refusal.Refusal.TheVariants.{AnswersDisagree};
@@ -12,7 +14,7 @@ ghost use Rattle.slh_c.specs.declared.refusal.Refusal.TheVariants.{AnswersDisagr
 use crate::cuttings::levels_of;
 use crate::numbers::set_of;
 use crate::refusal::{DONE, Refusal};
-use slh_jobs::{JoinFault, key_answer_len, keygen_job, keygen_jobs, keygen_join};
+use slh_jobs::{Levels, key_answer_len, keygen_job, keygen_jobs, keygen_join};
 
 /// Writes how many jobs the generation of a key has where the XMSS tree of the top layer is cut by these levels, and
 /// the length of an answer in bytes. Refused, with nothing written, by `keygen_jobs_rules`: a number of no set, levels
@@ -79,6 +81,48 @@ pub extern "C" fn slh_keygen_job(
     DONE
 }
 
+/// The levels of the arguments of `slh_keygen_join`. Refused by `keygen_join_rules`.
+#[tactic(auto, using(slh_params::proofs::Bounds::bounds))]
+fn join_levels(
+    set: u32,
+    xmss_levels: u32,
+    sk_seed: &[u8],
+    sk_prf: &[u8],
+    pk_seed: &[u8],
+    answers: &[u8],
+    sk: &[u8],
+) -> Result<Levels, Refusal>
+    ensures ok { let rules = keygen_join_rules set xmss_levels sk_seed.now sk_prf.now pk_seed.now answers.now sk.now in
+        IsOk result ↔ (first_refusal rules ≡ DONE) }
+    ensures refused { let rules = keygen_join_rules set xmss_levels sk_seed.now sk_prf.now pk_seed.now answers.now sk.now in
+        IfErr result (λ refusal. number refusal ≡ first_refusal rules) }
+    ensures set { IfOk result (λ levels. set_numbered set ≡ Some levels.set) }
+    ensures levels { IfOk result (λ levels. levels_of levels.set xmss_levels 0 ≡ Some levels) }
+    ensures sk_seed { IfOk result (λ levels. length sk_seed.now ≡ (params levels.set).n) }
+    ensures sk_prf { IfOk result (λ levels. length sk_prf.now ≡ (params levels.set).n) }
+    ensures pk_seed { IfOk result (λ levels. length pk_seed.now ≡ (params levels.set).n) }
+    ensures answers { IfOk result (λ levels. length answers.now ≡ key_jobs levels * (2 * (params levels.set).n)) }
+    ensures sk { IfOk result (λ levels. length sk.now ≡ sk_len (params levels.set)) }
+{
+    let Some(set) = set_of(set) else {
+        return Err(Refusal::NoSuchSet);
+    };
+    let Some(levels) = levels_of(set, xmss_levels, 0) else {
+        return Err(Refusal::BadCutting);
+    };
+    let n = levels.set.n();
+    if sk_seed.len() != n || sk_prf.len() != n || pk_seed.len() != n {
+        return Err(Refusal::BadSeedLength);
+    }
+    if sk.len() != levels.set.sk_len() {
+        return Err(Refusal::BadOutputLength);
+    }
+    if answers.len() != keygen_jobs(&levels) as usize * key_answer_len(levels.set) {
+        return Err(Refusal::BadAnswersLength);
+    }
+    Ok(levels)
+}
+
 /// Writes the secret key, 4n bytes, of three seeds of n bytes each, from the answers of all jobs, put end to end in the
 /// order of the jobs: where each is what `slh_keygen_job` writes, the bytes of `slh_keygen`. Refused, with nothing
 /// written, by `keygen_join_rules`: as `slh_keygen_jobs` is, and for a seed, an output or answers of another length;
@@ -112,25 +156,15 @@ pub extern "C" fn slh_keygen_join(
         AreKeyAnswers c sk_seed.now sk_prf.now pk_seed.now answers.now → IsGeneratedKey (key c.set sk.new)) }
     ensures refused { result ≢ DONE → sk.new ≡ sk.old }
 {
-    let Some(set) = set_of(set) else {
-        return Refusal::NoSuchSet.number();
+    let levels = match join_levels(set, xmss_levels, sk_seed, sk_prf, pk_seed, answers, sk) {
+        Ok(levels) => levels,
+        Err(refusal) => return refusal.number(),
     };
-    let Some(levels) = levels_of(set, xmss_levels, 0) else {
-        return Refusal::BadCutting.number();
-    };
-    let n = levels.set.n();
-    if sk_seed.len() != n || sk_prf.len() != n || pk_seed.len() != n {
-        return Refusal::BadSeedLength.number();
-    }
-    if sk.len() != levels.set.sk_len() {
-        return Refusal::BadOutputLength.number();
-    }
     match keygen_join(&levels, sk_seed, sk_prf, pk_seed, answers) {
         Ok(key) => {
             sk.copy_from_slice(key.bytes());
             DONE
         }
-        Err(JoinFault::BadAnswersLength) => Refusal::BadAnswersLength.number(),
-        Err(JoinFault::AnswersDisagree) => Refusal::AnswersDisagree.number(),
+        Err(_) => Refusal::AnswersDisagree.number(),
     }
 }

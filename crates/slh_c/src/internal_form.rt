@@ -54,7 +54,7 @@ pub extern "C" fn slh_verify_internal(set: u32, pk: &[u8], msg: &[u8], sig: &[u8
         (length pk.now ≡ pk_len (params s)) × IsValid (key s pk.now) msg.now sig.now) }
     ensures refused { first_refusal (verify_rules set pk.now) ≢ DONE
         → result ≡ first_refusal (verify_rules set pk.now) }
-    ensures judged { first_refusal (verify_rules set pk.now) ≡ DONE → result ≤ INVALID }
+    ensures judged { first_refusal (verify_rules set pk.now) ≡ DONE → result ≢ DONE → result ≡ INVALID }
 {
     let Some(set) = set_of(set) else {
         return Refusal::NoSuchSet.number();

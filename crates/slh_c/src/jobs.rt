@@ -1,13 +1,17 @@
 //! A signature as jobs for threads of the caller's own: how many jobs, and what each writes.
-ghost use Rattle.std.specs.Prelude.{◌≡◌, ◌≢◌};
+ghost use Rattle.std.specs.Prelude.{◌≡◌, ◌≢◌, ◌↔◌};
 ghost use Rattle.slh_params.specs.ParamSet.{params};
 ghost use Rattle.slh_core.specs.Messages.{pure_message, pre_hash_message};
 ghost use Rattle.slh_core.specs.PreHash.{PH};
-ghost use Rattle.slh_jobs.specs.Jobs.{jobs, start_of, len_of, answers_len, start_len, answer_of};
+ghost use Rattle.slh_jobs.specs.Jobs.{jobs, start_of, len_of, answers_len, answer_of};
+ghost use Rattle.slh_jobs.specs.Starts.{IsStart};
+ghost use Rattle.slh_jobs.specs.Tags.{start_len};
 ghost use Rattle.slh_c.specs.Cuttings.{WithLevels};
 ghost use Rattle.slh_c.specs.Keys.{key, start_by};
 ghost use Rattle.slh_c.specs.Numbers.{InSet, WithFunction};
+ghost use Rattle.slh_c.specs.Refusals.{number};
 ghost use Rattle.slh_c.specs.Rules.{first_refusal, sign_jobs_rules, answer_rules, sign_start_rules, hash_sign_start_rules, sign_job_rules};
+ghost use Rattle.slh_c.specs.declared.refusal.Refusal.TheVariants.{BadStart};
 
 use crate::cuttings::levels_of;
 use crate::numbers::{function_of, set_of};
@@ -75,8 +79,9 @@ pub extern "C" fn slh_answer_place(
     DONE
 }
 
-/// Begins the signature of a message under a context (FIPS 205, Algorithm 22): writes R and the message's digest. The
-/// lengths are those of `slh_sign`. Refused, with nothing written, by `sign_start_rules`: as `slh_sign` is.
+/// Begins the signature of a message under a context (FIPS 205, Algorithm 22): writes R, the message's digest and their
+/// tag under this key. The lengths are those of `slh_sign`. Refused, with nothing written, by `sign_start_rules`: as
+/// `slh_sign` is.
 #[unsafe(no_mangle)]
 pub extern "C" fn slh_sign_start(
     set: u32,
@@ -89,6 +94,7 @@ pub extern "C" fn slh_sign_start(
     ensures answer { result ≡ first_refusal (sign_start_rules set sk.now ctx.now randomizer.now start.old) }
     ensures start { result ≡ DONE → InSet set (λ s.
         start.new ≡ start_by (key s sk.now) (pure_message ctx.now msg.now) randomizer.now) }
+    ensures tagged { result ≡ DONE → InSet set (λ s. IsStart (key s sk.now) start.new) }
     ensures refused { result ≢ DONE → start.new ≡ start.old }
 {
     let Some(set) = set_of(set) else {
@@ -110,8 +116,8 @@ pub extern "C" fn slh_sign_start(
 }
 
 /// Begins the signature of a message by its digest under a pre-hash function, and under a context (FIPS 205, Algorithm
-/// 23): writes R and the digest of M'. The lengths are those of `slh_hash_sign`. Refused, with nothing written, by
-/// `hash_sign_start_rules`: as `slh_hash_sign` is.
+/// 23): writes R, the digest of M' and their tag under this key. The lengths are those of `slh_hash_sign`. Refused,
+/// with nothing written, by `hash_sign_start_rules`: as `slh_hash_sign` is.
 #[unsafe(no_mangle)]
 pub extern "C" fn slh_hash_sign_start(
     set: u32,
@@ -126,6 +132,7 @@ pub extern "C" fn slh_hash_sign_start(
         (hash_sign_start_rules set function sk.now ctx.now randomizer.now start.old) }
     ensures start { result ≡ DONE → InSet set (λ s. WithFunction function (λ f.
         start.new ≡ start_by (key s sk.now) (pre_hash_message ctx.now f (PH f msg.now)) randomizer.now)) }
+    ensures tagged { result ≡ DONE → InSet set (λ s. IsStart (key s sk.now) start.new) }
     ensures refused { result ≢ DONE → start.new ≡ start.old }
 {
     let Some(set) = set_of(set) else {
@@ -150,7 +157,8 @@ pub extern "C" fn slh_hash_sign_start(
 }
 
 /// Writes the answer of a job of the signature that `start` begins. Refused, with nothing written, by `sign_job_rules`:
-/// as `slh_answer_place` is, and for a key, a start or an output of another length.
+/// as `slh_answer_place` is, and for a key, a start or an output of another length; then where the start does not have
+/// its tag under this key.
 #[unsafe(no_mangle)]
 pub extern "C" fn slh_sign_job(
     set: u32,
@@ -161,8 +169,14 @@ pub extern "C" fn slh_sign_job(
     job: u32,
     answer: &mut [u8],
 ) -> u32
-    ensures answer { result ≡ first_refusal
-        (sign_job_rules set xmss_levels fors_levels sk.now start.now job answer.old) }
+    ensures ruled { let rules = sign_job_rules set xmss_levels fors_levels sk.now start.now job answer.old in
+        first_refusal rules ≢ DONE → result ≡ first_refusal rules }
+    ensures start { let rules = sign_job_rules set xmss_levels fors_levels sk.now start.now job answer.old in
+        first_refusal rules ≡ DONE → WithLevels set xmss_levels fors_levels (λ c.
+        (result ≡ number BadStart) ↔ (IsStart (key c.set sk.now) start.now → ⊥)) }
+    ensures accepted { let rules = sign_job_rules set xmss_levels fors_levels sk.now start.now job answer.old in
+        first_refusal rules ≡ DONE → WithLevels set xmss_levels fors_levels (λ c.
+        (result ≡ DONE) ↔ IsStart (key c.set sk.now) start.now) }
     ensures written { result ≡ DONE → WithLevels set xmss_levels fors_levels (λ c.
         answer.new ≡ answer_of c (key c.set sk.now) start.now job) }
     ensures refused { result ≢ DONE → answer.new ≡ answer.old }
@@ -185,6 +199,8 @@ pub extern "C" fn slh_sign_job(
     if answer.len() != answer_len(&levels, job) {
         return Refusal::BadOutputLength.number();
     }
-    sign_job(&levels, &sk, start, job, answer);
-    DONE
+    match sign_job(&levels, &sk, start, job, answer) {
+        Ok(()) => DONE,
+        Err(_) => Refusal::BadStart.number(),
+    }
 }

@@ -95,7 +95,7 @@ pub extern "C" fn slh_check(set: u32, sk: &[u8]) -> u32
         (length sk.now ≡ sk_len (params s)) × IsGeneratedKey (key s sk.now)) }
     ensures refused { first_refusal (check_rules set sk.now) ≢ DONE
         → result ≡ first_refusal (check_rules set sk.now) }
-    ensures judged { first_refusal (check_rules set sk.now) ≡ DONE → result ≤ INVALID }
+    ensures judged { first_refusal (check_rules set sk.now) ≡ DONE → result ≢ DONE → result ≡ INVALID }
 {
     let Some(set) = set_of(set) else {
         return Refusal::NoSuchSet.number();

@@ -2,9 +2,9 @@
 //! thread, without memory; and one signature or key as jobs for threads of the caller's own. `include/slh.h` declares
 //! the calls and says what a caller must uphold.
 //!
-//! Each call tests its numbers and lengths in the order of its rules (`specs/Rules`), and answers the number of the
-//! first that is not met. Else it calls `slh_core` or `slh_jobs`, and answers `DONE` or `INVALID`, or that answers
-//! don't fit together.
+//! Each call tests its numbers and lengths in the order of its rules (`specs/Rules`), and returns the number of the
+//! first that is not met. Else it calls `slh_core` or `slh_jobs`, and returns `DONE` or `INVALID`, or that a start does
+//! not have its tag or that answers don't fit together.
 #![tactic(auto)]
 
 mod cuttings;

@@ -1,11 +1,12 @@
 ghost use Rattle.std.specs.Prelude.{◌≡◌};
 ghost use Rattle.slh_c.specs.Refusals.{number, name, refusal_numbered};
 
-/// What a call answers that is done, or whose key or signature is valid.
+/// What a call returns that is done, or whose key or signature is valid.
 pub const DONE: u32 = 0;
 
-/// What a call answers whose key or signature is not valid.
-pub const INVALID: u32 = 1;
+/// What a call returns whose key or signature is not valid. It is not 1, which OpenSSL and BoringSSL return where a
+/// signature is valid: a test `== 1` that was written for them would accept exactly the forgeries.
+pub const INVALID: u32 = 30;
 
 /// Why a call is refused.
 #[derive(Clone, Copy)]
@@ -38,6 +39,8 @@ pub enum Refusal {
     NoSuchJob,
     /// A start of another length than the set's.
     BadStartLength,
+    /// A start that does not have its tag under the key.
+    BadStart,
 }
 
 impl Refusal {
@@ -60,6 +63,7 @@ impl Refusal {
             Refusal::AnswersDisagree => 25,
             Refusal::NoSuchJob => 26,
             Refusal::BadStartLength => 27,
+            Refusal::BadStart => 28,
         }
     }
 
@@ -82,6 +86,7 @@ impl Refusal {
             Refusal::AnswersDisagree => "AnswersDisagree",
             Refusal::NoSuchJob => "NoSuchJob",
             Refusal::BadStartLength => "BadStartLength",
+            Refusal::BadStart => "BadStart",
         }
     }
 
@@ -105,6 +110,7 @@ impl Refusal {
             25 => Some(Refusal::AnswersDisagree),
             26 => Some(Refusal::NoSuchJob),
             27 => Some(Refusal::BadStartLength),
+            28 => Some(Refusal::BadStart),
             _ => None,
         }
     }

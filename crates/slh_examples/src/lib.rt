@@ -8,6 +8,7 @@ mod own_threads;
 mod stop;
 mod stream;
 mod threads;
+mod twice;
 
 pub use key::new_key;
 pub use letter::{is_letter_of, sign_letter};
@@ -16,6 +17,7 @@ pub use own_threads::sign_by_own_threads;
 pub use stop::StopFlag;
 pub use stream::{is_valid_package, sign_package};
 pub use threads::{sign_by_threads, sign_unless_stopped};
+pub use twice::join_of_two_runs;
 
 #[cfg(test)]
 mod tests;

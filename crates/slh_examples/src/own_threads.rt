@@ -4,9 +4,12 @@ ghost use Rattle.std.specs.Thread.{IsSync};
 ghost use Rattle.slh_params.specs.Params.{sig_len};
 ghost use Rattle.slh_params.specs.ParamSet.{params};
 ghost use Rattle.slh_core.specs.Messages.{pure_message};
-ghost use Rattle.slh_core.specs.Signatures.{signature_by};
+ghost use Rattle.slh_core.specs.Keys.{public_of, IsGeneratedKey};
+ghost use Rattle.slh_core.specs.Signatures.{signature_by, IsValid};
 ghost use Rattle.slh_core.specs.declared.randomizer.Randomizer.TheVariants.{Deterministic};
-ghost use Rattle.slh_jobs.specs.Jobs.{AreAnswers, answer_of, answers_len, jobs, len_of, start_len, start_of};
+ghost use Rattle.slh_jobs.specs.Jobs.{AreAnswers, answer_of, answers_len, jobs, len_of, start_of};
+ghost use Rattle.slh_jobs.specs.Starts.{IsStart};
+ghost use Rattle.slh_jobs.specs.Tags.{start_len};
 ghost use Rattle.slh_examples.specs.JobRanges.{AreAnswersOf, IsRoomFor};
 
 use slh_core::{Form, Randomizer, SecretKey};
@@ -18,7 +21,7 @@ use std::alloc::{AllocError, Allocator};
 use std::thread::{Threads, join_mut};
 
 /// At least the length of the start of a signature, in any set.
-const MOST_START_LEN: usize = 154;
+const MOST_START_LEN: usize = 186;
 
 /// What the jobs of one signature are given.
 #[derive(Clone, Copy)]
@@ -28,6 +31,7 @@ struct Begun<'a> {
     start: &'a [u8],
     ghost set: { sk.now.set ≡ levels.now.set },
     ghost len: { length start.now ≡ start_len (params levels.now.set) },
+    ghost tagged: { IsStart sk.now start.now },
 }
 
 /// Writes the answer of one job, from `at` on.
@@ -39,7 +43,9 @@ fn put_answer(begun: &Begun, job: u32, out: &mut [u8], at: usize)
         ≡ take at out.old ++ answer_of begun.now.levels.now begun.now.sk.now begun.now.start.now job }
 {
     let end = at + answer_len(begun.levels, job);
-    sign_job(begun.levels, begun.sk, begun.start, job, &mut out[at..end]);
+    let Ok(()) = sign_job(begun.levels, begun.sk, begun.start, job, &mut out[at..end]) else {
+        unreachable!()
+    };
 }
 
 /// Writes the answers of the jobs from `first` on, below `end`, one after another.
@@ -121,8 +127,8 @@ fn answer_all<R: Threads + Sync>(rt: &R, begun: &Begun, threads: u32, answers: &
     answer_by_threads(rt, begun, threads, 0, sign_jobs(begun.levels), answers);
 }
 
-/// Signs a message with no context, as jobs of that many threads, this one among them. The bytes are those that one
-/// thread writes. Refused, with nothing written, where memory for the answers was refused.
+/// Signs a message with no context under a generated key, as jobs of that many threads, this one among them. The bytes
+/// are those that one thread writes. Refused, with nothing written, where memory for the answers was refused.
 pub fn sign_by_own_threads<R: Threads + Sync, A: Allocator>(
     rt: &R,
     alloc: A,
@@ -132,9 +138,11 @@ pub fn sign_by_own_threads<R: Threads + Sync, A: Allocator>(
     threads: u32,
     sig: &mut [u8],
 ) -> Result<(), AllocError>
+    requires generated { IsGeneratedKey sk.now }
     requires set { sk.now.set ≡ levels.now.set }
     requires sig { length sig.old ≡ sig_len (params sk.now.set) }
     ensures signature { OnOk result (sig.new ≡ signature_by sk.now (pure_message [] msg.now) Deterministic) }
+    ensures authentic { OnOk result (IsValid (public_of sk.now) (pure_message [] msg.now) sig.new) }
     ensures refused { OnErr result (sig.new ≡ sig.old) }
 {
     let mut buffer = [0; MOST_START_LEN];

@@ -2,19 +2,25 @@
 ghost use Rattle.std.specs.Prelude.{◌≡◌, IfOk, length};
 ghost use Rattle.slh_params.specs.Params.{sig_len};
 ghost use Rattle.slh_params.specs.ParamSet.{params};
+ghost use Rattle.slh_core.specs.Keys.{IsGeneratedKey};
+ghost use Rattle.slh_jobs.specs.Tags.{start_len as length_of_start};
 
 use crate::{
-    Signed, StopFlag, both_valid, is_letter_of, is_valid_package, new_key, sign_by_own_threads,
-    sign_by_threads, sign_letter, sign_package, sign_unless_stopped,
+    Signed, StopFlag, both_valid, is_letter_of, is_valid_package, join_of_two_runs, new_key,
+    sign_by_own_threads, sign_by_threads, sign_letter, sign_package, sign_unless_stopped,
 };
 use rand_chacha::ChaCha20Rng;
 use rand_core::SeedableRng;
 use refusing_allocator::Refusing;
 use sha2::{Digest, Sha256};
-use slh_core::{ParamSet, PreHash, SecretKey};
-use slh_jobs::Levels;
+use slh_core::{Form, ParamSet, PreHash, Randomizer, SecretKey, check_pair};
+use slh_jobs::{
+    JobFault, Levels, answer_len, answer_start, answers_len, sign_job, sign_jobs, sign_start,
+    start_len,
+};
 use slh_par::{ParFault, Workers};
 use std::alloc::{AllocError, Global};
+use std::process::Abort;
 use std::test::Fail;
 
 const SET: ParamSet = ParamSet::S128f;
@@ -66,6 +72,36 @@ fn levels(set: ParamSet, xmss: u32, fors: u32) -> Result<Levels, Fail>
     ensures { IfOk result (λ levels. levels.set ≡ set) }
 {
     Ok(Levels::new(set, xmss, fors).ok_or("no such levels")?)
+}
+
+/// The secret key of the seeds 00, 01, 02, .., of which PK.root is computed again.
+fn counting_key(alloc: Global) -> Result<SecretKey, Fail>
+    ensures { IfOk result IsGeneratedKey }
+{
+    let sk = key(alloc, SET, COUNTING_KEY)?;
+    let generated = if check_pair(&sk) { Some(sk) } else { None };
+    Ok(generated.ok_or("PK.root is another")?)
+}
+
+/// The answers of all jobs of a signature, in turn.
+fn answers(
+    rt: &impl Abort,
+    alloc: Global,
+    levels: &Levels,
+    sk: &SecretKey,
+    start: &[u8],
+) -> Result<Vec<u8>, Fail>
+    requires set { sk.now.set ≡ levels.now.set }
+    requires start { length start.now ≡ length_of_start (params levels.now.set) }
+{
+    let mut answers = vec![in alloc; 0; answers_len(levels)]?;
+    for job in 0..sign_jobs(levels) {
+        let first = answer_start(levels, job);
+        let len = answer_len(levels, job);
+        assert!(rt; first <= answers.len() && len <= answers.len() - first);
+        sign_job(levels, sk, start, job, &mut answers[first..][..len])?;
+    }
+    Ok(answers)
 }
 
 /// The first 48 bytes of ChaCha20 under the key of 32 bytes 00 (RFC 8439, appendix A.1) are the seeds; PK.root is by a
@@ -141,7 +177,7 @@ fn threads_and_a_stop_flag(rt: HostRuntime) -> Result<(), Fail> {
 
 #[test]
 fn own_threads(rt: HostRuntime) -> Result<(), Fail> {
-    let sk = key(rt.alloc(), SET, COUNTING_KEY)?;
+    let sk = counting_key(rt.alloc())?;
     for (xmss, fors, threads) in [(0, 0, 1), (1, 1, 3), (3, 6, 8)] {
         let cut = levels(sk.set(), xmss, fors)?;
         let mut sig = room(rt.alloc(), &sk)?;
@@ -158,7 +194,7 @@ fn own_threads(rt: HostRuntime) -> Result<(), Fail> {
 /// The answers are all that is allocated: the first growth is refused, and there is no second.
 #[test]
 fn own_threads_without_memory(rt: HostRuntime) -> Result<(), Fail> {
-    let sk = key(rt.alloc(), SET, COUNTING_KEY)?;
+    let sk = counting_key(rt.alloc())?;
     for nth in [1, 2] {
         let cut = levels(sk.set(), 1, 0)?;
         let alloc = Refusing::new(rt.alloc(), rt.alloc(), nth)?;
@@ -171,6 +207,30 @@ fn own_threads_without_memory(rt: HostRuntime) -> Result<(), Fail> {
         );
         assert_eq!(rt; sig.iter().all(|&byte| byte == 0), nth == 1);
     }
+    Ok(())
+}
+
+#[test]
+fn two_runs_of_all_jobs(rt: HostRuntime) -> Result<(), Fail> {
+    let sk = key(rt.alloc(), SET, COUNTING_KEY)?;
+    let cut = levels(sk.set(), 0, 0)?;
+    let mut start = vec![in rt.alloc(); 0; start_len(sk.set())]?;
+    sign_start(
+        Form::Pure,
+        b"abc",
+        b"",
+        &sk,
+        Randomizer::Deterministic,
+        &mut start,
+    )?;
+    let answers = answers(&rt, rt.alloc(), &cut, &sk, &start)?;
+    let mut others = answers.as_slice().to_vec(rt.alloc())?;
+    let mut sig = room(rt.alloc(), &sk)?;
+    join_of_two_runs(&cut, &sk, &start, &answers, &others, &mut sig)?;
+    assert_eq!(rt; sha256_hex(rt.alloc(), &sig)?.as_str(), OF_ABC);
+    others.push(0)?;
+    let refused = join_of_two_runs(&cut, &sk, &start, &answers, &others, &mut sig);
+    assert_eq!(rt; refused.err(), Some(JobFault::AnswersDisagree));
     Ok(())
 }
 

@@ -2,13 +2,13 @@
 use Rattle.std.proofs.Common.{◌≡◌, ℕ, zero, suc, ◌+◌, ◌-◌, ◌*◌, ◌/◌, ◌%◌, ◌^◌, ◌<◌, ◌≤◌, nat_lt, true, false, List, ◌++◌, take, drop, refl, ap, sym, subst, ◌∙◌, arith, rules}
 use Rattle.std.proofs.lemmas.List.{drop-drop}
 use Rattle.std.proofs.lemmas.Nat.{div-mul-add, mod-mul-add, pow_pos}
-use Rattle.std.proofs.Math.Nat.{mul-le-mul_right, mod-lt}
+use Rattle.std.proofs.Math.Nat.{mul-le-mul_right, mod-lt, div-eq_of_lt}
 use Rattle.slh_params.specs.ParamSet.{params}
 use Rattle.slh_params.specs.declared.param_set.ParamSet.{ParamSet}
-use Rattle.slh_params.proofs.Bounds.{n_high}
+use Rattle.slh_params.proofs.Bounds.{n_high, d_low, h_below_top}
 use Rattle.slh_params.specs.Address.{address}
 use Rattle.slh_hash.specs.Hash.{T}
-use Rattle.slh_hash.proofs.Lengths.{length-PRF_msg}
+use Rattle.slh_hash.proofs.Lengths.{length-cut_hmac}
 use Rattle.slh_tree.specs.Tree.{root}
 use Rattle.slh_few.specs.Fors.{fors_tree, fors_part, fors_root, fors_sig, compressed_roots}
 use Rattle.slh_few.specs.Hypertree.{layer_sig, ht_sig, signed_at}
@@ -22,11 +22,13 @@ use Rattle.slh_few.proofs.Ends.{end_to_end-same}
 use Rattle.slh_few.proofs.ForsLaw.{index_lt, fors_root-part}
 use Rattle.slh_few.proofs.HtLaw.{signed_at-start, signed_at-root, layer_sig-parts}
 use Rattle.slh_few.proofs.KeptChains.{wots_sig_from-own}
-use Rattle.slh_few.proofs.Layers.{layer_place-layer, layer_place-pair}
+use Rattle.slh_few.proofs.Layers.{layer_place-layer, layer_place-pair, layer_place-tree}
+use Rattle.slh_few.proofs.Sizes.{top_layer}
 use Rattle.slh_few.proofs.XmssLaw.{xmss_pk_from_sig-xmss_sig}
 use Rattle.slh_core.specs.Cut.{md, idx_tree, idx_leaf}
-use Rattle.slh_core.specs.Keys.{Key, sk_seed, public_of, pk_seed}
+use Rattle.slh_core.specs.Keys.{Key, sk_seed, public_of, pk_seed, pk_root, IsGeneratedKey, top_root}
 use Rattle.slh_core.proofs.Assembled.{signed_parts}
+use Rattle.slh_core.proofs.Valid.{idx_tree_lt}
 use Rattle.slh_jobs.specs.Ranges.{below, answer_len, given, node_given, tag_given, rest_given, auth_given}
 use Rattle.slh_jobs.specs.Jobs.{params_of, xmss_shape, fors_shape, xmss_jobs, fors_jobs, layer_answer, fors_answer, tag_of, digest_in, r_in, place_in, layer_tree, chains_of, fors_tree_of, index_in, secret_of, AreAnswers}
 use Rattle.slh_jobs.specs.Joined.{fors_answers, layer_root, fors_root_given, pk_fors_given, signed_given, fors_part_given, layer_part_given, signature_given, FitTogether}
@@ -85,7 +87,7 @@ layer_right c sk start bytes are l lt =
       height = refl;
       width = refl;
       leaf = layer_place-pair p (idx_tree p digest) (idx_leaf p digest) l (leaf_below p digest);
-      tag_len = λ r x. length-PRF_msg p _ _ _ (n_high c.set);
+      tag_len = λ r x. length-cut_hmac p _ _ (n_high c.set);
       each = λ r lr. xmss_answer_at c sk start bytes are l r lt lr;
     }
 
@@ -100,7 +102,7 @@ fors_right c sk start bytes are j lt =
       height = refl;
       width = refl;
       leaf = index_lt p (md p digest) j;
-      tag_len = λ r x. length-PRF_msg p _ _ _ (n_high c.set);
+      tag_len = λ r x. length-cut_hmac p _ _ (n_high c.set);
       each = λ r lr. fors_answer_at c sk start bytes are j r lt lr;
     }
 
@@ -208,9 +210,35 @@ standard-given c sk start bytes are =
 pub signature-right : (c : Levels) (sk : Key) (start bytes : List ℕ) → sk.set ≡ c.set → AreAnswers c sk start bytes → signature_given c sk start bytes ≡ signature_from sk start
 signature-right c sk start bytes same are = standard-given c sk start bytes are ∙ ap (standard_at sk start) (sym same) ∙ standard-own sk start
 
+-- above the top layer stands the root of the key's top tree
+top_given_root : (c : Levels) (sk : Key) (start bytes : List ℕ) → AreAnswers c sk start bytes
+    → signed_given c sk start bytes (params_of c).d ≡ root (xmss_tree (params_of c) (sk_seed sk) (pk_seed (public_of sk)) ((params_of c).d - 1) 0)
+top_given_root c sk start bytes are =
+    let p = params_of c in
+    let digest = digest_in p start in
+    let e = p.d - 1 in
+    let last : e < p.d = omega (arith, d_low c.set) in
+    let at : Place = place_in c start e in
+    let small : idx_tree p digest < 2 ^ (p.hp * e) = subst (λ (k : ℕ). idx_tree p digest < 2 ^ k) (h_below_top c.set) (idx_tree_lt p digest) in
+    let none : at.tree ≡ 0 = layer_place-tree p (idx_tree p digest) (idx_leaf p digest) e ∙ div-eq_of_lt small in
+    ap (signed_given c sk start bytes) (top_layer c.set)
+    ∙ layer_root-right c sk start bytes are e last
+    ∙ ap (λ (k : ℕ). root (xmss_tree p (sk_seed sk) (pk_seed (public_of sk)) e k)) none
+
+-- the same, with the set apart from the key's
+key_root_at : (sk : Key) (set : ParamSet) → sk.set ≡ set → IsGeneratedKey sk
+    → root (xmss_tree (params set) (sk_seed sk) (pk_seed (public_of sk)) ((params set).d - 1) 0) ≡ pk_root (public_of sk)
+unfolding IsGeneratedKey top_root
+key_root_at sk set same gen =
+    sym (subst (λ (s : ParamSet). pk_root (public_of sk) ≡ root (xmss_tree (params s) (sk_seed sk) (pk_seed (public_of sk)) ((params s).d - 1) 0)) same gen)
+
+top_signed : (c : Levels) (sk : Key) (start bytes : List ℕ) → sk.set ≡ c.set → IsGeneratedKey sk → AreAnswers c sk start bytes
+    → signed_given c sk start bytes (params_of c).d ≡ pk_root (public_of sk)
+top_signed c sk start bytes same gen are = top_given_root c sk start bytes are ∙ key_root_at sk c.set same gen
+
 -- they fit together
-pub answers_fit : (c : Levels) (sk : Key) (start bytes : List ℕ) → AreAnswers c sk start bytes → FitTogether c sk start bytes
-answers_fit c sk start bytes are =
+pub answers_fit : (c : Levels) (sk : Key) (start bytes : List ℕ) → sk.set ≡ c.set → IsGeneratedKey sk → AreAnswers c sk start bytes → FitTogether c sk start bytes
+answers_fit c sk start bytes same gen are =
     let p = params_of c in
     let secret = sk_seed sk in
     let public = pk_seed (public_of sk) in
@@ -235,4 +263,5 @@ answers_fit c sk start bytes are =
           ∙ xmss_pk_from_sig-xmss_sig c.set secret public at (signed_of c sk start l) (layer_place-pair p (idx_tree p digest) (idx_leaf p digest) l (leaf_below p digest))
           ∙ ap (λ (k : ℕ). root (xmss_tree p secret public k at.tree)) (layer_place-layer p (idx_tree p digest) (idx_leaf p digest) l)
           ∙ sym (layer_root-right c sk start bytes are l lt);
+      top = top_signed c sk start bytes same gen are;
     }

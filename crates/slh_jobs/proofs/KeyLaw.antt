@@ -1,9 +1,8 @@
 -- Where all answers of key generation are right, each node has its tag, and the root is the key's.
 use Rattle.std.proofs.Common.{◌≡◌, ℕ, ◌+◌, ◌-◌, ◌<◌, List, ◌++◌, length, take, drop, replicate, refl, ap, sym, ◌∙◌, arith}
 use Rattle.std.proofs.lemmas.List.{append_assoc, drop_at, take_all}
-use Rattle.slh_params.specs.Bits.{to_byte}
 use Rattle.slh_params.proofs.Bounds.{n_high}
-use Rattle.slh_hash.proofs.Lengths.{length-PRF_msg}
+use Rattle.slh_hash.proofs.Lengths.{length-cut_hmac}
 use Rattle.slh_tree.specs.Tree.{node}
 use Rattle.slh_tree.proofs.Authentic.{node_width}
 use Rattle.slh_few.specs.Trees.{xmss_tree-lawful}
@@ -11,6 +10,7 @@ use Rattle.slh_few.proofs.XmssLaw.{take_front}
 use Rattle.slh_core.specs.Keys.{top_root}
 use Rattle.slh_jobs.specs.KeyJobs.{key_shape, key_jobs, key_tree, key_tag, key_root, AreKeyAnswers, AreTagged}
 use Rattle.slh_jobs.specs.Jobs.{params_of}
+use Rattle.slh_jobs.specs.Tags.{OfKeyAnswer, text}
 use Rattle.slh_jobs.specs.Ranges.{below, node_given, tag_given}
 use Rattle.slh_jobs.specs.declared.levels.Levels.{Levels}
 use Rattle.slh_jobs.proofs.Right.{root-nodes}
@@ -37,7 +37,7 @@ keys_tagged c sk prf pk bytes are n lt =
     let read : tag_given (key_shape c) bytes n ≡ key_tag c sk prf pk n x =
     ap (λ (xs : List ℕ). take p.n (drop p.n xs)) (are n lt)
     ∙ ap (take p.n) (drop_at x (key_tag c sk prf pk n x) p.n (key_node_len c sk pk n))
-    ∙ take_all p.n (key_tag c sk prf pk n x) (let size = length-PRF_msg p prf x (to_byte c.xmss 1 ++ to_byte n 4 ++ sk ++ pk) (n_high c.set) in omega (arith, size)) in
+    ∙ take_all p.n (key_tag c sk prf pk n x) (let size = length-cut_hmac p (prf ++ sk ++ pk) (text p (OfKeyAnswer c.xmss n x)) (n_high c.set) in omega (arith, size)) in
     ap (key_tag c sk prf pk n) (key_nodes c sk prf pk bytes are n lt) ∙ sym read
 
 -- the root

@@ -5,3 +5,5 @@ pub mod Right
 pub mod Assembled
 pub mod KeyLaw
 pub mod Begun
+pub mod Texts
+pub mod Verified

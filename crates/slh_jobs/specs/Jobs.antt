@@ -1,9 +1,9 @@
 -- The jobs of a signature, the ranges of its trees, and their answers: ours.
-use Rattle.std.specs.Prelude.{◌≡◌, ℕ, ◌+◌, ◌-◌, ◌*◌, ◌/◌, ◌%◌, ◌^◌, ◌<◌, nat_lt, if◌then◌else◌, List, ◌++◌, take, drop}
-use Rattle.slh_params.specs.Bits.{to_byte}
+use Rattle.std.specs.Prelude.{◌≡◌, ℕ, ◌+◌, ◌-◌, ◌*◌, ◌/◌, ◌%◌, ◌^◌, ◌<◌, nat_lt, if◌then◌else◌, List, [], ◌∷◌, ◌++◌, take, drop}
 use Rattle.slh_params.specs.Params.{Params, m}
 use Rattle.slh_params.specs.ParamSet.{params}
-use Rattle.slh_hash.specs.Keyed.{PRF_msg}
+use Rattle.slh_hash.specs.Stream.{IsKeyed}
+use Rattle.slh_hash.specs.declared.category_hmac.CategoryHmac.{CategoryHmac}
 use Rattle.slh_tree.specs.Tree.{MerkleTree}
 use Rattle.slh_few.specs.Fors.{fors_tree, fors_index, fors_secret}
 use Rattle.slh_few.specs.Hypertree.{layer_place}
@@ -13,6 +13,7 @@ use Rattle.slh_few.specs.declared.place.Place.{Place}
 use Rattle.slh_core.specs.Cut.{md, idx_tree, idx_leaf}
 use Rattle.slh_core.specs.Keys.{Key, sk_seed, sk_prf, public_of, pk_seed}
 use Rattle.slh_jobs.specs.Ranges.{answer_len, range_answer}
+use Rattle.slh_jobs.specs.Tags.{OfAnswer, six, tag}
 use Rattle.slh_jobs.specs.declared.levels.Levels.{Levels}
 use Rattle.slh_jobs.specs.declared.shape.Shape.{Shape}
 
@@ -55,23 +56,23 @@ len_of c n = if nat_lt n (xmss_jobs c) then answer_len (xmss_shape c) else answe
 abbrev pub answers_len : Levels → ℕ
 answers_len c = xmss_jobs c * answer_len (xmss_shape c) + fors_jobs c * answer_len (fors_shape c)
 
--- Throughout, `start` is R and the digest of a message, end to end.
-abbrev pub start_len : Params → ℕ
-start_len p = p.n + m p
-
+-- Throughout, `start` is R, the digest of a message and their tag, end to end.
 abbrev pub r_in : Params → List ℕ → List ℕ
 r_in p start = take p.n start
 
 abbrev pub digest_in : Params → List ℕ → List ℕ
-digest_in p start = drop p.n start
+digest_in p start = take (m p) (drop p.n start)
 
--- The tag of the node that job n answers: PRF_msg under SK.prf (FIPS 205, section 11.2), with R as its randomizer, of
--- the digest, the levels, the number and the node.
+-- the tag of the node that job n answers
 abbrev pub tag_of : Levels → Key → List ℕ → ℕ → List ℕ → List ℕ
 tag_of c sk start n node =
-    let p = params_of c in
-    PRF_msg p (sk_prf sk) (r_in p start)
-    (digest_in p start ++ to_byte c.xmss 1 ++ to_byte c.fors 1 ++ to_byte n 4 ++ node)
+    tag (params_of c) (sk_seed sk) (sk_prf sk) (pk_seed (public_of sk)) (OfAnswer start c.xmss c.fors n node)
+
+-- the HMAC has the key of the tags, and of the text of an answer's tag what stands before the number
+abbrev pub HoldsFront : CategoryHmac → Levels → Key → List ℕ → Type 0
+HoldsFront hmac c sk start =
+    IsKeyed hmac (params_of c) (sk_prf sk ++ sk_seed sk ++ pk_seed (public_of sk))
+    ((2 ∷ six (params_of c)) ++ start ++ (c.xmss ∷ c.fors ∷ []))
 
 -- the place that signs on layer l, the XMSS tree there, and what is kept of that key's chains
 abbrev pub place_in : Levels → List ℕ → ℕ → Place

@@ -6,7 +6,7 @@ use Rattle.slh_few.specs.KeptChains.{wots_sig_from}
 use Rattle.slh_few.specs.Parts.{end_to_end}
 use Rattle.slh_few.specs.Xmss.{xmss_pk_from_sig}
 use Rattle.slh_core.specs.Cut.{md, idx_tree, idx_leaf}
-use Rattle.slh_core.specs.Keys.{Key, public_of, pk_seed}
+use Rattle.slh_core.specs.Keys.{Key, public_of, pk_seed, pk_root}
 use Rattle.slh_jobs.specs.Ranges.{below, answer_len, node_given, tag_given, rest_given, top_given, auth_given}
 use Rattle.slh_jobs.specs.Jobs.{params_of, xmss_shape, fors_shape, xmss_jobs, fors_jobs, r_in, digest_in, tag_of, place_in, layer_tree, fors_tree_of, index_in}
 use Rattle.slh_jobs.specs.declared.levels.Levels.{Levels}
@@ -30,7 +30,7 @@ pk_fors_given c sk start bytes =
     compressed_roots p (pk_seed (public_of sk)) (idx_tree p (digest_in p start)) (idx_leaf p (digest_in p start))
     (fors_root_given c sk start bytes)
 
--- what layer l signs: the FORS public key, and above layer 0 the root of the tree below
+-- what layer l signs: the FORS public key, and above layer 0 the root of the tree below; at d the root of the top tree
 abbrev pub signed_given : Levels → Key → List ℕ → List ℕ → ℕ → List ℕ
 signed_given c sk start bytes zero = pk_fors_given c sk start bytes
 signed_given c sk start bytes (suc l) = layer_root c sk start bytes l
@@ -60,8 +60,8 @@ signature_given c sk start bytes =
     r_in p start
     ++ (end_to_end (fors_part_given c sk start bytes) p.k ++ end_to_end (layer_part_given c sk start bytes) p.d)
 
--- The answers fit together: each node has its tag, and in each tree the root that the ranges give is the root that the
--- signing leaf's key and path give.
+-- The answers fit together: each node has its tag, in each tree the root that the ranges give is the root that the
+-- signing leaf's key and path give, and that of the top tree is PK.root.
 pub record FitTogether (c : Levels) (sk : Key) (start bytes : List ℕ) : Type 0 where
   pub xmss_tags : (n : ℕ) → n < xmss_jobs c → tag_of c sk start n (node_given (xmss_shape c) bytes n) ≡ tag_given (xmss_shape c) bytes n
   pub fors_tags : (n : ℕ) → n < fors_jobs c → tag_of c sk start (xmss_jobs c + n) (node_given (fors_shape c) (fors_answers c bytes) n) ≡ tag_given (fors_shape c) (fors_answers c bytes) n
@@ -71,3 +71,4 @@ pub record FitTogether (c : Levels) (sk : Key) (start bytes : List ℕ) : Type 0
   pub layers : (l : ℕ) → l < (params_of c).d
       → xmss_pk_from_sig (params_of c) (pk_seed (public_of sk)) (place_in c start l) (signed_given c sk start bytes l) (layer_part_given c sk start bytes l)
       ≡ layer_root c sk start bytes l
+  pub top : signed_given c sk start bytes (params_of c).d ≡ pk_root (public_of sk)

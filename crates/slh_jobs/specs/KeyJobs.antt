@@ -1,11 +1,12 @@
 -- The jobs of key generation, the ranges of the XMSS tree of the top layer, and their answers: ours.
-use Rattle.std.specs.Prelude.{◌≡◌, ℕ, ◌-◌, ◌^◌, ◌<◌, List, ◌++◌}
-use Rattle.slh_params.specs.Bits.{to_byte}
-use Rattle.slh_hash.specs.Keyed.{PRF_msg}
+use Rattle.std.specs.Prelude.{◌≡◌, ℕ, ◌-◌, ◌^◌, ◌<◌, List, [], ◌∷◌, ◌++◌}
+use Rattle.slh_hash.specs.Stream.{IsKeyed}
+use Rattle.slh_hash.specs.declared.category_hmac.CategoryHmac.{CategoryHmac}
 use Rattle.slh_tree.specs.Tree.{MerkleTree, node, root}
 use Rattle.slh_few.specs.Xmss.{xmss_tree}
 use Rattle.slh_jobs.specs.Ranges.{below, given, node_given, tag_given, top_given}
 use Rattle.slh_jobs.specs.Jobs.{params_of}
+use Rattle.slh_jobs.specs.Tags.{OfKeyAnswer, six, tag}
 use Rattle.slh_jobs.specs.declared.levels.Levels.{Levels}
 use Rattle.slh_jobs.specs.declared.shape.Shape.{Shape}
 
@@ -20,10 +21,13 @@ key_jobs c = 2 ^ c.xmss
 abbrev pub key_tree : Levels → List ℕ → List ℕ → MerkleTree
 key_tree c sk pk = xmss_tree (params_of c) sk pk ((params_of c).d - 1) 0
 
--- The tag of the node that job n answers: PRF_msg under SK.prf (FIPS 205, section 11.2), with the node as its
--- randomizer, of the levels, the number, SK.seed and PK.seed.
+-- the tag of the node that job n answers
 abbrev pub key_tag : Levels → List ℕ → List ℕ → List ℕ → ℕ → List ℕ → List ℕ
-key_tag c sk prf pk n node = PRF_msg (params_of c) prf node (to_byte c.xmss 1 ++ to_byte n 4 ++ sk ++ pk)
+key_tag c sk prf pk n node = tag (params_of c) sk prf pk (OfKeyAnswer c.xmss n node)
+
+-- the HMAC has the key of the tags, and of the text of an answer's tag what stands before the number
+abbrev pub HoldsKeyFront : CategoryHmac → Levels → List ℕ → List ℕ → List ℕ → Type 0
+HoldsKeyFront hmac c sk prf pk = IsKeyed hmac (params_of c) (prf ++ sk ++ pk) ((3 ∷ six (params_of c)) ++ (c.xmss ∷ []))
 
 -- the answer of job n
 abbrev pub key_answer : Levels → List ℕ → List ℕ → List ℕ → ℕ → List ℕ

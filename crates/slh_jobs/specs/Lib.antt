@@ -1,10 +1,11 @@
 pub mod Ranges
 pub mod Tops
+pub mod Tags
 pub mod Jobs
 pub mod Starts
 pub mod Joined
 pub mod KeyJobs
-pub mod JoinFault
+pub mod JobFault
 -- cited by public clauses
 pub use Rattle.slh_params.specs.Params
 pub use Rattle.slh_params.specs.ParamSet

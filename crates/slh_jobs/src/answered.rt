@@ -1,19 +1,21 @@
 //! What the answers of all jobs give, whatever bytes they are: the roots of the trees, and the parts of a signature.
-ghost use Rattle.std.specs.Prelude.{◌≡◌, ◌+◌, ◌*◌, ◌/◌, ◌^◌, ◌<◌, ◌≤◌, ◌++◌, length, take};
+ghost use Rattle.std.specs.Prelude.{◌≡◌, ◌+◌, ◌*◌, ◌/◌, ◌^◌, ◌<◌, ◌≤◌, ◌++◌, ◌↔◌, IsSome, IfSome, length, take};
 ghost use Rattle.slh_params.specs.ParamSet.{params};
 ghost use Rattle.slh_few.specs.Fors.{fors_part_len};
 ghost use Rattle.slh_few.specs.KeptChains.{wots_sig_from};
 ghost use Rattle.slh_few.specs.Xmss.{xmss_sig_len};
 ghost use Rattle.slh_core.specs.Keys.{public_of, pk_seed};
 ghost use Rattle.slh_jobs.specs.Ranges.{below, answer_len, rest_given, auth_given};
-ghost use Rattle.slh_jobs.specs.Jobs.{xmss_shape, fors_shape, xmss_jobs, fors_jobs, answers_len, start_len, place_in, layer_tree};
+ghost use Rattle.slh_jobs.specs.Jobs.{xmss_shape, fors_shape, xmss_jobs, fors_jobs, answers_len, place_in, layer_tree};
+ghost use Rattle.slh_jobs.specs.Starts.{IsStart};
+ghost use Rattle.slh_jobs.specs.Tags.{start_len};
 ghost use Rattle.slh_jobs.specs.Joined.{fors_answers, layer_root, fors_root_given, fors_part_given};
 
 use crate::given::Given;
 use crate::jobs::ranges;
 use crate::levels::Levels;
 use crate::signing::Signing;
-use crate::top_tree::{put_auth, top_root};
+use crate::top_tree::put_auth;
 use slh_core::SecretKey;
 use slh_few::{ForsTree, XmssTree, fors_part_len, wots_sig_len, wots_sign_kept, xmss_sig_len};
 use slh_params::Node;
@@ -32,21 +34,24 @@ pub(crate) struct Answered<'a> {
 }
 
 impl<'a> Answered<'a> {
-    /// The answers of the signature by this key that `start` begins.
+    /// The answers of the signature by this key that `start` begins. `None` where `start` does not have its tag under
+    /// this key.
     pub(crate) fn new(
         levels: &Levels,
         sk: &'a SecretKey,
         start: &'a [u8],
         answers: &'a [u8],
-    ) -> Answered<'a>
+    ) -> Option<Answered<'a>>
         requires set { sk.now.set ≡ levels.now.set }
         requires start { length start.now ≡ start_len (params levels.now.set) }
         requires answers { length answers.now ≡ answers_len levels.now }
-        ensures levels { result.signing.levels ≡ levels.now }
-        ensures sk { result.signing.sk.now ≡ sk.now }
-        ensures start { result.signing.start.now ≡ start.now }
-        ensures answers { result.xmss.bytes.now ≡ answers.now }
+        ensures some { IsSome result ↔ IsStart sk.now start.now }
+        ensures levels { IfSome result (λ answered. answered.signing.levels ≡ levels.now) }
+        ensures sk { IfSome result (λ answered. answered.signing.sk.now ≡ sk.now) }
+        ensures start { IfSome result (λ answered. answered.signing.start.now ≡ start.now) }
+        ensures answers { IfSome result (λ answered. answered.xmss.bytes.now ≡ answers.now) }
     {
+        let signing = Signing::new(levels, sk, start)?;
         let xmss = Given {
             shape: levels.xmss_shape(),
             bytes: answers,
@@ -56,11 +61,11 @@ impl<'a> Answered<'a> {
             shape: levels.fors_shape(),
             bytes: &answers[xmss_len..],
         };
-        Answered {
-            signing: Signing::new(levels, sk, start),
+        Some(Answered {
+            signing,
             xmss,
             fors,
-        }
+        })
     }
 
     /// The first job of the tree of a layer.
@@ -83,34 +88,14 @@ impl<'a> Answered<'a> {
         tree_no * ranges(self.signing.levels.fors)
     }
 
-    /// The root that the ranges of the tree of a layer give.
-    pub(crate) fn layer_root(&self, layer: u8) -> Node
-        requires { layer < (params self.now.signing.levels.set).d }
-        ensures value { result.items ≡ layer_root self.now.signing.levels self.now.signing.sk.now self.now.signing.start.now self.now.xmss.bytes.now layer }
-        ensures len { length result.items ≡ (params self.now.signing.levels.set).n }
-    {
-        let at = self.signing.place(layer);
-        let tree = XmssTree::new(&self.signing.seeds(), layer, at.tree);
-        top_root(&tree, &self.xmss, self.first_of_layer(layer))
-    }
-
-    /// The root that the ranges of a FORS tree give.
-    pub(crate) fn fors_root(&self, tree_no: u32) -> Node
-        requires { tree_no < (params self.now.signing.levels.set).k }
-        ensures value { result.items ≡ fors_root_given self.now.signing.levels self.now.signing.sk.now self.now.signing.start.now self.now.xmss.bytes.now tree_no }
-        ensures len { length result.items ≡ (params self.now.signing.levels.set).n }
-    {
-        let signing = &self.signing;
-        let seeds = signing.seeds();
-        let tree = ForsTree::new(&seeds, signing.idx_tree, signing.idx_leaf, tree_no);
-        top_root(&tree, &self.fors, self.first_of_fors(tree_no))
-    }
-
     /// Writes what a FORS tree adds to the signature: the secret of the leaf that the digest asks for, and its path.
-    pub(crate) fn fors_part(&self, tree_no: u32, out: &mut [u8])
+    /// Returns the root that the tree's ranges give.
+    pub(crate) fn fors_part(&self, tree_no: u32, out: &mut [u8]) -> Node
         requires tree { tree_no < (params self.now.signing.levels.set).k }
         requires out { length out.old ≡ fors_part_len (params self.now.signing.levels.set) }
-        ensures { out.new ≡ fors_part_given self.now.signing.levels self.now.signing.sk.now self.now.signing.start.now self.now.xmss.bytes.now tree_no }
+        ensures part { out.new ≡ fors_part_given self.now.signing.levels self.now.signing.sk.now self.now.signing.start.now self.now.xmss.bytes.now tree_no }
+        ensures root { result.items ≡ fors_root_given self.now.signing.levels self.now.signing.sk.now self.now.signing.start.now self.now.xmss.bytes.now tree_no }
+        ensures len { length result.items ≡ (params self.now.signing.levels.set).n }
     {
         let signing = &self.signing;
         let seeds = signing.seeds();
@@ -120,20 +105,22 @@ impl<'a> Answered<'a> {
         let (secret, auth) = out.split_at_mut(self.fors.shape.n);
         secret.copy_from_slice(self.fors.rest((first + range) as usize));
         let tree = ForsTree::new(&seeds, signing.idx_tree, signing.idx_leaf, tree_no);
-        put_auth(&tree, &self.fors, first, leaf, auth);
+        put_auth(&tree, &self.fors, first, leaf, auth)
     }
 
     /// Writes what a layer adds to the signature where it signs `msg`: the WOTS+ signature from the values of the key's
-    /// chains, and the path of the leaf.
-    pub(crate) fn layer_part(&self, layer: u8, msg: &Node, out: &mut [u8])
+    /// chains, and the path of the leaf. Returns the root that the ranges of the layer's tree give.
+    pub(crate) fn layer_part(&self, layer: u8, msg: &Node, out: &mut [u8]) -> Node
         requires layer { layer < (params self.now.signing.levels.set).d }
         requires msg { length msg.now.items ≡ (params self.now.signing.levels.set).n }
         requires out { length out.old ≡ xmss_sig_len (params self.now.signing.levels.set) }
-        ensures { let c = self.now.signing.levels in let sk = self.now.signing.sk.now in
+        ensures part { let c = self.now.signing.levels in let sk = self.now.signing.sk.now in
             let at = place_in c self.now.signing.start.now layer in let s = xmss_shape c in
             let first = layer * 2 ^ c.xmss in
             out.new ≡ wots_sig_from (params c.set) (pk_seed (public_of sk)) at (rest_given s self.now.xmss.bytes.now (first + at.pair / 2 ^ below s)) msg.now.items
             ++ auth_given (layer_tree c sk self.now.signing.start.now layer) s self.now.xmss.bytes.now first at.pair }
+        ensures root { result.items ≡ layer_root self.now.signing.levels self.now.signing.sk.now self.now.signing.start.now self.now.xmss.bytes.now layer }
+        ensures len { length result.items ≡ (params self.now.signing.levels.set).n }
     {
         let seeds = self.signing.seeds();
         let at = self.signing.place(layer);
@@ -143,6 +130,6 @@ impl<'a> Answered<'a> {
         let kept = self.xmss.rest((first + range) as usize);
         wots_sign_kept(&seeds, at, msg, kept, wots);
         let tree = XmssTree::new(&seeds, layer, at.tree);
-        put_auth(&tree, &self.xmss, first, at.pair, auth);
+        put_auth(&tree, &self.xmss, first, at.pair, auth)
     }
 }

@@ -1,15 +1,19 @@
 //! The answers of the jobs of a signature.
-ghost use Rattle.std.specs.Prelude.{◌≡◌, ◌+◌, ◌*◌, ◌/◌, ◌^◌, ◌<◌, ◌≤◌, ◌++◌, length};
+ghost use Rattle.std.specs.Prelude.{◌≡◌, ◌+◌, ◌*◌, ◌/◌, ◌^◌, ◌<◌, ◌≤◌, ◌++◌, ◌↔◌, IsOk, OnOk, OnErr, Err, length};
 ghost use Rattle.slh_params.specs.ParamSet.{params};
 ghost use Rattle.slh_tree.specs.Tree.{node};
 ghost use Rattle.slh_tree.specs.Climb.{path_below};
 ghost use Rattle.slh_jobs.specs.Ranges.{below, own_part};
-ghost use Rattle.slh_jobs.specs.Jobs.{xmss_shape, fors_shape, jobs, len_of, start_len, layer_tree, place_in, chains_of, fors_tree_of, index_in, secret_of, layer_answer, fors_answer, answer_of, tag_of};
+ghost use Rattle.slh_jobs.specs.Jobs.{xmss_shape, fors_shape, jobs, len_of, layer_tree, place_in, chains_of, fors_tree_of, index_in, secret_of, layer_answer, fors_answer, answer_of, tag_of};
+ghost use Rattle.slh_jobs.specs.Starts.{IsStart};
+ghost use Rattle.slh_jobs.specs.Tags.{start_len};
+ghost use Rattle.slh_jobs.specs.declared.fault.JobFault.TheVariants.{BadStart};
 
+use crate::fault::JobFault;
 use crate::jobs::ranges;
 use crate::levels::Levels;
 use crate::signing::Signing;
-use crate::tag::tag_of;
+use crate::tag::{answer_tag, keyed_for_answers};
 use slh_core::SecretKey;
 use slh_few::{fors_range, fors_secret, put_path, xmss_range, xmss_range_keeping};
 use slh_params::{Node, copy_of};
@@ -152,7 +156,8 @@ impl<'a> Signing<'a> {
     {
         let (first, second) = front.split_at_mut(self.levels.set.n());
         first.copy_from_slice(node);
-        second.copy_from_slice(&tag_of(&self.levels, self.sk, self.start, job, node));
+        let keyed = keyed_for_answers(&self.levels, self.sk, self.start);
+        second.copy_from_slice(&answer_tag(&keyed, job, node));
     }
 
     /// Writes the answer of a range of the XMSS tree of a layer.
@@ -180,25 +185,47 @@ impl<'a> Signing<'a> {
         let node = self.fors_own(tree_no, range, own);
         self.put_front(job, &node, front);
     }
+
+    /// Writes the answer of a job.
+    fn put_answer(&self, job: u32, answer: &mut [u8])
+        requires job { job < jobs self.now.levels }
+        requires answer { length answer.old ≡ len_of self.now.levels job }
+        ensures { answer.new ≡ answer_of self.now.levels self.now.sk.now self.now.start.now job }
+    {
+        let xmss_jobs = self.levels.xmss_jobs();
+        if job < xmss_jobs {
+            let each = ranges(self.levels.xmss);
+            self.put_layer_answer((job / each) as u8, job % each, answer);
+        } else {
+            let rest = job - xmss_jobs;
+            let each = ranges(self.levels.fors);
+            self.put_fors_answer(rest / each, rest % each, answer);
+        }
+    }
 }
 
 /// Writes the answer of a job of the signature that `start` begins, `answer_len` bytes. It is a function of its
-/// arguments alone: any thread, in any order.
-pub fn sign_job(levels: &Levels, sk: &SecretKey, start: &[u8], job: u32, answer: &mut [u8])
+/// arguments alone: any thread, in any order. Refused, with nothing written, as `BadStart` where `start` does not have
+/// its tag under this key, which is judged before the job.
+pub fn sign_job(
+    levels: &Levels,
+    sk: &SecretKey,
+    start: &[u8],
+    job: u32,
+    answer: &mut [u8],
+) -> Result<(), JobFault>
     requires set { sk.now.set ≡ levels.now.set }
     requires start { length start.now ≡ start_len (params levels.now.set) }
     requires job { job < jobs levels.now }
     requires answer { length answer.old ≡ len_of levels.now job }
-    ensures { answer.new ≡ answer_of levels.now sk.now start.now job }
+    ensures start { (result ≡ Err BadStart) ↔ (IsStart sk.now start.now → ⊥) }
+    ensures accepted { IsOk result ↔ IsStart sk.now start.now }
+    ensures answer { OnOk result (answer.new ≡ answer_of levels.now sk.now start.now job) }
+    ensures refused { OnErr result (answer.new ≡ answer.old) }
 {
-    let signing = Signing::new(levels, sk, start);
-    let xmss_jobs = levels.xmss_jobs();
-    if job < xmss_jobs {
-        let each = ranges(levels.xmss);
-        signing.put_layer_answer((job / each) as u8, job % each, answer);
-    } else {
-        let rest = job - xmss_jobs;
-        let each = ranges(levels.fors);
-        signing.put_fors_answer(rest / each, rest % each, answer);
-    }
+    let Some(signing) = Signing::new(levels, sk, start) else {
+        return Err(JobFault::BadStart);
+    };
+    signing.put_answer(job, answer);
+    Ok(())
 }

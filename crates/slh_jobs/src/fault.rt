@@ -1,28 +1,32 @@
-//! Why answers are not joined.
+//! Why jobs are refused.
 ghost use Rattle.std.specs.Prelude.{◌≡◌};
-ghost use Rattle.slh_jobs.specs.JoinFault.{fault_number, fault_name};
+ghost use Rattle.slh_jobs.specs.JobFault.{fault_number, fault_name};
 
 use thiserror::Error;
 
-/// Why answers are not joined.
+/// Why a job is not done, or answers are not joined.
 #[derive(Clone, Copy, PartialEq, Eq, Debug, Error)]
-pub enum JoinFault {
-    /// They have another length than those of all jobs.
+pub enum JobFault {
+    /// The answers have another length than those of all jobs.
     #[error("the answers have another length than those of all jobs")]
     BadAnswersLength,
-    /// They don't fit together.
+    /// The answers don't fit together.
     #[error("the answers don't fit together")]
     AnswersDisagree,
+    /// The start does not have its tag under this key.
+    #[error("the start was not made under this key, or was changed")]
+    BadStart,
 }
 
-impl JoinFault {
+impl JobFault {
     /// The number of the refusal.
     pub fn number(&self) -> u8
         ensures { result ≡ fault_number self.now }
     {
         match self {
-            JoinFault::BadAnswersLength => 20,
-            JoinFault::AnswersDisagree => 25,
+            JobFault::BadAnswersLength => 20,
+            JobFault::AnswersDisagree => 25,
+            JobFault::BadStart => 28,
         }
     }
 
@@ -31,8 +35,9 @@ impl JoinFault {
         ensures { result.now ≡ fault_name self.now }
     {
         match self {
-            JoinFault::BadAnswersLength => "BadAnswersLength",
-            JoinFault::AnswersDisagree => "AnswersDisagree",
+            JobFault::BadAnswersLength => "BadAnswersLength",
+            JobFault::AnswersDisagree => "AnswersDisagree",
+            JobFault::BadStart => "BadStart",
         }
     }
 }

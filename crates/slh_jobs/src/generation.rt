@@ -5,14 +5,14 @@ ghost use Rattle.slh_tree.specs.Tree.{node};
 ghost use Rattle.slh_core.specs.Keys.{generated_key, IsGeneratedKey};
 ghost use Rattle.slh_jobs.specs.Ranges.{IsShape, below, answer_len};
 ghost use Rattle.slh_jobs.specs.KeyJobs.{key_shape, key_jobs, key_tree, key_answer, key_root, AreKeyAnswers, AreTagged};
-ghost use Rattle.slh_jobs.specs.declared.fault.JoinFault.TheVariants.{BadAnswersLength};
+ghost use Rattle.slh_jobs.specs.declared.fault.JobFault.TheVariants.{BadAnswersLength};
 
-use crate::fault::JoinFault;
+use crate::fault::JobFault;
 use crate::given::Given;
 use crate::jobs::ranges;
 use crate::levels::Levels;
 use crate::shape::Shape;
-use crate::tag::key_tag;
+use crate::tag::{answer_tag, are_same, keyed_for_key};
 use crate::top_tree::top_root;
 use slh_core::SecretKey;
 use slh_few::{Seeds, XmssTree, xmss_range};
@@ -75,6 +75,9 @@ pub fn keygen_job(
     job: u32,
     answer: &mut [u8],
 )
+    requires sk_seed { length sk_seed.now ≡ (params levels.now.set).n }
+    requires sk_prf { length sk_prf.now ≡ (params levels.now.set).n }
+    requires pk_seed { length pk_seed.now ≡ (params levels.now.set).n }
     requires job { job < key_jobs levels.now }
     requires answer { length answer.old ≡ 2 * (params levels.now.set).n }
     ensures { answer.new ≡ key_answer levels.now sk_seed.now sk_prf.now pk_seed.now job }
@@ -82,19 +85,23 @@ pub fn keygen_job(
     let node = key_node(levels, sk_seed, pk_seed, job);
     let (first, second) = answer.split_at_mut(levels.set.n());
     first.copy_from_slice(&node);
-    second.copy_from_slice(&key_tag(levels, sk_seed, sk_prf, pk_seed, job, &node));
+    let keyed = keyed_for_key(levels, sk_seed, sk_prf, pk_seed);
+    second.copy_from_slice(&answer_tag(&keyed, job, &node));
 }
 
 /// Whether each node has its tag.
 fn are_tagged(levels: &Levels, sk_seed: &[u8], sk_prf: &[u8], pk_seed: &[u8], given: &Given) -> bool
+    requires sk_seed { length sk_seed.now ≡ (params levels.now.set).n }
+    requires sk_prf { length sk_prf.now ≡ (params levels.now.set).n }
+    requires pk_seed { length pk_seed.now ≡ (params levels.now.set).n }
     requires shape { given.now.shape ≡ key_shape levels.now }
     requires there { length given.now.bytes.now ≡ key_jobs levels.now * answer_len (key_shape levels.now) }
     ensures { IsTrue result ↔ AreTagged levels.now sk_seed.now sk_prf.now pk_seed.now given.now.bytes.now }
 {
+    let keyed = keyed_for_key(levels, sk_seed, sk_prf, pk_seed);
     for job in 0..keygen_jobs(levels) {
-        let node = given.node(job as usize);
-        let tag = key_tag(levels, sk_seed, sk_prf, pk_seed, job, &node);
-        if tag.as_slice() != given.tag(job as usize).as_slice() {
+        let tag = answer_tag(&keyed, job, &given.node(job as usize));
+        if !are_same(&tag, &given.tag(job as usize)) {
             return false;
         }
     }
@@ -112,7 +119,7 @@ pub fn keygen_join(
     sk_prf: &[u8],
     pk_seed: &[u8],
     answers: &[u8],
-) -> Result<SecretKey, JoinFault>
+) -> Result<SecretKey, JobFault>
     requires sk_seed { length sk_seed.now ≡ (params levels.now.set).n }
     requires sk_prf { length sk_prf.now ≡ (params levels.now.set).n }
     requires pk_seed { length pk_seed.now ≡ (params levels.now.set).n }
@@ -133,14 +140,14 @@ pub fn keygen_join(
 {
     let shape = key_shape(levels);
     if answers.len() != keygen_jobs(levels) as usize * shape.answer_len() {
-        return Err(JoinFault::BadAnswersLength);
+        return Err(JobFault::BadAnswersLength);
     }
     let given = Given {
         shape,
         bytes: answers,
     };
     if !are_tagged(levels, sk_seed, sk_prf, pk_seed, &given) {
-        return Err(JoinFault::AnswersDisagree);
+        return Err(JobFault::AnswersDisagree);
     }
     let set = levels.set;
     let seeds = Seeds {

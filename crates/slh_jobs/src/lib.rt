@@ -3,9 +3,9 @@
 //!
 //! The trees of a signature are cut into ranges of one size, each of which is a job. `sign_start` makes R and the
 //! digest of the message; `sign_job` writes the answer of one job, in any order and in any thread; `sign_join` makes
-//! the signature of the answers of all jobs, put end to end. Answers that don't fit together are refused. The layout of
-//! an answer may be another in the next version of this library. An answer holds values of one-time keys: it is to be
-//! kept as the secret key is.
+//! the signature of the answers of all jobs, put end to end. A start that was not made under the key is refused, and so
+//! are answers that don't fit together. The layout of an answer may be another in the next version of this library. An
+//! answer holds values of one-time keys: it is to be kept as the secret key is.
 #![tactic(auto, using(slh_params::proofs::Bounds::bounds))]
 
 mod answered;
@@ -15,6 +15,7 @@ mod generation;
 mod given;
 mod jobs;
 mod joining;
+mod judging;
 mod levels;
 mod shape;
 mod signing;
@@ -23,9 +24,10 @@ mod tag;
 mod top_tree;
 
 pub use answers::sign_job;
-pub use fault::JoinFault;
+pub use fault::JobFault;
 pub use generation::{key_answer_len, keygen_job, keygen_jobs, keygen_join};
 pub use jobs::{answer_len, answer_start, answers_len, sign_jobs};
 pub use joining::sign_join;
 pub use levels::Levels;
 pub use start::{sign_start, start_len};
+pub use tag::texts_differ;

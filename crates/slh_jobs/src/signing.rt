@@ -1,13 +1,16 @@
 //! What the jobs of one signature are made from.
-ghost use Rattle.std.specs.Prelude.{◌≡◌, ℕ, ◌^◌, ◌<◌, ◌≤◌, length, slice_index, slice_index_or};
+ghost use Rattle.std.specs.Prelude.{◌≡◌, ◌↔◌, ℕ, ◌^◌, ◌<◌, ◌≤◌, IsSome, IfSome, length, slice_index, slice_index_or};
 ghost use Rattle.slh_params.specs.Params.{m};
 ghost use Rattle.slh_params.specs.ParamSet.{params};
 ghost use Rattle.slh_few.specs.declared.place.Place.{Place};
 ghost use Rattle.slh_core.specs.Cut.{idx_tree as tree_of, idx_leaf as leaf_of};
 ghost use Rattle.slh_core.specs.Keys.{sk_seed, public_of, pk_seed};
-ghost use Rattle.slh_jobs.specs.Jobs.{start_len, digest_in, place_in, index_in};
+ghost use Rattle.slh_jobs.specs.Jobs.{digest_in, place_in, index_in};
+ghost use Rattle.slh_jobs.specs.Starts.{IsStart};
+ghost use Rattle.slh_jobs.specs.Tags.{start_len};
 
 use crate::levels::Levels;
+use crate::start::is_start;
 use slh_core::{SecretKey, cut_digest};
 use slh_few::{MOST_LAYERS, MOST_TREES, Place, Public, Seeds, fors_indices, layer_places};
 
@@ -32,8 +35,25 @@ pub(crate) struct Signing<'a> {
 }
 
 impl<'a> Signing<'a> {
-    /// What the jobs of the signature by this key are made from, of the digest that follows R in `start`.
-    pub(crate) fn new(levels: &Levels, sk: &'a SecretKey, start: &'a [u8]) -> Signing<'a>
+    /// What the jobs of the signature by this key are made from, of the digest that follows R in `start`. `None` where
+    /// `start` does not have its tag under this key.
+    pub(crate) fn new(levels: &Levels, sk: &'a SecretKey, start: &'a [u8]) -> Option<Signing<'a>>
+        requires set { sk.now.set ≡ levels.now.set }
+        requires start { length start.now ≡ start_len (params levels.now.set) }
+        ensures some { IsSome result ↔ IsStart sk.now start.now }
+        ensures levels { IfSome result (λ signing. signing.levels ≡ levels.now) }
+        ensures sk { IfSome result (λ signing. signing.sk.now ≡ sk.now) }
+        ensures start { IfSome result (λ signing. signing.start.now ≡ start.now) }
+    {
+        if is_start(sk, start) {
+            Some(Signing::of_start(levels, sk, start))
+        } else {
+            None
+        }
+    }
+
+    /// The same, of a start that was looked at.
+    fn of_start(levels: &Levels, sk: &'a SecretKey, start: &'a [u8]) -> Signing<'a>
         requires set { sk.now.set ≡ levels.now.set }
         requires start { length start.now ≡ start_len (params levels.now.set) }
         ensures levels { result.levels ≡ levels.now }
@@ -41,7 +61,7 @@ impl<'a> Signing<'a> {
         ensures start { result.start.now ≡ start.now }
     {
         let set = levels.set;
-        let digest = &start[set.n()..];
+        let digest = &start[set.n()..][..set.m()];
         let cut = cut_digest(set, digest);
         Signing {
             levels: *levels,

@@ -1,39 +1,70 @@
-//! The begin of a signature: R and the digest of the message.
-ghost use Rattle.std.specs.Prelude.{◌≡◌, ◌↔◌, ◌≤◌, IsOk, OnOk, OnErr, length};
+//! The begin of a signature: R, the digest of the message, and their tag.
+ghost use Rattle.std.specs.Prelude.{◌≡◌, ◌↔◌, ◌≤◌, IsTrue, IsOk, OnOk, OnErr, length};
 ghost use Rattle.slh_params.specs.ParamSet.{params};
 ghost use Rattle.slh_hash.specs.Keyed.{joined};
 ghost use Rattle.slh_core.specs.Keys.{public_of};
 ghost use Rattle.slh_core.specs.Messages.{message_in_form};
 ghost use Rattle.slh_core.specs.Randomizers.{HasLength};
-ghost use Rattle.slh_jobs.specs.Jobs.{start_len};
-ghost use Rattle.slh_jobs.specs.Starts.{start_by};
+ghost use Rattle.slh_jobs.specs.Starts.{begun_by, start_by, IsStart};
+ghost use Rattle.slh_jobs.specs.Tags.{begun_len, start_len};
 
+use crate::tag::{are_same, start_tag};
 use slh_core::signing_steps::{pre_hash_digest, pre_hash_head, pure_head, randomized_digest};
 use slh_core::{Form, Randomizer, SecretKey, SignFault};
-use slh_params::ParamSet;
+use slh_params::{ParamSet, node_of};
 
-/// The length of what `sign_start` writes, in bytes: n + m.
+/// The length of what `sign_start` writes, in bytes: 2n + m.
 pub fn start_len(set: ParamSet) -> usize
     ensures value { result ≡ start_len (params set) }
+    ensures small { result ≤ 186 }
+{
+    begun_len(set) + set.n()
+}
+
+/// The length of R and a digest.
+fn begun_len(set: ParamSet) -> usize
+    ensures value { result ≡ begun_len (params set) }
     ensures small { result ≤ 154 }
 {
     set.n() + set.m()
 }
 
-/// Writes R and the digest of the parts put end to end.
-fn start_parts(parts: &[&[u8]], sk: &SecretKey, randomizer: Randomizer, start: &mut [u8])
-    requires randomizer { HasLength randomizer (params sk.now.set).n }
-    requires start { length start.old ≡ start_len (params sk.now.set) }
-    ensures { start.new ≡ start_by sk.now (joined parts.now) randomizer.entry }
+/// Whether the bytes end with the tag of those before it.
+pub(crate) fn is_start(sk: &SecretKey, start: &[u8]) -> bool
+    requires { length start.now ≡ start_len (params sk.now.set) }
+    ensures { IsTrue result ↔ IsStart sk.now start.now }
 {
-    let (front, digest) = start.split_at_mut(sk.set().n());
+    let (begun, tag) = start.split_at(begun_len(sk.set()));
+    are_same(&start_tag(sk, begun), &node_of(tag))
+}
+
+/// Writes R and the digest of the parts put end to end.
+fn put_begun(parts: &[&[u8]], sk: &SecretKey, randomizer: Randomizer, begun: &mut [u8])
+    requires randomizer { HasLength randomizer (params sk.now.set).n }
+    requires begun { length begun.old ≡ begun_len (params sk.now.set) }
+    ensures { begun.new ≡ begun_by sk.now (joined parts.now) randomizer.entry }
+{
+    let (front, digest) = begun.split_at_mut(sk.set().n());
     let r = randomized_digest(parts, sk, randomizer, digest);
     front.copy_from_slice(&r);
 }
 
-/// Begins the signature of a message in a form, under a context (FIPS 205, Algorithms 22 and 23): writes R and the
-/// message's digest, `start_len` bytes, which all jobs of this signature are given. Both are parts of the signature or
-/// follow from it, and no secrets. Refused, with nothing written, where the context has over 255 bytes.
+/// Writes R and the digest of the parts put end to end, and their tag.
+fn start_parts(parts: &[&[u8]], sk: &SecretKey, randomizer: Randomizer, start: &mut [u8])
+    requires randomizer { HasLength randomizer (params sk.now.set).n }
+    requires start { length start.old ≡ start_len (params sk.now.set) }
+    ensures start { start.new ≡ start_by sk.now (joined parts.now) randomizer.entry }
+    ensures tagged { IsStart sk.now start.new }
+{
+    let (begun, tag) = start.split_at_mut(begun_len(sk.set()));
+    put_begun(parts, sk, randomizer, begun);
+    tag.copy_from_slice(&start_tag(sk, begun));
+}
+
+/// Begins the signature of a message in a form, under a context (FIPS 205, Algorithms 22 and 23): writes R, the
+/// message's digest and their tag under this key, `start_len` bytes, which all jobs of this signature are given. They
+/// are no secrets: R is a part of the signature, the digest follows from it, and of the tag nothing else is known. But
+/// what they say is what is signed. Refused, with nothing written, where the context has over 255 bytes.
 pub fn sign_start(
     form: Form,
     msg: &[u8],
@@ -46,6 +77,7 @@ pub fn sign_start(
     requires start { length start.old ≡ start_len (params sk.now.set) }
     ensures accepted { IsOk result ↔ (length ctx.now ≤ 255) }
     ensures start { OnOk result (start.new ≡ start_by sk.now (message_in_form form ctx.now msg.now) randomizer.entry) }
+    ensures tagged { OnOk result (IsStart sk.now start.new) }
     ensures refused { OnErr result (start.new ≡ start.old) }
 {
     match form {

@@ -1,40 +1,126 @@
-//! Tags of nodes, by which an answer is found that is another job's, another message's, or changed.
-ghost use Rattle.std.specs.Prelude.{◌≡◌, length};
+//! Tags, by which a start or an answer is found that was made under another key, for another set, message or job, or
+//! changed since.
+ghost use Rattle.std.specs.Prelude.{◌≡◌, ◌↔◌, ℕ, List, [], ◌∷◌, ◌++◌, ◌^◌, ◌<◌, IsTrue, length, take};
+ghost use Rattle.slh_params.specs.Bits.{to_byte};
+ghost use Rattle.slh_params.specs.Params.{Params};
 ghost use Rattle.slh_params.specs.ParamSet.{params};
-ghost use Rattle.slh_jobs.specs.Jobs.{start_len, tag_of};
-ghost use Rattle.slh_jobs.specs.KeyJobs.{key_tag};
+ghost use Rattle.slh_hash.specs.HashFunctions.{category_function};
+ghost use Rattle.slh_hash.specs.Keyed.{hmac};
+ghost use Rattle.slh_hash.specs.Stream.{IsKeyed};
+ghost use Rattle.slh_jobs.specs.Jobs.{HoldsFront};
+ghost use Rattle.slh_jobs.specs.KeyJobs.{HoldsKeyFront};
+ghost use Rattle.slh_jobs.specs.Starts.{start_tag};
+ghost use Rattle.slh_jobs.specs.Tags.{Tagged, IsSized, six, text};
 
 use crate::levels::Levels;
+use arrayvec::ArrayVec;
 use slh_core::SecretKey;
-use slh_hash::prf_msg;
-use slh_params::Node;
+use slh_hash::CategoryHmac;
+use slh_params::{Node, ParamSet};
 
-/// The tag of the node that a signing job answers.
-pub(crate) fn tag_of(levels: &Levels, sk: &SecretKey, start: &[u8], job: u32, node: &Node) -> Node
-    requires set { sk.now.set ≡ levels.now.set }
-    requires start { length start.now ≡ start_len (params levels.now.set) }
-    ensures value { result.items ≡ tag_of levels.now sk.now start.now job node.now.items }
-    ensures len { length result.items ≡ (params levels.now.set).n }
+/// What a text begins with, by what is tagged.
+const START: u8 = 1;
+
+const ANSWER: u8 = 2;
+
+const KEY_ANSWER: u8 = 3;
+
+/// A law: no two different things have one text, where their parts have the lengths that the kind and the record fix.
+pub fn texts_differ()
+    ensures { (p q : Params) (this other : Tagged) → IsSized p this → IsSized q other → text p this ≡ text q other
+        → (p ≡ q) × (this ≡ other) }
+{}
+
+/// HMAC under SK.prf ‖ SK.seed ‖ PK.seed, after the kind of what is tagged and the numbers of the set.
+fn keyed_for(set: ParamSet, sk_seed: &[u8], sk_prf: &[u8], pk_seed: &[u8], kind: u8) -> CategoryHmac
+    requires sk_seed { length sk_seed.now ≡ (params set).n }
+    requires sk_prf { length sk_prf.now ≡ (params set).n }
+    requires pk_seed { length pk_seed.now ≡ (params set).n }
+    ensures { IsKeyed result (params set) (sk_prf.now ++ sk_seed.now ++ pk_seed.now) (kind ∷ six (params set)) }
 {
-    let (r, digest) = start.split_at(levels.set.n());
-    let cut = [levels.xmss as u8, levels.fors as u8];
-    let number = job.to_be_bytes();
-    prf_msg(levels.set, sk.sk_prf(), r, &[digest, &cut, &number, node])
+    let mut key = ArrayVec::<u8, 96>::new();
+    let _ = key.try_extend_from_slice(sk_prf);
+    let _ = key.try_extend_from_slice(sk_seed);
+    let _ = key.try_extend_from_slice(pk_seed);
+    let mut keyed = CategoryHmac::new(set, key.as_slice());
+    keyed.update(&[
+        kind,
+        set.n() as u8,
+        set.lg_w() as u8,
+        set.hp() as u8,
+        set.d() as u8,
+        set.a() as u8,
+        set.k() as u8,
+    ]);
+    keyed
 }
 
-/// The tag of the node that a job of key generation answers.
-pub(crate) fn key_tag(
+/// The tag of R and a digest.
+pub(crate) fn start_tag(sk: &SecretKey, begun: &[u8]) -> Node
+    ensures value { result.items ≡ start_tag sk.now begun.now }
+    ensures len { length result.items ≡ (params sk.now.set).n }
+{
+    let mut keyed = keyed_for(sk.set(), sk.sk_seed(), sk.sk_prf(), sk.pk_seed(), START);
+    keyed.update(sk.pk_root());
+    keyed.update(begun);
+    keyed.finish()
+}
+
+/// The HMAC of the tags of a signature's answers, up to the number of the job.
+pub(crate) fn keyed_for_answers(levels: &Levels, sk: &SecretKey, start: &[u8]) -> CategoryHmac
+    requires { sk.now.set ≡ levels.now.set }
+    ensures { HoldsFront result levels.now sk.now start.now }
+{
+    let mut keyed = keyed_for(levels.set, sk.sk_seed(), sk.sk_prf(), sk.pk_seed(), ANSWER);
+    keyed.update(start);
+    keyed.update(&[levels.xmss as u8, levels.fors as u8]);
+    keyed
+}
+
+/// The HMAC of the tags of a key's answers, up to the number of the job.
+pub(crate) fn keyed_for_key(
     levels: &Levels,
     sk_seed: &[u8],
     sk_prf: &[u8],
     pk_seed: &[u8],
-    job: u32,
-    node: &Node,
-) -> Node
-    ensures value { result.items ≡ key_tag levels.now sk_seed.now sk_prf.now pk_seed.now job node.now.items }
-    ensures len { length result.items ≡ (params levels.now.set).n }
+) -> CategoryHmac
+    requires sk_seed { length sk_seed.now ≡ (params levels.now.set).n }
+    requires sk_prf { length sk_prf.now ≡ (params levels.now.set).n }
+    requires pk_seed { length pk_seed.now ≡ (params levels.now.set).n }
+    ensures { HoldsKeyFront result levels.now sk_seed.now sk_prf.now pk_seed.now }
 {
-    let cut = [levels.xmss as u8];
-    let number = job.to_be_bytes();
-    prf_msg(levels.set, sk_prf, node, &[&cut, &number, sk_seed, pk_seed])
+    let mut keyed = keyed_for(levels.set, sk_seed, sk_prf, pk_seed, KEY_ANSWER);
+    keyed.update(&[levels.xmss as u8]);
+    keyed
+}
+
+/// The tag of the node that a job answers, from the HMAC up to the job's number.
+pub(crate) fn answer_tag(keyed: &CategoryHmac, job: u32, node: &Node) -> Node
+    ensures value { (p : Params) (key front : List ℕ) → IsKeyed keyed.now p key front
+        → result.items ≡ take p.n (hmac (category_function p) key (front ++ to_byte job 4 ++ node.now.items)) }
+    ensures len { (p : Params) (key front : List ℕ) → IsKeyed keyed.now p key front → length result.items ≡ p.n }
+{
+    let mut keyed = keyed.copy();
+    keyed.update(&job.to_be_bytes());
+    keyed.update(node);
+    keyed.finish()
+}
+
+/// Whether two nodes are the same. All bytes are looked at before the answer.
+pub(crate) fn are_same(left: &Node, right: &Node) -> bool
+    ensures { IsTrue result ↔ (left.now.items ≡ right.now.items) }
+{
+    left.len() == right.len() && have_same_bytes(left, right)
+}
+
+/// Whether two slices of one length have the same bytes. All are looked at before the answer.
+fn have_same_bytes(left: &[u8], right: &[u8]) -> bool
+    requires { length left.now ≡ length right.now }
+    ensures { IsTrue result ↔ (left.now ≡ right.now) }
+{
+    let mut differences = 0;
+    for i in 0..left.len() {
+        differences |= left[i] ^ right[i];
+    }
+    differences == 0
 }

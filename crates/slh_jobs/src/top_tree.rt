@@ -5,8 +5,9 @@ ghost use Rattle.slh_tree.specs.Climb.{path as path_of};
 ghost use Rattle.slh_jobs.specs.Ranges.{IsShape, below, answer_len, top_given, auth_given};
 
 use crate::given::Given;
-use slh_params::Node;
-use slh_tree::{Tree, path, root};
+use slh_few::put_path;
+use slh_params::{Node, copy_of};
+use slh_tree::{PathRec, Tree, hash_range, root};
 
 /// A tree above its ranges, whose nodes are those of the answers from `first` on. It is cut at least once.
 #[derive(Drop)]
@@ -60,8 +61,9 @@ pub(crate) fn top_root<T: Tree>(tree: &T, given: &Given, first: u32) -> Node
     }
 }
 
-/// Writes the path of range `range` in the tree above the ranges, whose answers begin with answer `first`.
-fn put_upper<T: Tree>(tree: &T, given: &Given, first: u32, range: u32, out: &mut [u8])
+/// Writes the path of range `range` in the tree above the ranges, whose answers begin with answer `first`, and returns
+/// the root that the ranges give.
+fn put_upper<T: Tree>(tree: &T, given: &Given, first: u32, range: u32, out: &mut [u8]) -> Node
     requires shape { IsShape given.now.shape }
     requires few { first ≤ 16640 }
     requires height { given.now.shape.height ≡ (T.tree tree.now).height }
@@ -69,16 +71,30 @@ fn put_upper<T: Tree>(tree: &T, given: &Given, first: u32, range: u32, out: &mut
     requires there { (first + 2 ^ given.now.shape.levels) * answer_len given.now.shape ≤ length given.now.bytes.now }
     requires range { range < 2 ^ given.now.shape.levels }
     requires out { length out.old ≡ given.now.shape.levels * given.now.shape.n }
-    ensures { out.new ≡ path_of (top_given (T.tree tree.now) given.now.shape given.now.bytes.now first) range }
+    ensures path { out.new ≡ path_of (top_given (T.tree tree.now) given.now.shape given.now.bytes.now first) range }
+    ensures root { result.items ≡ root_of (top_given (T.tree tree.now) given.now.shape given.now.bytes.now first) }
+    ensures len { length result.items ≡ given.now.shape.n }
 {
-    if given.shape.levels > 0 {
-        path(&TopTree { tree, given, first }, range, out);
+    let levels = given.shape.levels;
+    if levels == 0 {
+        given.node(first as usize)
+    } else {
+        let mut rec = PathRec::for_leaf(levels, range);
+        let cover = hash_range(&TopTree { tree, given, first }, 0, 1 << levels, &mut rec);
+        put_path(&rec, levels, given.shape.n, out);
+        copy_of(&cover.nodes[0].node)
     }
 }
 
 /// Writes the path of leaf `leaf` of a tree, whose answers begin with answer `first`: from its range's answer, and then
-/// from the nodes of the ranges.
-pub(crate) fn put_auth<T: Tree>(tree: &T, given: &Given, first: u32, leaf: u32, out: &mut [u8])
+/// from the nodes of the ranges. Returns the root that the ranges give.
+pub(crate) fn put_auth<T: Tree>(
+    tree: &T,
+    given: &Given,
+    first: u32,
+    leaf: u32,
+    out: &mut [u8],
+) -> Node
     requires shape { IsShape given.now.shape }
     requires few { first ≤ 16640 }
     requires height { given.now.shape.height ≡ (T.tree tree.now).height }
@@ -87,10 +103,12 @@ pub(crate) fn put_auth<T: Tree>(tree: &T, given: &Given, first: u32, leaf: u32, 
     requires there { (first + 2 ^ given.now.shape.levels) * answer_len given.now.shape ≤ length given.now.bytes.now }
     requires leaf { leaf < 2 ^ given.now.shape.height }
     requires out { length out.old ≡ given.now.shape.height * given.now.shape.n }
-    ensures { out.new ≡ auth_given (T.tree tree.now) given.now.shape given.now.bytes.now first leaf }
+    ensures path { out.new ≡ auth_given (T.tree tree.now) given.now.shape given.now.bytes.now first leaf }
+    ensures root { result.items ≡ root_of (top_given (T.tree tree.now) given.now.shape given.now.bytes.now first) }
+    ensures len { length result.items ≡ given.now.shape.n }
 {
     let range = leaf >> given.shape.below();
     let (lower, upper) = out.split_at_mut(given.shape.path_len());
     lower.copy_from_slice(given.path((first + range) as usize));
-    put_upper(tree, given, first, range, upper);
+    put_upper(tree, given, first, range, upper)
 }

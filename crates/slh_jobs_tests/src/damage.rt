@@ -1,13 +1,13 @@
 //! Answers that don't fit together, which `sign_join` refuses.
 ghost use Rattle.std.specs.Prelude.{◌≡◌, ◌<◌, length};
 ghost use Rattle.slh_params.specs.ParamSet.{params};
-ghost use Rattle.slh_jobs.specs.Jobs.{start_len as length_of_start};
+ghost use Rattle.slh_jobs.specs.Tags.{start_len as length_of_start};
 
 use crate::fixtures::{
     OF_ABC, answers, begin_pure, equal, flip, join, key, key_from, levels, sha256_hex,
 };
 use slh_core::SecretKey;
-use slh_jobs::{JoinFault, Levels, answer_len, answer_start, answers_len, sign_jobs};
+use slh_jobs::{JobFault, Levels, answer_len, answer_start, answers_len, sign_jobs};
 use slh_params::ParamSet;
 use std::alloc::Global;
 use std::process::Abort;
@@ -35,7 +35,7 @@ fn check_flipped(
     let refused = join(rt, alloc, levels, sk, start, answers)?;
     assert_eq!(rt;
         refused.err(),
-        Some(JoinFault::AnswersDisagree),
+        Some(JobFault::AnswersDisagree),
         "from {from} on"
     );
     for i in 0..count {
@@ -130,7 +130,7 @@ fn check_moved(
     let refused = join(rt, alloc, levels, sk, start, &moved)?;
     assert_eq!(rt;
         refused.err(),
-        Some(JoinFault::AnswersDisagree),
+        Some(JobFault::AnswersDisagree),
         "{source} at {target}"
     );
     Ok(())
@@ -159,7 +159,8 @@ fn answers_of_others(rt: HostRuntime) -> Result<(), Fail> {
     let other_start = begin_pure(alloc, b"abd", &sk)?;
     let of_message = answers(&rt, alloc, &levels, &sk, &other_start)?;
     let other = key_from(sk.set(), 1);
-    let of_key = answers(&rt, alloc, &levels, &other, &start)?;
+    let start_of_key = begin_pure(alloc, b"abc", &other)?;
+    let of_key = answers(&rt, alloc, &levels, &other, &start_of_key)?;
     for job in [0, 1, 42, 43, 44, 109] {
         check_moved(
             &rt,
@@ -175,7 +176,7 @@ fn answers_of_others(rt: HostRuntime) -> Result<(), Fail> {
     }
     for given in [&of_message, &of_key] {
         let refused = join(&rt, alloc, &levels, &sk, &start, given)?;
-        equal(&rt, &refused.err(), &Some(JoinFault::AnswersDisagree));
+        equal(&rt, &refused.err(), &Some(JobFault::AnswersDisagree));
     }
     // Too short, too long, none, and any bytes.
     let mut longer = own.as_slice().to_vec(alloc)?;
@@ -183,12 +184,12 @@ fn answers_of_others(rt: HostRuntime) -> Result<(), Fail> {
     assert!(rt; 1 <= own.len());
     for given in [&own[..own.len() - 1], longer.as_slice(), &[]] {
         let refused = join(&rt, alloc, &levels, &sk, &start, given)?;
-        equal(&rt, &refused.err(), &Some(JoinFault::BadAnswersLength));
+        equal(&rt, &refused.err(), &Some(JobFault::BadAnswersLength));
     }
     for byte in [0x00, 0xff] {
         let any = vec![in alloc; byte; answers_len(&levels)]?;
         let refused = join(&rt, alloc, &levels, &sk, &start, &any)?;
-        equal(&rt, &refused.err(), &Some(JoinFault::AnswersDisagree));
+        equal(&rt, &refused.err(), &Some(JobFault::AnswersDisagree));
     }
     Ok(())
 }

@@ -2,12 +2,12 @@
 ghost use Rattle.std.specs.Prelude.{◌≡◌, IfOk, length};
 ghost use Rattle.slh_params.specs.ParamSet.{params};
 ghost use Rattle.slh_core.specs.Randomizers.{HasLength};
-ghost use Rattle.slh_jobs.specs.Jobs.{start_len as length_of_start};
+ghost use Rattle.slh_jobs.specs.Tags.{start_len as length_of_start};
 
 use sha2::{Digest, Sha256};
 use slh_core::{Form, Randomizer, SecretKey, keygen_internal};
 use slh_jobs::{
-    JoinFault, Levels, answer_len, answer_start, answers_len, sign_job, sign_jobs, sign_join,
+    JobFault, Levels, answer_len, answer_start, answers_len, sign_job, sign_jobs, sign_join,
     sign_start, start_len,
 };
 use slh_params::ParamSet;
@@ -111,7 +111,7 @@ pub(crate) fn answers(
         let first = answer_start(levels, job);
         let len = answer_len(levels, job);
         assert!(rt; first <= answers.len() && len <= answers.len() - first);
-        sign_job(levels, sk, start, job, &mut answers[first..][..len]);
+        sign_job(levels, sk, start, job, &mut answers[first..][..len])?;
     }
     Ok(answers)
 }
@@ -124,7 +124,7 @@ pub(crate) fn join(
     sk: &SecretKey,
     start: &[u8],
     answers: &[u8],
-) -> Result<Result<Vec<u8>, JoinFault>, Fail>
+) -> Result<Result<Vec<u8>, JobFault>, Fail>
     requires set { sk.now.set ≡ levels.now.set }
     requires start { length start.now ≡ length_of_start (params levels.now.set) }
 {

@@ -2,7 +2,7 @@
 use crate::fixtures::{counting, equal, flip, key, levels};
 use slh_core::{Form, Randomizer, SecretKey};
 use slh_jobs::{
-    JoinFault, Levels, key_answer_len, keygen_job, keygen_jobs, keygen_join, sign_start, start_len,
+    JobFault, Levels, key_answer_len, keygen_job, keygen_jobs, keygen_join, sign_start, start_len,
 };
 use slh_params::ParamSet;
 use std::alloc::Global;
@@ -32,7 +32,7 @@ fn key_answers(rt: &impl Abort, alloc: Global, levels: &Levels) -> Result<Vec<u8
 }
 
 /// The key of three seeds, end to end, that these answers give.
-fn join_key(levels: &Levels, seeds: &[u8; 96], answers: &[u8]) -> Result<SecretKey, JoinFault> {
+fn join_key(levels: &Levels, seeds: &[u8; 96], answers: &[u8]) -> Result<SecretKey, JobFault> {
     let n = levels.set.n();
     keygen_join(
         levels,
@@ -65,18 +65,33 @@ fn keys(rt: HostRuntime) -> Result<(), Fail> {
         for from in [0, n, 2 * n] {
             flip(&rt, &mut seeds, from);
             let refused = join_key(&levels, &seeds, &answers).err();
-            equal(&rt, &refused, &Some(JoinFault::AnswersDisagree));
+            equal(&rt, &refused, &Some(JobFault::AnswersDisagree));
             flip(&rt, &mut seeds, from);
         }
         assert!(rt; 2 * n <= answers.len());
         for from in [answers.len() - 2 * n, answers.len() - n] {
             flip(&rt, &mut answers, from);
             let refused = join_key(&levels, &seeds, &answers).err();
-            equal(&rt, &refused, &Some(JoinFault::AnswersDisagree));
+            equal(&rt, &refused, &Some(JobFault::AnswersDisagree));
             flip(&rt, &mut answers, from);
         }
         let refused = join_key(&levels, &seeds, &answers[..answers.len() - 2 * n]).err();
-        equal(&rt, &refused, &Some(JoinFault::BadAnswersLength));
+        equal(&rt, &refused, &Some(JobFault::BadAnswersLength));
+    }
+    Ok(())
+}
+
+/// The answers of a set are refused for another with the same n and as many jobs.
+#[test]
+fn key_answers_of_another_set(rt: HostRuntime) -> Result<(), Fail> {
+    for (small, fast) in [
+        (ParamSet::S128s, ParamSet::S128f),
+        (ParamSet::S192s, ParamSet::S192f),
+        (ParamSet::S256s, ParamSet::S256f),
+    ] {
+        let answers = key_answers(&rt, rt.alloc(), &levels(small, 3, 0)?)?;
+        let refused = join_key(&levels(fast, 3, 0)?, &counting(0), &answers).err();
+        equal(&rt, &refused, &Some(JobFault::AnswersDisagree));
     }
     Ok(())
 }
@@ -90,10 +105,11 @@ fn exchanged_key_answers_and_refusals(rt: HostRuntime) -> Result<(), Fail> {
     let mut exchanged = second.to_vec(alloc)?;
     exchanged.extend_from_slice(first)?;
     let refused = join_key(&levels, &counting(0), &exchanged).err();
-    equal(&rt, &refused, &Some(JoinFault::AnswersDisagree));
+    equal(&rt, &refused, &Some(JobFault::AnswersDisagree));
     for (fault, number, name) in [
-        (JoinFault::BadAnswersLength, 20, "BadAnswersLength"),
-        (JoinFault::AnswersDisagree, 25, "AnswersDisagree"),
+        (JobFault::BadAnswersLength, 20, "BadAnswersLength"),
+        (JobFault::AnswersDisagree, 25, "AnswersDisagree"),
+        (JobFault::BadStart, 28, "BadStart"),
     ] {
         equal(&rt, &fault.number(), &number);
         equal(&rt, &fault.name(), &name);

@@ -8,4 +8,6 @@ mod fixtures;
 #[cfg(test)]
 mod keys;
 #[cfg(test)]
+mod mixed;
+#[cfg(test)]
 mod signatures;

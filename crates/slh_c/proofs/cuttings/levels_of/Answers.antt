@@ -1,7 +1,7 @@
 -- Levels are made exactly where their four bounds hold, and two of the same numbers are equal.
 use Rattle.std.proofs.Common.{◌≡◌, ◌≤◌, ◌↔◌, refl, subst, ap, ◌∙◌, ℕ, Bool, true, false, Option, Some, None}
-use Rattle.std.specs.Prelude.{◌&&◌, nat_le, IsSome, IfSome}
-use Rattle.std.proofs.lemmas.Bool.{le-leb, leb-true, and_from, and_parts, cases_Bool, both_ways, false≢true}
+use Rattle.std.specs.Prelude.{nat_le, IsSome, IfSome}
+use Rattle.std.proofs.lemmas.Bool.{le-leb, leb-true, and_from, and_parts, false≢true}
 use Rattle.std.proofs.Math.Bridge.{le_prop}
 use Rattle.slh_params.specs.ParamSet.{params}
 use Rattle.slh_params.specs.declared.param_set.ParamSet.{ParamSet}
@@ -61,5 +61,5 @@ unfolding levels_of
 made (Some it) set xmss fors some a b c = of_equal it set xmss fors a b c _ refl (fit set xmss fors (some.0 refl))
 made None set xmss fors some a b c = none set xmss fors _ refl (λ t. false≢true (some.1 (fitting set xmss fors t)))
 
-pub returns : goal.returns
-returns c = made c.new.result c.args.set c.args.xmss c.args.fors c.new.ensures.some c.new.ensures.set c.new.ensures.xmss c.new.ensures.fors
+pub returns-clause-value : goal.returns-clause-value
+returns-clause-value c = made c.new.result c.args.set c.args.xmss c.args.fors c.new.ensures.some c.new.ensures.set c.new.ensures.xmss c.new.ensures.fors

@@ -10,4 +10,4 @@ returns-clause-answer c =
     let room : c.args.at ≤ length c.args.out.now = omega (arith, c.requires.room) in
     let end : c.args.at + size ≡ c.args.at + length c.sign_job.new.answer = ap (λ k. c.args.at + k) (sym len) in
     take-put_mid c.args.at (c.args.at + c.answer_len.result - c.args.at) c.args.out.now c.sign_job.new.answer (c.args.at + size) end room
-    ∙ ap (λ x. take c.args.at c.args.out.now ++ x) c.sign_job.ensures
+    ∙ ap (λ x. take c.args.at c.args.out.now ++ x) c.in-Ok.ensures.answer

@@ -14,7 +14,7 @@ unreachable-requires-in_default-sign_join g c =
     c.deref.ensures.value ∙ over_all c.in_ok-answers.answers.len c.answer_all.new.answers c.in_ok-answers.answers.items size in
     let are : AreAnswers c.args.levels.now c.args.sk.now c.sign_start.new.start c.deref.result.now = rw value c.answer_all.ensures.answers in
     let len : length c.deref.result.now ≡ answers_len c.args.levels.now = rw value c.answer_all.ensures.len in
-    let ok = c.sign_join.ensures.right are len in
+    let ok = c.sign_join.ensures.right c.requires.generated c.in-Ok.ensures.tagged are len in
     search (rules, ok, c.in_default-sign_join.is)
 
 pub returns-clause-signature : goal.returns-clause-signature
@@ -25,3 +25,8 @@ returns-clause-signature g c =
     let are : AreAnswers c.args.levels.now c.args.sk.now c.sign_start.new.start c.deref.result.now = rw value c.answer_all.ensures.answers in
     let start : c.sign_start.new.start ≡ start_by c.args.sk.now (pure_message [] c.args.msg.now) Deterministic = c.in-Ok.ensures.start in
     c.in-Ok-sign_join.ensures.message (pure_message [] c.args.msg.now) Deterministic start are
+
+pub returns-clause-authentic : goal.returns-clause-authentic
+returns-clause-authentic g c =
+    let start : c.sign_start.new.start ≡ start_by c.args.sk.now (pure_message [] c.args.msg.now) Deterministic = c.in-Ok.ensures.start in
+    c.in-Ok-sign_join.ensures.authentic (pure_message [] c.args.msg.now) Deterministic start

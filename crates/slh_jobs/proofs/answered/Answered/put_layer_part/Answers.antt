@@ -22,7 +22,7 @@ made c =
     let at : Place = place_in t.levels t.start.now c.args.layer in
     let s : Shape = xmss_shape t.levels in
     let first : ℕ = c.args.layer * 2 ^ t.levels.xmss in
-    c.layer_part.ensures
+    c.layer_part.ensures.part
     ∙ ap (λ (x : List ℕ). wots_sig_from (params_of t.levels) (pk_seed (public_of t.sk.now)) at (rest_given s bytes (first + at.pair / 2 ^ below s)) x
     ++ auth_given (layer_tree t.levels t.sk.now t.start.now c.args.layer) s bytes first at.pair) c.requires.msg
 

@@ -1,9 +1,9 @@
--- After each layer the first parts of the hypertree signature are written, and the next layer signs the last root.
-use Rattle.std.proofs.Common.{◌≡◌, ℕ, ◌+◌, ◌*◌, ◌<◌, ◌++◌, List, length, take, refl, ap, sym, ◌∙◌, arith, add-one}
+-- After each layer the first parts of the hypertree signature are written.
+use Rattle.std.proofs.Common.{◌≡◌, ℕ, ◌+◌, ◌*◌, ◌<◌, ◌++◌, List, length, take, refl, ap, sym, ◌∙◌, arith}
 use Rattle.slh_few.specs.Xmss.{xmss_sig_len}
 use Rattle.slh_few.proofs.Ends.{end_to_end-none, writes-more, part_fits, written_all}
 use Rattle.slh_jobs.specs.Jobs.{params_of}
-use Rattle.slh_jobs.specs.Joined.{layer_part_given, signed_given}
+use Rattle.slh_jobs.specs.Joined.{layer_part_given}
 use Rattle.slh_jobs.proofs.answered.Answered.put_layers.Goals as goal
 
 pub put_layer_part-requires-clause-out : goal.put_layer_part-requires-clause-out
@@ -16,7 +16,7 @@ put_layer_part-requires-clause-out c =
 pub loop-layer-init : goal.loop-layer-init
 loop-layer-init c =
     let zero : 0 * xmss_sig_len (params_of c.args.self.now.signing.levels) ≡ 0 = omega arith in
-    (c.copy_of-msg.ensures ∙ c.requires.pk_fors, ap length c.copy_of-msg.ensures ∙ c.requires.len, ap (λ k. take k c.args.out.now) zero ∙ sym (end_to_end-none _))
+    ap (λ k. take k c.args.out.now) zero ∙ sym (end_to_end-none _)
 
 pub loop-layer-preserved : goal.loop-layer-preserved
 loop-layer-preserved c =
@@ -27,10 +27,9 @@ loop-layer-preserved c =
     let b : c.loop-layer.layer < (params_of t.levels).d = omega (arith, c.d-layer-end.ensures) in
     let size : length (part l) ≡ n = c.put_layer_part.ensures.len in
     let put : take (l * n + n) c.put_layer_part.new.out ≡ take (l * n) c.loop-layer.out ++ part l = rw c.xmss_sig_len-size.ensures.value at c.put_layer_part.ensures.part in
-    let next : c.layer_root-msg.result.items ≡ signed_given t.levels t.sk.now t.start.now c.args.self.now.xmss.bytes.now (l + 1) = rw (add-one l) c.layer_root-msg.ensures.value in
-    (next, c.layer_root-msg.ensures.len, writes-more part l n c.loop-layer.out c.put_layer_part.new.out (part l) refl size c.loop-layer.invariant.2 (ap (λ k. take (l * n + k) c.put_layer_part.new.out) size ∙ put))
+    writes-more part l n c.loop-layer.out c.put_layer_part.new.out (part l) refl size c.loop-layer.invariant (ap (λ k. take (l * n + k) c.put_layer_part.new.out) size ∙ put)
 
 pub returns : goal.returns
 returns c =
     let p = params_of c.args.self.now.signing.levels in
-    written_all _ p.d (xmss_sig_len p) c.loop-layer.layer c.loop-layer.out (omega (arith, c.d-layer-end.ensures)) (omega (arith, c.requires.out)) c.loop-layer.invariant.2
+    written_all _ p.d (xmss_sig_len p) c.loop-layer.layer c.loop-layer.out (omega (arith, c.d-layer-end.ensures)) (omega (arith, c.requires.out)) c.loop-layer.invariant

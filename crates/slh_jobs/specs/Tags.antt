@@ -1,0 +1,40 @@
+-- Tags, by which it is known that a start or an answer was made under a key: ours, over the HMAC of FIPS 205, section 11.2.
+use Rattle.std.specs.Prelude.{◌≡◌, ℕ, ◌+◌, ◌^◌, ◌<◌, List, [], ◌∷◌, ◌++◌, length, take}
+use Rattle.slh_params.specs.Bits.{to_byte}
+use Rattle.slh_params.specs.Params.{Params, m}
+use Rattle.slh_hash.specs.HashFunctions.{category_function}
+use Rattle.slh_hash.specs.Keyed.{hmac}
+
+-- What is tagged: R and the digest of a message, which begin a signature under the key with this PK.root; the node that
+-- a job of a signature answers; the node that a job of key generation answers.
+pub data Tagged : Type 0 where
+  OfStart : (pk_root begun : List ℕ) → Tagged
+  OfAnswer : (start : List ℕ) (xmss fors job : ℕ) (node : List ℕ) → Tagged
+  OfKeyAnswer : (xmss job : ℕ) (node : List ℕ) → Tagged
+
+-- the six numbers of the record, a byte each
+abbrev pub six : Params → List ℕ
+six p = p.n ∷ p.lg_w ∷ p.hp ∷ p.d ∷ p.a ∷ p.k ∷ []
+
+-- The text: a byte for the kind, the six numbers, and the parts.
+abbrev pub text : Params → Tagged → List ℕ
+text p (OfStart pk_root begun) = (1 ∷ six p) ++ pk_root ++ begun
+text p (OfAnswer start xmss fors job node) = (2 ∷ six p) ++ start ++ (xmss ∷ fors ∷ []) ++ to_byte job 4 ++ node
+text p (OfKeyAnswer xmss job node) = (3 ∷ six p) ++ (xmss ∷ []) ++ to_byte job 4 ++ node
+
+-- The tag: Trunc_n(HMAC(SK.prf ‖ SK.seed ‖ PK.seed, text)).
+abbrev pub tag : Params → List ℕ → List ℕ → List ℕ → Tagged → List ℕ
+tag p sk_seed sk_prf pk_seed what = take p.n (hmac (category_function p) (sk_prf ++ sk_seed ++ pk_seed) (text p what))
+
+-- R and the digest of a message, and with their tag a start
+abbrev pub begun_len : Params → ℕ
+begun_len p = p.n + m p
+
+abbrev pub start_len : Params → ℕ
+start_len p = begun_len p + p.n
+
+-- the parts have the lengths of their kind and the record
+abbrev pub IsSized : Params → Tagged → Type 0
+IsSized p (OfStart pk_root begun) = length pk_root ≡ p.n
+IsSized p (OfAnswer start xmss fors job node) = (length start ≡ start_len p) × (job < 2 ^ 32)
+IsSized p (OfKeyAnswer xmss job node) = job < 2 ^ 32
