@@ -121,7 +121,8 @@ declared() {
 
 # Whether a compiler warns of a result that is not looked at, and of nothing else.
 warns() {
-    ! LC_ALL=C "$@" -c -o "$work/unused.o" <(declared void 'slh_verify(1, 0, 0, 0, 0, 0, 0, 0, 0);') >"$work/warned" 2>&1 &&
+    ! LC_ALL=C "$@" -c -o "$work/unused.o" <(declared void 'slh_verify(1, 0, 0, 0, 0, 0, 0, 0, 0);') \
+        >"$work/warned" 2>&1 &&
         [ "$(grep -c error: "$work/warned")" = 1 ] && grep -q 'error: .*unused-result' "$work/warned"
 }
 
