@@ -1,7 +1,23 @@
 /*
  * SLH-DSA (FIPS 205, August 2024) with SHA-2: keys, signing and verifying for the six SHA-2 parameter sets.
  *
- * What the caller must uphold, and nothing checks:
+ *   slh_keygen, slh_public            to make a secret key, and to give away its public key
+ *   slh_check                         to look at a secret key that comes from elsewhere, once
+ *   slh_sign, slh_verify              to sign and verify a message that stands in memory whole
+ *   slh_hash_sign_digest, slh_hash_verify_digest
+ *                                     the same for a message that is read in pieces: you compute its digest
+ *   slh_hash_sign, slh_hash_verify    the same with the message, of which these compute the digest
+ *   slh_sign_jobs, slh_sign_start, slh_answer_place, slh_sign_job, slh_sign_join
+ *                                     to have one signature computed by threads or processes of your own
+ *   slh_keygen_jobs, slh_keygen_job, slh_keygen_join
+ *                                     the same for a key
+ *   slh_lengths, slh_refusal_name, slh_version
+ *                                     lengths by a set's number, the name of a refusal, the library's version
+ *
+ * slh_verify.h, which this header includes, declares what verifies, the numbers and the lengths.
+ *
+ *
+ * Duties of the caller, which nothing checks
  *
  * - Each pointer to bytes is followed by their number. It points to that many bytes, which may be read, and for an
  *   output also written, until the call returns. Where the number is 0 the pointer may be null. No number is above
@@ -9,18 +25,27 @@
  * - A pointer to one number (slh_lengths, slh_sign_jobs, slh_answer_place, slh_keygen_jobs) is not null, and is aligned
  *   as its type.
  * - An output overlaps no other argument, and nothing else writes to an argument while the call runs.
+ * - Seeds and randomizers are n fresh bytes from a source that is fit for keys: this library draws none. A randomizer
+ *   of n bytes is FIPS 205's opt_rand; one of 0 bytes makes the deterministic variant (section 9.2).
  *
  * All else is tested: any number may stand for a set, a pre-hash function or a refusal, and any length is taken.
  *
  * No call allocates memory or keeps anything between calls. Any number of threads may be in any of the calls at once.
  * Nothing is claimed of the time that a call takes, or of what it leaves on the stack.
  *
- * Arguments stand in this order, as far as a call has them: the set, the pre-hash function, the levels, the key or the
- * three seeds, the message or its digest, the context, the randomizer, the start, the job, the answers, the output or
- * the signature.
  *
- * Each call returns SLH_DONE (0), SLH_INVALID (30, only slh_check and the verify calls), or a refusal's number. What is
- * not valid is judged in this order, and the number of the first is returned:
+ * Arguments stand in this order, as far as a call has them:
+ *
+ *   1  set             5  message       9  job
+ *   2  function        6  context       10 answers
+ *   3  levels          7  randomizer    11 output or signature
+ *   4  key or seeds    8  start
+ *
+ * The seeds are SK.seed, SK.prf and PK.seed, in this order. A digest stands in place of the message.
+ *
+ *
+ * Each call but slh_version returns SLH_DONE (0), SLH_INVALID (30, only slh_check and the verify calls), or a refusal's
+ * number. What is not valid is judged in this order, and the number of the first is returned:
  *
  *   SLH_NO_SUCH_SET            the number is not a set's
  *   SLH_NO_SUCH_FUNCTION       the number is not a pre-hash function's
@@ -37,93 +62,16 @@
  *   SLH_ANSWERS_DISAGREE       the answers don't fit together
  *   SLH_CONTEXT_TOO_LONG       signing under a context of over 255 bytes
  *
- * An output is written where SLH_DONE is returned, and is as it was for every other number.
- *
- * SLH_INVALID is not 1, and no call returns 1. Calls of OpenSSL and BoringSSL return 1 for a valid signature: a caller
- * who keeps their test `== 1` would, if SLH_INVALID were 1, accept exactly the forgeries. Test for SLH_DONE.
- *
- * A randomizer of 0 bytes is the deterministic variant (FIPS 205, section 9.2), one of n bytes is opt_rand. Draw its
- * bytes, and those of the seeds, from a source that is fit for keys: this library draws none.
+ * An output is written where SLH_DONE is returned, and is as it was for every other number. Test for SLH_DONE.
  */
 #ifndef SLH_H
 #define SLH_H
 
-#include <stddef.h>
-#include <stdint.h>
-
-/* Stands before each call whose result has to be looked at. A compiler that can warns where that is not done. */
-#if defined(__cplusplus) && __cplusplus >= 201703L
-#define SLH_MUST_USE [[nodiscard]]
-#elif !defined(__cplusplus) && defined(__STDC_VERSION__) && __STDC_VERSION__ >= 202311L
-#define SLH_MUST_USE [[nodiscard]]
-#elif defined(__GNUC__)
-#define SLH_MUST_USE __attribute__((warn_unused_result))
-#else
-#define SLH_MUST_USE
-#endif
+#include <slh_verify.h>
 
 #ifdef __cplusplus
 extern "C" {
 #endif
-
-/* The parameter sets (FIPS 205, section 11, Table 2). */
-enum slh_set {
-    SLH_DSA_SHA2_128S = 1,
-    SLH_DSA_SHA2_128F = 2,
-    SLH_DSA_SHA2_192S = 3,
-    SLH_DSA_SHA2_192F = 4,
-    SLH_DSA_SHA2_256S = 5,
-    SLH_DSA_SHA2_256F = 6
-};
-
-/* The pre-hash functions (FIPS 205, section 10.2.2). Each goes with each set. */
-enum slh_function {
-    SLH_SHA2_224 = 1,
-    SLH_SHA2_256 = 2,
-    SLH_SHA2_384 = 3,
-    SLH_SHA2_512 = 4,
-    SLH_SHA2_512_224 = 5,
-    SLH_SHA2_512_256 = 6
-};
-
-/* What the calls return. */
-enum slh_result {
-    SLH_DONE = 0,
-    SLH_CONTEXT_TOO_LONG = 2,
-    SLH_BAD_LENGTH = 3,
-    SLH_BAD_CUTTING = 4,
-    SLH_NO_SUCH_SET = 8,
-    SLH_NO_SUCH_FUNCTION = 9,
-    SLH_BAD_SEED_LENGTH = 10,
-    SLH_BAD_DIGEST_LENGTH = 16,
-    SLH_BAD_RANDOMIZER_LENGTH = 17,
-    SLH_BAD_OUTPUT_LENGTH = 18,
-    SLH_NO_SUCH_REFUSAL = 19,
-    SLH_BAD_ANSWERS_LENGTH = 20,
-    SLH_ANSWERS_DISAGREE = 25,
-    SLH_NO_SUCH_JOB = 26,
-    SLH_BAD_START_LENGTH = 27,
-    SLH_BAD_START = 28,
-    SLH_INVALID = 30
-};
-
-/* n of each set: the length of a seed and of a randomizer in bytes. */
-#define SLH_DSA_SHA2_128S_N 16
-#define SLH_DSA_SHA2_128F_N 16
-#define SLH_DSA_SHA2_192S_N 24
-#define SLH_DSA_SHA2_192F_N 24
-#define SLH_DSA_SHA2_256S_N 32
-#define SLH_DSA_SHA2_256F_N 32
-#define SLH_MAX_N 32
-
-/* The length of a public key PK.seed || PK.root in bytes, 2n. */
-#define SLH_DSA_SHA2_128S_PUBLIC_KEY 32
-#define SLH_DSA_SHA2_128F_PUBLIC_KEY 32
-#define SLH_DSA_SHA2_192S_PUBLIC_KEY 48
-#define SLH_DSA_SHA2_192F_PUBLIC_KEY 48
-#define SLH_DSA_SHA2_256S_PUBLIC_KEY 64
-#define SLH_DSA_SHA2_256F_PUBLIC_KEY 64
-#define SLH_MAX_PUBLIC_KEY 64
 
 /* The length of a secret key SK.seed || SK.prf || PK.seed || PK.root in bytes, 4n. */
 #define SLH_DSA_SHA2_128S_SECRET_KEY 64
@@ -134,15 +82,6 @@ enum slh_result {
 #define SLH_DSA_SHA2_256F_SECRET_KEY 128
 #define SLH_MAX_SECRET_KEY 128
 
-/* The length of a signature in bytes. */
-#define SLH_DSA_SHA2_128S_SIGNATURE 7856
-#define SLH_DSA_SHA2_128F_SIGNATURE 17088
-#define SLH_DSA_SHA2_192S_SIGNATURE 16224
-#define SLH_DSA_SHA2_192F_SIGNATURE 35664
-#define SLH_DSA_SHA2_256S_SIGNATURE 29792
-#define SLH_DSA_SHA2_256F_SIGNATURE 49856
-#define SLH_MAX_SIGNATURE 49856
-
 /* The length of a start in bytes: R, the digest of the message and a tag, 2n + m. */
 #define SLH_DSA_SHA2_128S_START 62
 #define SLH_DSA_SHA2_128F_START 66
@@ -152,100 +91,82 @@ enum slh_result {
 #define SLH_DSA_SHA2_256F_START 113
 #define SLH_MAX_START 113
 
-/* The most bytes of a context, and of a refusal's name with the zero byte after it. */
-#define SLH_MAX_CONTEXT 255
+/* The most bytes of a refusal's name with the zero byte after it. */
 #define SLH_MAX_NAME 20
 
 /*
- * Writes the lengths of a set's public keys, secret keys and signatures in bytes, and n.
+ * To size buffers by a set's number: writes the lengths of its public keys, secret keys and signatures in bytes, and n.
  * Returns: SLH_DONE; SLH_NO_SUCH_SET.
  */
-SLH_MUST_USE
+SLH_MUST_USE SLH_API
 uint32_t slh_lengths(uint32_t set, size_t *pk_len, size_t *sk_len, size_t *sig_len, size_t *n);
 
 /*
- * The secret key of the seeds SK.seed, SK.prf and PK.seed, n bytes each, into the 4n bytes of sk (Algorithm 18).
+ * To make a key: writes the secret key of the seeds SK.seed, SK.prf and PK.seed, n fresh random bytes each, into the 4n
+ * bytes of sk (Algorithm 18). The seeds are as secret as the key.
  * Returns: SLH_DONE; SLH_NO_SUCH_SET, SLH_BAD_SEED_LENGTH, SLH_BAD_OUTPUT_LENGTH.
  */
-SLH_MUST_USE
+SLH_MUST_USE SLH_API
 uint32_t slh_keygen(uint32_t set, const uint8_t *sk_seed, size_t sk_seed_len, const uint8_t *sk_prf,
                     size_t sk_prf_len, const uint8_t *pk_seed, size_t pk_seed_len, uint8_t *sk, size_t sk_len);
 
 /*
- * The public key of a secret key of 4n bytes, into the 2n bytes of pk: its last 2n bytes.
+ * To give away what verifies: writes the public key of a secret key of 4n bytes, its last 2n bytes, into pk.
  * Returns: SLH_DONE; SLH_NO_SUCH_SET, SLH_BAD_LENGTH, SLH_BAD_OUTPUT_LENGTH.
  */
-SLH_MUST_USE
+SLH_MUST_USE SLH_API
 uint32_t slh_public(uint32_t set, const uint8_t *sk, size_t sk_len, uint8_t *pk, size_t pk_len);
 
 /*
- * Whether PK.root of a secret key of 4n bytes is the root that its seeds give. This takes as long as slh_keygen.
+ * To look at a secret key that comes from elsewhere, or from slh_keygen_join, once: whether its PK.root is the root
+ * that its seeds give. The other calls test the length of a key alone. This takes as long as slh_keygen.
  * Returns: SLH_DONE where it is, SLH_INVALID where it is not; SLH_NO_SUCH_SET, SLH_BAD_LENGTH.
  */
-SLH_MUST_USE
+SLH_MUST_USE SLH_API
 uint32_t slh_check(uint32_t set, const uint8_t *sk, size_t sk_len);
 
 /*
- * Signs a message under a context, in the pure form (Algorithm 22). sk has 4n bytes, the context at most 255, the
- * randomizer 0 or n, and sig as many as a signature of the set.
+ * To sign a message that stands in memory whole, in the pure form (Algorithm 22). sk has 4n bytes, the context at most
+ * 255 (most use none), the randomizer n fresh random bytes or none, and sig as many as a signature of the set.
  * Returns: SLH_DONE; SLH_NO_SUCH_SET, SLH_BAD_LENGTH, SLH_BAD_RANDOMIZER_LENGTH, SLH_BAD_OUTPUT_LENGTH,
  * SLH_CONTEXT_TOO_LONG.
  */
-SLH_MUST_USE
+SLH_MUST_USE SLH_API
 uint32_t slh_sign(uint32_t set, const uint8_t *sk, size_t sk_len, const uint8_t *msg, size_t msg_len,
                   const uint8_t *ctx, size_t ctx_len, const uint8_t *randomizer, size_t randomizer_len, uint8_t *sig,
                   size_t sig_len);
 
 /*
- * Whether the bytes are a valid signature of a message under a context, in the pure form (Algorithm 24). pk has 2n
- * bytes. A signature of another length than the set's, and a context of over 255 bytes, are invalid.
- * Returns: SLH_DONE where they are, SLH_INVALID where they are not; SLH_NO_SUCH_SET, SLH_BAD_LENGTH.
+ * To sign a message that is read in pieces: compute its digest under the pre-hash function, and hand that in (Algorithm
+ * 23 after its pre-hash). Digests have the lengths that slh_hash_verify_digest takes, all else those of slh_sign. A
+ * function weaker than the set makes a weaker signature: docs/LIBRARY.md has a table.
+ * Returns: SLH_DONE; SLH_NO_SUCH_SET, SLH_NO_SUCH_FUNCTION, SLH_BAD_LENGTH, SLH_BAD_DIGEST_LENGTH,
+ * SLH_BAD_RANDOMIZER_LENGTH, SLH_BAD_OUTPUT_LENGTH, SLH_CONTEXT_TOO_LONG.
  */
-SLH_MUST_USE
-uint32_t slh_verify(uint32_t set, const uint8_t *pk, size_t pk_len, const uint8_t *msg, size_t msg_len,
-                    const uint8_t *ctx, size_t ctx_len, const uint8_t *sig, size_t sig_len);
-
-/*
- * Signs a message by its digest under a pre-hash function, and under a context (Algorithm 23). The lengths are those of
- * slh_sign.
- * Returns: SLH_DONE; SLH_NO_SUCH_SET, SLH_NO_SUCH_FUNCTION, SLH_BAD_LENGTH, SLH_BAD_RANDOMIZER_LENGTH,
- * SLH_BAD_OUTPUT_LENGTH, SLH_CONTEXT_TOO_LONG.
- */
-SLH_MUST_USE
-uint32_t slh_hash_sign(uint32_t set, uint32_t function, const uint8_t *sk, size_t sk_len, const uint8_t *msg,
-                       size_t msg_len, const uint8_t *ctx, size_t ctx_len, const uint8_t *randomizer,
-                       size_t randomizer_len, uint8_t *sig, size_t sig_len);
-
-/*
- * Whether the bytes are a valid signature of a message by its digest under a pre-hash function, and under a context
- * (Algorithm 25). The lengths are those of slh_verify.
- * Returns: SLH_DONE where they are, SLH_INVALID where they are not; SLH_NO_SUCH_SET, SLH_NO_SUCH_FUNCTION,
- * SLH_BAD_LENGTH.
- */
-SLH_MUST_USE
-uint32_t slh_hash_verify(uint32_t set, uint32_t function, const uint8_t *pk, size_t pk_len, const uint8_t *msg,
-                         size_t msg_len, const uint8_t *ctx, size_t ctx_len, const uint8_t *sig, size_t sig_len);
-
-/*
- * slh_hash_sign for a message whose digest under the function the caller has computed (Algorithm 23 after its
- * pre-hash): 28 bytes for SHA2-224 and SHA2-512/224, 32 for SHA2-256 and SHA2-512/256, 48 for SHA2-384, 64 for
- * SHA2-512.
- * Returns: those of slh_hash_sign; SLH_BAD_DIGEST_LENGTH.
- */
-SLH_MUST_USE
+SLH_MUST_USE SLH_API
 uint32_t slh_hash_sign_digest(uint32_t set, uint32_t function, const uint8_t *sk, size_t sk_len,
                               const uint8_t *digest, size_t digest_len, const uint8_t *ctx, size_t ctx_len,
                               const uint8_t *randomizer, size_t randomizer_len, uint8_t *sig, size_t sig_len);
 
 /*
- * slh_hash_verify for a message whose digest under the function the caller has computed (Algorithm 25 after its
- * pre-hash), of the lengths that slh_hash_sign_digest takes.
- * Returns: those of slh_hash_verify; SLH_BAD_DIGEST_LENGTH.
+ * To sign a message in memory by its digest, which this computes under the pre-hash function (Algorithm 23): for those
+ * who verify by slh_hash_verify_digest. The lengths are those of slh_sign.
+ * Returns: SLH_DONE; SLH_NO_SUCH_SET, SLH_NO_SUCH_FUNCTION, SLH_BAD_LENGTH, SLH_BAD_RANDOMIZER_LENGTH,
+ * SLH_BAD_OUTPUT_LENGTH, SLH_CONTEXT_TOO_LONG.
  */
-SLH_MUST_USE
-uint32_t slh_hash_verify_digest(uint32_t set, uint32_t function, const uint8_t *pk, size_t pk_len,
-                                const uint8_t *digest, size_t digest_len, const uint8_t *ctx, size_t ctx_len,
-                                const uint8_t *sig, size_t sig_len);
+SLH_MUST_USE SLH_API
+uint32_t slh_hash_sign(uint32_t set, uint32_t function, const uint8_t *sk, size_t sk_len, const uint8_t *msg,
+                       size_t msg_len, const uint8_t *ctx, size_t ctx_len, const uint8_t *randomizer,
+                       size_t randomizer_len, uint8_t *sig, size_t sig_len);
+
+/*
+ * To print what a refusal is: writes the name of its number, as "BadLength", in ASCII and without a zero byte inside,
+ * and zero bytes from there to the end of name, at least one. SLH_MAX_NAME bytes are enough for each name. SLH_DONE and
+ * SLH_INVALID are not refusals.
+ * Returns: SLH_DONE; SLH_NO_SUCH_REFUSAL, SLH_BAD_OUTPUT_LENGTH where name is too short.
+ */
+SLH_API
+uint32_t slh_refusal_name(uint32_t refusal, char *name, size_t name_len);
 
 /*
  * One signature, or one key, by threads of your own.
@@ -297,102 +218,99 @@ uint32_t slh_hash_verify_digest(uint32_t set, uint32_t function, const uint8_t *
  */
 
 /*
- * How many jobs a signature has, the length of its start and that of the answers of all jobs, in bytes. Levels go from
- * 0 to 8, and at most to the height of the trees: 9, 3, 9, 3, 8, 4 of the XMSS trees and 12, 6, 14, 8, 14, 9 of the
- * FORS trees, in the order of the sets. Returns: SLH_DONE; SLH_NO_SUCH_SET, SLH_BAD_CUTTING.
+ * To plan a signature's jobs: how many it has, the length of its start and that of the answers of all jobs, in bytes.
+ * Levels go from 0 to 8, and at most to the height of the trees: 9, 3, 9, 3, 8, 4 of the XMSS trees and 12, 6, 14, 8,
+ * 14, 9 of the FORS trees, in the order of the sets. A few jobs for each thread are enough.
+ * Returns: SLH_DONE; SLH_NO_SUCH_SET, SLH_BAD_CUTTING.
  */
-SLH_MUST_USE
+SLH_MUST_USE SLH_API
 uint32_t slh_sign_jobs(uint32_t set, uint32_t xmss_levels, uint32_t fors_levels, uint32_t *jobs, size_t *start_len,
                        size_t *answers_len);
 
 /*
- * Where the answer of a job begins among the answers of all jobs, and its length, in bytes. Jobs are numbered from 0.
+ * To find the room of a job's answer: where it begins among the answers of all jobs, and its length, in bytes. Jobs are
+ * numbered from 0.
  * Returns: SLH_DONE; SLH_NO_SUCH_SET, SLH_BAD_CUTTING, SLH_NO_SUCH_JOB.
  */
-SLH_MUST_USE
+SLH_MUST_USE SLH_API
 uint32_t slh_answer_place(uint32_t set, uint32_t xmss_levels, uint32_t fors_levels, uint32_t job, size_t *at,
                           size_t *len);
 
 /*
- * Begins the signature of a message under a context, in the pure form (Algorithm 22): writes R, the digest and their
- * tag into start. The other lengths are those of slh_sign.
- * Returns: those of slh_sign.
+ * To begin the signature of a message in the pure form (Algorithm 22): writes R, the digest and their tag into start.
+ * The other lengths are those of slh_sign.
+ * Returns: SLH_DONE; SLH_NO_SUCH_SET, SLH_BAD_LENGTH, SLH_BAD_RANDOMIZER_LENGTH, SLH_BAD_OUTPUT_LENGTH,
+ * SLH_CONTEXT_TOO_LONG.
  */
-SLH_MUST_USE
+SLH_MUST_USE SLH_API
 uint32_t slh_sign_start(uint32_t set, const uint8_t *sk, size_t sk_len, const uint8_t *msg, size_t msg_len,
                         const uint8_t *ctx, size_t ctx_len, const uint8_t *randomizer, size_t randomizer_len,
                         uint8_t *start, size_t start_len);
 
 /*
- * Begins the signature of a message by its digest under a pre-hash function, and under a context (Algorithm 23). The
- * lengths are those of slh_sign_start.
- * Returns: those of slh_hash_sign.
+ * To begin the signature of a message by its digest, which this computes under the pre-hash function (Algorithm 23).
+ * The lengths are those of slh_sign_start.
+ * Returns: SLH_DONE; SLH_NO_SUCH_SET, SLH_NO_SUCH_FUNCTION, SLH_BAD_LENGTH, SLH_BAD_RANDOMIZER_LENGTH,
+ * SLH_BAD_OUTPUT_LENGTH, SLH_CONTEXT_TOO_LONG.
  */
-SLH_MUST_USE
+SLH_MUST_USE SLH_API
 uint32_t slh_hash_sign_start(uint32_t set, uint32_t function, const uint8_t *sk, size_t sk_len, const uint8_t *msg,
                              size_t msg_len, const uint8_t *ctx, size_t ctx_len, const uint8_t *randomizer,
                              size_t randomizer_len, uint8_t *start, size_t start_len);
 
 /*
- * The answer of a job of the signature that start begins, of the length that slh_answer_place tells. What is written
- * follows from the arguments alone. SLH_BAD_START where the start does not have its tag under this key.
+ * To do one job of the signature that start begins, in any thread: writes its answer, of the length that
+ * slh_answer_place tells. What is written follows from the arguments alone. SLH_BAD_START where the start does not have
+ * its tag under this key.
  * Returns: SLH_DONE; SLH_NO_SUCH_SET, SLH_BAD_CUTTING, SLH_NO_SUCH_JOB, SLH_BAD_LENGTH, SLH_BAD_START_LENGTH,
  * SLH_BAD_OUTPUT_LENGTH, SLH_BAD_START.
  */
-SLH_MUST_USE
+SLH_MUST_USE SLH_API
 uint32_t slh_sign_job(uint32_t set, uint32_t xmss_levels, uint32_t fors_levels, const uint8_t *sk, size_t sk_len,
                       const uint8_t *start, size_t start_len, uint32_t job, uint8_t *answer, size_t answer_len);
 
 /*
- * The signature that start begins, from the answers of all its jobs. Where each answer is what slh_sign_job writes, it
- * is that of slh_sign or slh_hash_sign. SLH_BAD_START where the start does not have its tag under this key,
+ * To make the signature that start begins, from the answers of all its jobs. Where each answer is what slh_sign_job
+ * writes, it is that of slh_sign or slh_hash_sign. SLH_BAD_START where the start does not have its tag under this key,
  * SLH_ANSWERS_DISAGREE where the answers don't fit together; under a key of slh_keygen, answers that are what
  * slh_sign_job writes always do.
  * Returns: SLH_DONE; SLH_NO_SUCH_SET, SLH_BAD_CUTTING, SLH_BAD_LENGTH, SLH_BAD_START_LENGTH, SLH_BAD_OUTPUT_LENGTH,
  * SLH_BAD_ANSWERS_LENGTH, SLH_BAD_START, SLH_ANSWERS_DISAGREE.
  */
-SLH_MUST_USE
+SLH_MUST_USE SLH_API
 uint32_t slh_sign_join(uint32_t set, uint32_t xmss_levels, uint32_t fors_levels, const uint8_t *sk, size_t sk_len,
                        const uint8_t *start, size_t start_len, const uint8_t *answers, size_t answers_len,
                        uint8_t *sig, size_t sig_len);
 
 /*
- * How many jobs the generation of a key has, where the XMSS tree of the top layer is cut into 2^xmss_levels ranges, and
- * the length of each answer, 2n bytes. The answer of job i begins at i times this length. These answers are nodes
- * of the tree of public keys and their tags, and hold no values of one-time keys.
+ * To plan a key's jobs: how many its generation has, where the XMSS tree of the top layer is cut into 2^xmss_levels
+ * ranges, and the length of each answer, 2n bytes. The answer of job i begins at i times this length. These answers are
+ * nodes of the tree of public keys and their tags, and hold no values of one-time keys.
  * Returns: SLH_DONE; SLH_NO_SUCH_SET, SLH_BAD_CUTTING.
  */
-SLH_MUST_USE
+SLH_MUST_USE SLH_API
 uint32_t slh_keygen_jobs(uint32_t set, uint32_t xmss_levels, uint32_t *jobs, size_t *answer_len);
 
 /*
- * The answer of a job of the generation of the key of these seeds, n bytes each.
+ * To do one job of the generation of the key of these seeds, n bytes each, in any thread: writes its answer.
  * Returns: SLH_DONE; SLH_NO_SUCH_SET, SLH_BAD_CUTTING, SLH_NO_SUCH_JOB, SLH_BAD_SEED_LENGTH, SLH_BAD_OUTPUT_LENGTH.
  */
-SLH_MUST_USE
+SLH_MUST_USE SLH_API
 uint32_t slh_keygen_job(uint32_t set, uint32_t xmss_levels, const uint8_t *sk_seed, size_t sk_seed_len,
                         const uint8_t *sk_prf, size_t sk_prf_len, const uint8_t *pk_seed, size_t pk_seed_len,
                         uint32_t job, uint8_t *answer, size_t answer_len);
 
 /*
- * The secret key of these seeds, from the answers of all jobs, into the 4n bytes of sk. Where each answer is what
- * slh_keygen_job writes, it is that of slh_keygen. SLH_ANSWERS_DISAGREE where a node does not have the tag of its job
- * under these seeds and levels. A node that was computed wrongly has it: call slh_check on the key that is made.
+ * To make the secret key of these seeds, from the answers of all jobs, into the 4n bytes of sk. Where each answer is
+ * what slh_keygen_job writes, it is that of slh_keygen. SLH_ANSWERS_DISAGREE where a node does not have the tag of its
+ * job under these seeds and levels. A node that was computed wrongly has it: call slh_check on the key that is made.
  * Returns: SLH_DONE; SLH_NO_SUCH_SET, SLH_BAD_CUTTING, SLH_BAD_SEED_LENGTH, SLH_BAD_OUTPUT_LENGTH,
  * SLH_BAD_ANSWERS_LENGTH, SLH_ANSWERS_DISAGREE.
  */
-SLH_MUST_USE
+SLH_MUST_USE SLH_API
 uint32_t slh_keygen_join(uint32_t set, uint32_t xmss_levels, const uint8_t *sk_seed, size_t sk_seed_len,
                          const uint8_t *sk_prf, size_t sk_prf_len, const uint8_t *pk_seed, size_t pk_seed_len,
                          const uint8_t *answers, size_t answers_len, uint8_t *sk, size_t sk_len);
-
-/*
- * The name of a refusal's number, as "BadLength", in ASCII and without a zero byte inside: writes it into name, and
- * zero bytes from there to the end of name. name must have room for one zero byte at least; SLH_MAX_NAME bytes are
- * enough for each name. SLH_DONE and SLH_INVALID are not refusals. Returns: SLH_DONE; SLH_NO_SUCH_REFUSAL,
- * SLH_BAD_OUTPUT_LENGTH where name is too short.
- */
-uint32_t slh_refusal_name(uint32_t refusal, char *name, size_t name_len);
 
 #ifdef __cplusplus
 }

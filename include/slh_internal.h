@@ -18,18 +18,19 @@ extern "C" {
 #endif
 
 /*
- * Signs M' as it is (Algorithm 19), without context or form. The lengths are those of slh_sign.
+ * To hold test vectors of Algorithm 19: signs M' as it is, without context or form. The lengths are those of slh_sign.
  * Returns: SLH_DONE; SLH_NO_SUCH_SET, SLH_BAD_LENGTH, SLH_BAD_RANDOMIZER_LENGTH, SLH_BAD_OUTPUT_LENGTH.
  */
-SLH_MUST_USE
+SLH_MUST_USE SLH_API
 uint32_t slh_sign_internal(uint32_t set, const uint8_t *sk, size_t sk_len, const uint8_t *msg, size_t msg_len,
                            const uint8_t *randomizer, size_t randomizer_len, uint8_t *sig, size_t sig_len);
 
 /*
- * Whether the bytes are a valid signature of M' as it is (Algorithm 20). The lengths are those of slh_verify.
+ * To hold test vectors of Algorithm 20: whether the bytes are a valid signature of M' as it is. The lengths are those
+ * of slh_verify.
  * Returns: SLH_DONE where they are, SLH_INVALID where they are not; SLH_NO_SUCH_SET, SLH_BAD_LENGTH.
  */
-SLH_MUST_USE
+SLH_MUST_USE SLH_API
 uint32_t slh_verify_internal(uint32_t set, const uint8_t *pk, size_t pk_len, const uint8_t *msg, size_t msg_len,
                              const uint8_t *sig, size_t sig_len);
 

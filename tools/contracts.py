@@ -1,20 +1,36 @@
 #!/usr/bin/env python3
-"""Writes the tables of docs/PROVED.md from the sources: for each crate the calls that other crates have, the clauses of
-their contracts, and the must-fail edits of their bodies. A private function is listed where an edit turns it. It also
-looks whether the code on docs/CALLING.md is that of crates/slh_letter and crates/slh_examples.
+"""Writes docs/CONTRACTS.md from the sources: for each crate the calls that other crates have, the names of the clauses
+of their contracts, and the wrong bodies that the prover has to refuse, as edits in must-fail/ (tried by `rt ci`) and
+wrong/ (tried by tools/wrong_bodies.py). A private function is listed where an edit turns it. It also looks whether the
+code on docs/CALLING.md is that of crates/slh_letter and crates/slh_examples, and its lines of crates.txt.
 
-Usage: tools/contracts.py           writes the tables
-       tools/contracts.py --check   fails where a table or the code is not what the sources say
+Usage: tools/contracts.py           writes the page
+       tools/contracts.py --check   fails where the page or the code is not what the sources say
 """
+import glob
 import os
 import re
 import sys
 
 ROOT = os.path.dirname(os.path.dirname(os.path.abspath(__file__)))
-PAGE = os.path.join(ROOT, "docs", "PROVED.md")
+PAGE = os.path.join(ROOT, "docs", "CONTRACTS.md")
 CALLING = os.path.join(ROOT, "docs", "CALLING.md")
-BEGIN, END = "<!-- {}: written by tools/contracts.py -->", "<!-- end -->"
-UNNAMED = "its one clause"
+UNNAMED = "one, unnamed"
+HEAD = """# Every call, its clauses and its wrong bodies
+
+`tools/contracts.py` writes this page from the sources, and the test command fails where it differs.
+[PROVED.md](PROVED.md) says what the clauses come to.
+
+The table has for each crate the calls that it gives to others, the names of their clauses, which stand on the function
+in `crates/NAME/src`, and the wrong bodies that the prover refuses: {edits} edits in `crates/NAME/wrong`, which
+`tools/wrong_bodies.py` tries, and {few} in `crates/NAME/must-fail`, which `rt ci` tries. A private function stands here
+where an edit turns it: the calls above it rest on what it promises. "X as T" is a type's method of the trait T, with
+the trait's clauses. Calls with no edit and the same clauses share a row, below the others. "none": the function is safe
+and returns, as all do, and no more is said of it.
+
+| function | clauses | wrong bodies |
+|---|---|---|
+"""
 
 
 def read(*path):
@@ -44,7 +60,7 @@ def owner_of(line):
     """The type, trait or type with its trait that the functions below this line belong to, "" for none, or None where
     the line says nothing of it."""
     of_trait = re.match(r"(?:pub(?:\(crate\))? )?trait (\w+)", line)
-    of_impl = re.match(r"impl(?:<.*?>)? (?:(\w+)(?:<.*?>)? for )?(\w+)", line)
+    of_impl = re.match(r"impl(?:<.*?>)? (?:(\w+)(?:<.*?>)? for )?&?(\w+)", line)
     if of_trait:
         return of_trait[1]
     if of_impl:
@@ -53,8 +69,7 @@ def owner_of(line):
 
 
 def functions(crate, path):
-    """The functions of a file: line, name, whether other crates can call it, and its clauses by name, a short one
-    without a name by its text."""
+    """The functions of a file: line, name, whether other crates can call it, and its clauses by name."""
     text = read(crate, path)
     names, owner, found = exported(crate), "", []
     for number, line in enumerate(text.split("\n")):
@@ -64,46 +79,71 @@ def functions(crate, path):
             in_trait = owner and re.search(rf"^pub trait {owner}\b", text, re.M)
             is_public = bool(function[2]) or (owner or function[3]) in names and bool(function[1] or in_trait)
             found.append((number, f"{owner}::{function[3]}" if owner else function[3], is_public, []))
-        clause = re.match(r"\s*ensures(?: (\w+))? \{ ?(.*?)( \}[;,]?)?$", line)
+        clause = re.match(r"\s*ensures(?: (\w+))? \{", line)
         if clause and found:
-            short = clause[2] if clause[3] and len(clause[2]) <= 100 else UNNAMED
-            found[-1][3].append(clause[1] or short)
+            found[-1][3].append(clause[1] or UNNAMED)
     return found
 
 
 def edits(crate):
     """For each edit of a crate the file and the line that it changes first."""
-    folder = os.path.join(ROOT, "crates", crate, "must-fail")
-    for name in sorted(os.listdir(folder)) if os.path.isdir(folder) else ():
-        text = read(crate, "must-fail", name)
-        path, old = re.search(r"^file: (.*)$", text, re.M)[1], re.search(r"^old: (.*)$", text, re.M)[1]
-        yield name.removesuffix(".edit"), path, read(crate, path).partition(old)[0].count("\n")
+    for folder in ("must-fail", "wrong"):
+        top = os.path.join(ROOT, "crates", crate, folder)
+        for name in sorted(os.listdir(top)) if os.path.isdir(top) else ():
+            text = read(crate, folder, name)
+            path, old = re.search(r"^file: (.*)$", text, re.M)[1], re.search(r"^old: (.*)$", text, re.M)[1]
+            yield name.removesuffix(".edit"), path, read(crate, path).partition(old)[0].count("\n")
 
 
-def table(crate):
-    """The rows of a crate."""
-    rows, turned = [], {}
+def quoted(names):
+    return ", ".join(f"`{name}`" for name in names)
+
+
+def clauses_of(name, clauses):
+    """What a row says of a function's clauses."""
+    if not clauses:
+        return "its trait's" if " as " in name else "none"
+    return UNNAMED if set(clauses) == {UNNAMED} else quoted(clauses)
+
+
+def rows_of(crate):
+    """The rows of a crate, "" where it has no calls: its name, then a row for each function that an edit turns, and one
+    for all other calls of the same clauses."""
+    rows, others, turned = [], {}, {}
     for edit, path, line in edits(crate):
         above = [name for number, name, _, _ in functions(crate, path) if number <= line]
         turned.setdefault((path, above[-1] if above else ""), []).append(edit)
     for path in sources(crate):
         for _, name, is_public, clauses in functions(crate, path):
-            by = turned.pop((path, name), [])
-            if is_public or by:
-                what = f"`{name}`" + ("" if is_public or " as " in name else ", private")
-                said = ", ".join(it if it == UNNAMED else f"`{it}`" for it in clauses)
-                said = said or ("its trait's" if " as " in name else "none: it is safe and returns")
-                rows.append(f"| {what} | {said} | {', '.join(f'`{it}`' for it in by)} |")
-    rows += [f"| the file `{path}` | | {', '.join(f'`{it}`' for it in by)} |" for (path, _), by in turned.items()]
-    return "\n".join(["| function | clauses | must-fail edits |", "|---|---|---|", *rows]) + "\n"
+            said, by = clauses_of(name, clauses), turned.pop((path, name), [])
+            if by:
+                private = "" if is_public or " as " in name else ", private"
+                rows.append(f"| `{name}`{private} | {said} | {quoted(by)} |")
+            elif is_public:
+                others.setdefault(said, []).append(name)
+    rows += [f"| the file `{path}` | | {quoted(by)} |" for (path, _), by in turned.items()]
+    rows += [f"| {quoted(names)} | {said} | |" for said, names in others.items()]
+    return "\n".join([f"| **{crate}** | | |", *rows]) + "\n" if rows else ""
+
+
+def head():
+    few, edits = (len(glob.glob(os.path.join(ROOT, "crates", "*", kind, "*.edit"))) for kind in ("must-fail", "wrong"))
+    return HEAD.format(edits=edits, few=few)
+
+
+def crates():
+    """The crates in the order of crates.txt, but those for tests alone."""
+    with open(os.path.join(ROOT, "crates.txt")) as file:
+        names = [line.partition(":")[0].partition(" ")[0] for line in file if line.strip()]
+    return [name for name in names if not name.endswith("_tests") and name != "refusing_allocator"]
 
 
 def strange_code():
-    """Of docs/CALLING.md the first lines of code that stands in no file of slh_letter and slh_examples, and the lines of
-    crates.txt that are not there."""
+    """Of docs/CALLING.md the first lines of code that stands in no file of slh_letter and slh_examples, and the lines
+    of crates.txt that are not there."""
     files = [read(crate, path) for crate in ("slh_letter", "slh_examples") for path in sources(crate)]
-    with open(os.path.join(ROOT, "crates.txt")) as crates, open(CALLING) as page:
-        known, text = crates.read().split("\n"), page.read()
+    with open(os.path.join(ROOT, "crates.txt")) as list_of_crates, open(CALLING) as page:
+        known, text = list_of_crates.read().split("\n"), page.read()
     pieces = re.findall(r"^```rust\n(.*?)^```$", text, re.M | re.S)
     lines = "".join(re.findall(r"^```text\n(.*?)^```$", text, re.M | re.S)).splitlines()
     strange = [piece.partition("\n")[0] for piece in pieces if not any(piece in file for file in files)]
@@ -111,21 +151,18 @@ def strange_code():
 
 
 def main():
-    with open(PAGE) as file:
-        page = file.read()
-    written = page
-    for crate in re.findall(BEGIN.format(r"(\w+)"), page):
-        begin = BEGIN.format(crate) + "\n"
-        head, _, rest = written.partition(begin)
-        written = head + begin + table(crate) + END + rest.partition(END)[2]
+    written = head() + "".join(rows_of(crate) for crate in crates())
     if "--check" not in sys.argv[1:]:
         with open(PAGE, "w") as file:
             file.write(written)
-    elif written != page:
-        sys.exit("docs/PROVED.md is not what the sources say: run tools/contracts.py")
+    else:
+        with open(PAGE) as file:
+            if file.read() != written:
+                sys.exit("docs/CONTRACTS.md is not what the sources say: run tools/contracts.py")
     strange = strange_code()
     if strange:
-        sys.exit("docs/CALLING.md has what stands neither in slh_letter, slh_examples nor in crates.txt: " + "; ".join(strange))
+        sys.exit("docs/CALLING.md has what no file of slh_letter or slh_examples and no line of crates.txt has: "
+                 + "; ".join(strange))
 
 
 main()

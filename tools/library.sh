@@ -1,56 +1,104 @@
 #!/usr/bin/env bash
-# Builds the library for C and installs it:
+# Installs the library for C: the one of the release in dist/ where the sources are those that it was built of and each
+# file has the hash that is listed; else one that it builds.
 #
-#   PREFIX/include/slh.h            the header
+#   PREFIX/include/slh.h            the header, which includes
+#   PREFIX/include/slh_verify.h     what verifies, the numbers and the lengths
 #   PREFIX/include/slh_internal.h   the calls for test vectors of the internal functions
 #   PREFIX/lib/libslh.a             all calls
-#   PREFIX/lib/libslh.so            the same as a shared object
-#   PREFIX/lib/libslh_verify.a      slh_verify and slh_hash_verify alone, cut out of the same object file
-#   PREFIX/lib/pkgconfig/slh.pc     for pkg-config
+#   PREFIX/lib/libslh_verify.a      the calls of slh_verify.h alone, for firmware
+#   PREFIX/lib/libslh.so.0          all calls as a shared object, and libslh.so, a link to it for linkers
+#   PREFIX/lib/glibc-hwcaps/x86-64-v3/libslh.so.0  the same for processors of this level, which glibc takes by itself
+#   PREFIX/lib/pkgconfig/slh.pc, slh_verify.pc     for pkg-config, with the version of the file VERSION
 #
-# usage: tools/library.sh PREFIX
+# usage: tools/library.sh [--after-ci] [--target TARGET] PREFIX
 #
-# The code is for processors of the level x86-64-v2, or of the one that SLH_CPU names, as x86-64-v3. `rt lib` builds the
-# archive, which proves what is not proved yet. It needs rt, a C compiler as CC or cc, and ld, ar and strip of GNU
-# binutils.
+# TARGET is x86-64-v2, x86-64-v3, aarch64 or wasm64 (tools/target.sh says what each is): without it the level that
+# SLH_CPU names, or x86-64-v2. Shared objects are for x86-64 alone, the second one for x86-64-v2; of wasm64 there is
+# PREFIX/lib/slh.wasm alone.
+#
+# SLH_BUILD=1 takes none of dist/. Where rt is not on the path, so that nothing can be built, the release is installed
+# whatever the sources are, and it is told that they differ. A build needs rt: `rt check` proves what is not proved yet.
+# Under --after-ci it builds, and only the topmost crate is proved, over the libraries that `rt ci` has just proved and
+# built: nobody looks whether a source has changed since.
 set -euo pipefail
 here=$(cd "$(dirname "${BASH_SOURCE[0]}")/.." && pwd)
+source "$here/tools/released.sh"
+after_ci=no target=${SLH_CPU:-x86-64-v2}
+if [ "${1-}" = --after-ci ]; then
+    after_ci=yes
+    shift
+fi
+if [ "${1-}" = --target ] && [ $# -gt 1 ]; then
+    target=$2
+    shift 2
+fi
 if [ $# != 1 ]; then
-    echo "usage: tools/library.sh PREFIX" >&2
+    echo "usage: tools/library.sh [--after-ci] [--target TARGET] PREFIX" >&2
     exit 2
 fi
-mkdir -p "$1/include" "$1/lib/pkgconfig"
-prefix=$(cd "$1" && pwd)
 work=$(mktemp -d)
 trap 'rm -rf "$work"' EXIT
 
-(cd "$here/crates/slh_c" && rt lib ${SLH_CPU:+"--cpu=$SLH_CPU"}) >&2
-archive=$here/crates/slh_c/out/libslh_c.a
+# What of dist/ is installed, and where each kind of it is.
+case "$target" in
+x86-64-v2) files=(x86-64-v2/{libslh.a,libslh_verify.a,libslh.so.0} x86-64-v3/libslh.so.0) ;;
+x86-64-v3) files=(x86-64-v3/{libslh.a,libslh_verify.a,libslh.so.0}) ;;
+aarch64) files=(aarch64/{libslh.a,libslh_verify.a}) ;;
+wasm64) files=(wasm64/slh.wasm) ;;
+*)
+    echo "library.sh: no target $target" >&2
+    exit 2
+    ;;
+esac
+headers=(include/{slh.h,slh_internal.h,slh_verify.h})
+if [ "$after_ci" = no ] && takes_release "${files[@]}" "${headers[@]}"; then
+    made=$here/dist version=$(release_says version)
+    how="the release $version"
+else
+    command -v rt >/dev/null || {
+        echo "library.sh: there is nothing to install: rt is not on the path to build it" >&2
+        exit 2
+    }
+    [ "$after_ci" = yes ] || (cd "$here/crates/slh_c" && rt check) >&2
+    for level in "$target" $([ "$target" != x86-64-v2 ] || echo x86-64-v3); do
+        "$here/tools/target.sh" "$level" "$work/$level"
+    done
+    cp -r "$here/include" "$work/"
+    made=$work version=$(cat "$here/VERSION") how="built of the sources"
+fi
 
-# The linker keeps what the two calls reach, and so drops the other calls.
-(cd "$work" && ar x "$archive")
-ld -r --gc-sections -u slh_verify -u slh_hash_verify -o "$work/slh_verify.o" "$work"/slh_c.o
-strip --strip-unneeded "$work/slh_verify.o"
-ar rcsD "$work/libslh_verify.a" "$work/slh_verify.o"
+# Writes NAME.pc for the archive libNAME: NAME and a line that describes it.
+pkgconfig() {
+    cat >"$prefix/lib/pkgconfig/$1.pc" <<END
+prefix=\${pcfiledir}/../..
+includedir=\${prefix}/include
+libdir=\${prefix}/lib
 
-"${CC:-cc}" -shared -Wl,-soname,libslh.so -Wl,-z,noexecstack -Wl,-z,relro -Wl,-z,now -o "$work/libslh.so" \
-    -Wl,--whole-archive "$archive" -Wl,--no-whole-archive
-
-cat >"$work/slh.pc" <<'END'
-prefix=${pcfiledir}/../..
-includedir=${prefix}/include
-libdir=${prefix}/lib
-
-Name: slh
-Description: SLH-DSA (FIPS 205) with SHA-2, proved by machine
-Version: 0.1
-Libs: -L${libdir} -lslh
-Cflags: -I${includedir}
+Name: $1
+Description: $2
+Version: $version
+Libs: -L\${libdir} -l$1
+Cflags: -I\${includedir}
 END
+}
 
-install -m 644 "$here/include/slh.h" "$here/include/slh_internal.h" "$prefix/include/"
-install -m 644 "$archive" "$prefix/lib/libslh.a"
-install -m 644 "$work/libslh_verify.a" "$prefix/lib/libslh_verify.a"
-install -m 755 "$work/libslh.so" "$prefix/lib/libslh.so"
-install -m 644 "$work/slh.pc" "$prefix/lib/pkgconfig/slh.pc"
-echo "installed in $prefix"
+install -d "$1/lib"
+prefix=$(cd "$1" && pwd)
+if [ "$target" = wasm64 ]; then
+    install -m 644 "$made/wasm64/slh.wasm" "$prefix/lib/"
+else
+    install -d "$prefix/include" "$prefix/lib/pkgconfig"
+    install -m 644 "${headers[@]/#/$made/}" "$prefix/include/"
+    install -m 644 "$made/$target"/*.a "$prefix/lib/"
+    pkgconfig slh "SLH-DSA (FIPS 205) with SHA-2, proved by machine"
+    pkgconfig slh_verify "Verifying signatures of SLH-DSA (FIPS 205) with SHA-2, proved by machine"
+fi
+if [ -f "$made/$target/libslh.so.0" ]; then
+    install -m 755 "$made/$target/libslh.so.0" "$prefix/lib/"
+    ln -sf libslh.so.0 "$prefix/lib/libslh.so"
+fi
+if [ "$target" = x86-64-v2 ]; then
+    install -D -m 755 "$made/x86-64-v3/libslh.so.0" "$prefix/lib/glibc-hwcaps/x86-64-v3/libslh.so.0"
+fi
+echo "installed in $prefix: $how"

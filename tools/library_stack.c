@@ -1,8 +1,8 @@
 /*
- * Measures the most bytes of stack that slh_keygen, slh_sign, slh_verify, slh_sign_job and slh_sign_join of each set
- * take: each runs in a thread whose stack was filled with one byte value, and what no longer has it was used. What a
- * thread takes that does nothing is taken off. The last line tells whether all are below the limits, 64 KB and 32 KB
- * for slh_verify.
+ * Measures the most bytes of stack that slh_keygen, slh_sign, slh_verify, slh_hash_verify_digest, slh_sign_job and
+ * slh_sign_join of each set take: each runs in a thread whose stack was filled with one byte value, and what no longer
+ * has it was used. What a thread takes that does nothing is taken off. The last line tells whether all are below the
+ * limits, 64 KB, and 32 KB for the two that verify.
  */
 #define _GNU_SOURCE
 #include <slh.h>
@@ -35,6 +35,14 @@ static void *sign(void *it) {
 
 static void *verify(void *it) {
     result = slh_verify(set, sk + 2 * n, pk_len, msg, sizeof msg, ctx, sizeof ctx, sig, sig_len);
+    return it;
+}
+
+/* The signature is one of the pure form, and so invalid in this one, which shows only when all is computed. */
+static void *verify_digest(void *it) {
+    uint32_t judged = slh_hash_verify_digest(set, SLH_SHA2_256, sk + 2 * n, pk_len, msg, 32, ctx, sizeof ctx, sig,
+                                             sig_len);
+    result = judged == SLH_INVALID ? SLH_DONE : SLH_INVALID;
     return it;
 }
 
@@ -83,15 +91,18 @@ int main(void) {
     int is_within = 1;
     size_t thread = used(nothing);
     for (size_t i = 0; i < sizeof seeds; i++) seeds[i] = (uint8_t)i;
-    puts("set   keygen   sign   verify   sign_job   sign_join   bytes");
+    puts("set   keygen   sign   verify   verify_digest   sign_job   sign_join   bytes");
     for (set = 1; set <= SETS; set++) {
         if (slh_lengths(set, &pk_len, &sk_len, &sig_len, &n) != SLH_DONE) return 2;
         size_t made = used(keygen) - thread, signed_ = used(sign) - thread, verified = used(verify) - thread;
+        size_t by_digest = used(verify_digest) - thread;
         begin();
         size_t worked = used(job) - thread, joined = used(join) - thread;
         free(answers);
-        printf("%s  %6zu %6zu   %6zu     %6zu      %6zu\n", names[set - 1], made, signed_, verified, worked, joined);
-        is_within &= made < 65536 && signed_ < 65536 && verified < 32768 && worked < 65536 && joined < 65536;
+        printf("%s  %6zu %6zu   %6zu          %6zu     %6zu      %6zu\n", names[set - 1], made, signed_, verified,
+               by_digest, worked, joined);
+        is_within &= made < 65536 && signed_ < 65536 && verified < 32768 && by_digest < 32768;
+        is_within &= worked < 65536 && joined < 65536;
     }
     puts(is_within ? "below the limits" : "over a limit");
     return !is_within;

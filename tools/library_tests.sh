@@ -2,7 +2,7 @@
 # Builds the library for C by tools/library.sh into a folder of its own, and tests what was installed: its symbols, the
 # headers, the calls with valid and invalid arguments, the vectors of other implementations, the stack, the examples.
 #
-# usage: tools/library_tests.sh
+# usage: tools/library_tests.sh [--after-ci]      tools/library.sh says what --after-ci is
 #
 # It needs what tools/library.sh needs, and a C++ compiler as CXX or g++, rustc as RUSTC or rustc, python3 and
 # pkg-config. The last line has the counts, and the status is 0 where nothing failed.
@@ -12,54 +12,10 @@ cc=${CC:-cc} cxx=${CXX:-g++} rustc=${RUSTC:-rustc}
 work=$(mktemp -d)
 trap 'rm -rf "$work"' EXIT
 source "$here/tools/counts.sh"
+source "$here/tools/library_parts.sh"
 prefix=$work/prefix lib=$work/prefix/lib
-strict=(-Wall -Wextra -Werror -pedantic)
 sanitized=(-g -fsanitize=address,undefined -fno-sanitize-recover=all)
 export ASAN_OPTIONS=detect_leaks=0
-
-# Runs a command, and tells by NAME whether its status was 0. What it prints is shown where it was not.
-one() {
-    local name=$1
-    shift
-    if "$@" >"$work/said" 2>&1; then
-        tell "$name" yes
-    else
-        tail -n 20 "$work/said"
-        tell "$name" no
-    fi
-}
-
-# Runs a command whose last line is 'N passed, M failed', and adds up the counts. One that ends otherwise has failed.
-count() {
-    local name=$1 status
-    shift
-    "$@" >"$work/said" 2>&1
-    status=$?
-    add_counts $status "$work/said"
-    [ "$status" = 0 ] || tail -n 20 "$work/said"
-    echo "$name: $(tail -n 1 "$work/said")"
-}
-
-# Whether what `nm` lists of a file is just these lines. What the C runtime adds to each shared object is left out, and
-# so are memcmp and bcmp, which a compiler may call as it does the three of of_c.
-has_symbols() {
-    local file=$1
-    shift
-    nm "$@" "$file" | awk 'NF == 2 { print $1, $2 } NF == 3 { print $2, $3 }' | sed 's/@.*//' |
-        grep -Ev '^[a-z] |^[wW] (_ITM_|__cxa_finalize|__gmon_start__)|^U (memcmp|bcmp)$' |
-        LC_ALL=C sort >"$work/symbols"
-    diff "$work/symbols" -
-}
-
-calls() {
-    printf 'T slh_%s\n' answer_place check hash_sign hash_sign_digest hash_sign_start hash_verify hash_verify_digest \
-        keygen keygen_job keygen_jobs keygen_join lengths public refusal_name sign sign_internal sign_job sign_jobs \
-        sign_join sign_start verify verify_internal
-}
-
-of_c() {
-    printf 'U %s\n' memcpy memmove memset
-}
 
 # Runs an example over a fresh file: it must say that its signature is valid, and leave it beside the file, and the
 # public key under which it is. Over a file that is not there it must fail.
@@ -113,10 +69,66 @@ sys.exit(0 if len(tests) > 2 and one[1] == other[1] == 0 and len({one[2], other[
 END
 }
 
-# A program over both headers, each of them twice, with more in its one function.
+# Whether the header, the library as it runs, both pkg-config files and the shared object's name are of this version.
+is_version() {
+    local version
+    version=$(cat "$here/VERSION")
+    cat >"$work/version.c" <<'END'
+#include <slh.h>
+#include <stdio.h>
+
+int main(void) {
+    uint32_t it = slh_version();
+    printf("%s\n%d.%d.%d\n", SLH_VERSION, SLH_VERSION_MAJOR, SLH_VERSION_MINOR, SLH_VERSION_PATCH);
+    printf("%u.%u.%u\n", (unsigned)(it / 1000000), (unsigned)(it / 1000 % 1000), (unsigned)(it % 1000));
+    return it != SLH_VERSION_NUMBER;
+}
+END
+    "$cc" -std=c99 "${strict[@]}" -I "$prefix/include" "$work/version.c" "$lib/libslh.a" -o "$work/version" &&
+        "$work/version" >"$work/versions" &&
+        PKG_CONFIG_PATH=$lib/pkgconfig pkg-config --modversion slh slh_verify >>"$work/versions" &&
+        diff "$work/versions" <(printf "$version\n%.0s" 1 2 3 4 5)
+}
+
+# Whether the shared object tells loaders the name under which it is installed, and linkers find it.
+has_soname() {
+    readelf -d "$lib/libslh.so.0" | grep -q 'SONAME.*\[libslh\.so\.0\]' &&
+        [ "$(readlink "$lib/libslh.so")" = libslh.so.0 ]
+}
+
+# Whether glibc loads the shared object for x86-64-v3 where the processor has that level, and the other one where it is
+# told of no level, and the example runs over each. On a lesser processor it loads the other one alone.
+loads_by_level() {
+    local loader lesser=$lib/libslh.so.0 best=$lib/libslh.so.0
+    loader=$(readelf -l "$work/shared" | sed -n 's/.*interpreter: \(.*\)]/\1/p')
+    "$loader" --help | grep -q 'x86-64-v3 (supported' && best=$lib/glibc-hwcaps/x86-64-v3/libslh.so.0
+    [ -f "$lib/glibc-hwcaps/x86-64-v3/libslh.so.0" ] && ! cmp -s "$lib/glibc-hwcaps/x86-64-v3/libslh.so.0" "$lesser" &&
+        "$loader" --library-path "$lib" --list "$work/shared" | grep -qF "=> $best (" &&
+        "$loader" --glibc-hwcaps-mask none --library-path "$lib" --list "$work/shared" | grep -qF "=> $lesser (" &&
+        example "$loader" --library-path "$lib" "$work/shared" &&
+        example "$loader" --glibc-hwcaps-mask none --library-path "$lib" "$work/shared"
+}
+
+# A program over the headers, two of them twice, with more in its one function.
 declared() {
-    printf '#include <slh_%s.h>\n#include <slh.h>\n' internal internal
+    printf '#include <slh_%s.h>\n#include <slh.h>\n' verify internal verify internal
     printf 'int main(%s) { %s return SLH_DONE; }\n' "$1" "${2-}"
+}
+
+# The calls that headers declare, a line each.
+declares() {
+    (cd "$prefix/include" && cat "$@") | sed -n 's/^uint32_t \(slh_[a-z_]*\)(.*/T \1/p' | LC_ALL=C sort
+}
+
+is_declared_once() {
+    diff <(declares slh.h slh_verify.h slh_internal.h) <(calls | LC_ALL=C sort) &&
+        diff <(declares slh_verify.h) <(verify_calls | LC_ALL=C sort)
+}
+
+# A library of the caller's whose own names are hidden, and which calls this one.
+hidden() {
+    printf '#pragma GCC visibility push(hidden)\n#include <slh.h>\n'
+    printf 'uint32_t one(void);\nuint32_t one(void) { return slh_version(); }\n'
 }
 
 # Whether a compiler warns of a result that is not looked at, and of nothing else.
@@ -126,16 +138,18 @@ warns() {
         [ "$(grep -c error: "$work/warned")" = 1 ] && grep -q 'error: .*unused-result' "$work/warned"
 }
 
-if ! "$here/tools/library.sh" "$prefix" >"$work/said" 2>&1; then
+if ! "$here/tools/library.sh" "$@" "$prefix" >"$work/said" 2>&1; then
     tail -n 20 "$work/said"
     echo "0 passed, 1 failed"
     exit 1
 fi
 
-one "libslh.a defines the calls, and asks for three of C" has_symbols "$lib/libslh.a" < <(calls; of_c)
-one "libslh.so as well" has_symbols "$lib/libslh.so" -D < <(calls; of_c)
-one "libslh_verify.a defines two calls" has_symbols "$lib/libslh_verify.a" \
-    < <(printf 'T slh_%s\n' hash_verify verify; of_c)
+one "libslh.a defines the calls, and asks for three of C" has_symbols nm "$lib/libslh.a" < <(calls; of_c)
+one "libslh.so as well" has_symbols nm "$lib/libslh.so" -D < <(calls; of_c)
+one "libslh_verify.a defines four calls" has_symbols nm "$lib/libslh_verify.a" < <(verify_calls; of_c)
+
+one "all are of the version of the file VERSION" is_version
+one "libslh.so.0 has its name" has_soname
 
 for standard in c99 c2x; do
     one "the headers are $standard" "$cc" -std=$standard "${strict[@]}" -I "$prefix/include" -fsyntax-only -x c \
@@ -147,8 +161,11 @@ for standard in c++11 c++17; do
         <(declared '')
     one "an unused result in $standard" warns "$cxx" -std=$standard "${strict[@]}" -I "$prefix/include" -x c++
 done
-one "slh.h declares no call of the internal interface" \
-    awk '/_internal *\(/ { found = 1 } END { exit found }' "$prefix/include/slh.h"
+one "slh.h and slh_verify.h declare no call of the internal interface" \
+    awk '/_internal *\(/ { found = 1 } END { exit found }' "$prefix/include/slh.h" "$prefix/include/slh_verify.h"
+one "each call is declared once, and slh_verify.h declares those of libslh_verify.a" is_declared_once
+one "the calls are found where all else is hidden" "$cc" -shared -fPIC "${strict[@]}" -I "$prefix/include" -x c \
+    -o "$work/hidden.so" <(hidden) -x none "$lib/libslh.so" -Wl,--no-undefined
 
 one "the test program compiles" "$cc" -std=c99 "${strict[@]}" "${sanitized[@]}" -I "$prefix/include" \
     -o "$work/tests" "$here/tools/library_tests.c" "$lib/libslh.a" -pthread
@@ -171,6 +188,7 @@ one "the C example" example "$work/of_c"
 read -ra flags < <(PKG_CONFIG_PATH=$lib/pkgconfig pkg-config --cflags --libs slh)
 one "the C example compiles over the shared object" "$cc" "$here/examples/sign_file.c" "${flags[@]}" -o "$work/shared"
 one "the C example over the shared object" example env LD_LIBRARY_PATH="$lib" "$work/shared"
+one "glibc loads the shared object of the processor's level" loads_by_level
 one "the C++ example compiles" "$cxx" -std=c++11 "${strict[@]}" "${sanitized[@]}" "$here/examples/sign_file.cpp" \
     -I "$prefix/include" "$lib/libslh.a" -o "$work/of_cpp"
 one "the C++ example" example "$work/of_cpp"
@@ -181,6 +199,7 @@ one "the Rust example of threads compiles" "$rustc" -D warnings -O -L "native=$l
     "$here/examples/sign_threads.rs"
 one "the Rust example of threads gives the vectors' signatures" by_threads "$work/rust_threads"
 one "the Python example" example python3 "$here/examples/sign_file.py" "$lib/libslh.so"
+verify_example "this machine" "$lib/libslh_verify.a" env "$cc" "${sanitized[@]}" -I "$prefix/include"
 one "the C example of threads compiles" "$cc" -std=c99 "${strict[@]}" "${sanitized[@]}" \
     "$here/examples/sign_threads.c" -I "$prefix/include" "$lib/libslh.a" -pthread -o "$work/of_threads"
 one "the C example of threads gives the vectors' signatures" by_threads "$work/of_threads"

@@ -2,10 +2,18 @@
 """Holds the library for C, as a shared object, against signatures that other implementations made.
 
 usage: tools/library_vectors.py [--verify-only] LIBRARY [VECTORS]
+       tools/library_vectors.py [--few] --through COMMAND [VECTORS]
 
 LIBRARY is libslh.so as tools/library.sh installs it, VECTORS a folder of vector files (default: vectors). With
---verify-only LIBRARY has slh_verify and slh_hash_verify alone, and what needs another call is passed over. Of each test
-the calls must do what the file states:
+--verify-only LIBRARY has the calls of slh_verify.h alone, and what needs another call is passed over.
+
+With --through the calls are made by a program, as `qemu-aarch64 calls`: tools/target_calls.c says what it reads and
+writes. It must also leave its inputs as they are. Since such a program is slow, of the sign tests under a set whose
+name ends in s only the first of the pure form is run, and without jobs, and faults are left out. With --few it runs all
+verify tests, of keygen the first of each set, and of sign the first of the pure, of the internal and of the pre-hash
+forms under each set whose name ends in f, by jobs the pure one alone.
+
+Of each test the calls must do what the file states:
 
 - keygen: slh_keygen of the seeds writes the secret key, slh_public the public key, and slh_check is done;
 - sign: the call of the test's form writes exactly its signature; under a context of over 255 bytes it is refused, and
@@ -26,7 +34,10 @@ import hashlib
 import hmac
 import json
 import pathlib
+import shlex
+import subprocess
 import sys
+import threading
 
 DONE, INVALID, CONTEXT_TOO_LONG, ANSWERS_DISAGREE = 0, 30, 2, 25
 SETS = [f"SLH-DSA-SHA2-{it}" for it in ("128s", "128f", "192s", "192f", "256s", "256f")]
@@ -35,10 +46,61 @@ FUNCTIONS = ["SHA2-224", "SHA2-256", "SHA2-384", "SHA2-512", "SHA2-512/224", "SH
 RECORDS = [(16, 4, 9, 7, 12, 14), (16, 4, 3, 22, 6, 33), (24, 4, 9, 7, 14, 17)]
 RECORDS += [(24, 4, 3, 22, 8, 33), (32, 4, 8, 8, 14, 22), (32, 4, 4, 17, 9, 35)]
 
+
+
+class Through:
+    """The library behind a program that is told a call a line, and says what it returned and left in the arguments."""
+
+    def __init__(self, command):
+        self.command, self.local, self.programs = shlex.split(command), threading.local(), []
+
+    def __getattr__(self, name):
+        return lambda *arguments: self.call(name, list(arguments))
+
+    def ask(self, line):
+        if not hasattr(self.local, "program"):
+            pipes = dict(stdin=subprocess.PIPE, stdout=subprocess.PIPE, text=True)
+            self.local.program = subprocess.Popen(self.command, **pipes)
+            self.programs.append(self.local.program)
+        program = self.local.program
+        program.stdin.write(line + "\n")
+        program.stdin.flush()
+        return program.stdout.readline().split() or sys.exit(f"{self.command[-1]} ended at {line[:60]}")
+
+    def end(self):
+        """Ends the programs, and so has the processor time that they took counted. Whether each ended well."""
+        for it in self.programs:
+            it.stdin.close()
+        return not any([it.wait() for it in self.programs])
+
+    def call(self, name, arguments):
+        words, memory = [name], []
+        while arguments:
+            it = arguments.pop(0)
+            if hasattr(it, "_obj"):
+                words.append("p" + bytes(it._obj).hex())
+                memory.append(it._obj)
+            elif isinstance(it, (bytes, ctypes.Array)):
+                words.append("b" + bytes(it).hex()[: 2 * arguments.pop(0).value])
+                memory.append(it)
+            else:
+                words.append(f"n{getattr(it, 'value', it)}")
+        result, *left = self.ask(" ".join(words))
+        for it, found in zip(memory, left, strict=True):
+            if not isinstance(it, bytes):
+                ctypes.memmove(ctypes.byref(it), bytes.fromhex(found[1:]), ctypes.sizeof(it))
+            elif it.hex() != found[1:]:
+                sys.exit(f"{name} changed an input")
+        return int(result)
+
+
 words = sys.argv[1:]
-verify_only = words[0] == "--verify-only"
-library, vectors = (words[verify_only:] + [pathlib.Path(__file__).resolve().parent.parent / "vectors"])[:2]
-library, vectors = ctypes.CDLL(str(pathlib.Path(library).resolve())), pathlib.Path(vectors)
+few = "--few" in words[:1]
+verify_only, is_through = words[few] == "--verify-only", words[few] == "--through"
+here = pathlib.Path(__file__).resolve().parent.parent
+library, vectors = (words[few + (verify_only or is_through) :] + [here / "vectors"])[:2]
+library = Through(library) if is_through else ctypes.CDLL(str(pathlib.Path(library).resolve()))
+vectors = pathlib.Path(vectors)
 
 
 def call(name, *arguments):
@@ -75,10 +137,10 @@ def calls(test, verb, key, *rest):
     if form == "pure":
         return [(f"slh_{verb}", number, key, message, context, *rest)]
     function = FUNCTIONS.index(form) + 1
-    found = [(f"slh_hash_{verb}", number, function, key, message, context, *rest)]
-    if not verify_only:
-        found.append((f"slh_hash_{verb}_digest", number, function, key, digest(form, message), context, *rest))
-    return found
+    return [
+        (f"slh_hash_{verb}", number, function, key, message, context, *rest),
+        (f"slh_hash_{verb}_digest", number, function, key, digest(form, message), context, *rest),
+    ]
 
 
 def keygen_passes(test):
@@ -161,9 +223,10 @@ def sign_passes(test):
         result = call(name, *arguments, out)
         if (result, out.raw) != ((CONTEXT_TOO_LONG, before) if is_refused else (DONE, wanted)):
             return False
-    if test["form"] == "internal":
+    if test["form"] == "internal" or (is_through and test["set"].endswith("s")) or (few and test["form"] != "pure"):
         return True
-    return all(jobs_pass(test, *cut, None if is_refused else wanted) for cut in ((1, 1), (3, 4)))
+    cuts = [(1, 1)] if few else [(1, 1), (3, 4)]
+    return all(jobs_pass(test, *cut, None if is_refused else wanted) for cut in cuts)
 
 
 def faults_pass(test):
@@ -195,11 +258,34 @@ def verify_passes(test):
 PASSES = {"keygen": keygen_passes, "sign": sign_passes, "faults": faults_pass, "verify": verify_passes}
 
 
+def kind_of(test):
+    """The kind, the set and the form of a test, where the forms of pre-hash functions count as one."""
+    form = test.get("form")
+    return test["kind"], test["set"], form if form in (None, "pure", "internal") else "pre-hash"
+
+
+def chosen(tests):
+    """The tests that are run through a slow program."""
+    first = {}
+    for it in tests:
+        first.setdefault(kind_of(it[2]), it)
+    firsts = list(first.values())
+    for it in tests:
+        kind, name, form = kind_of(it[2])
+        is_first, is_slow = it in firsts, name.endswith("s")
+        if kind == "verify" or (kind == "keygen" and (is_first or not few)):
+            yield it
+        elif kind == "sign" and ((is_first and form == "pure" and not few) if is_slow else (is_first or not few)):
+            yield it
+
+
 def main():
     tests = []
     for path in sorted(set(vectors.glob("*.json")) - {vectors / "records.json"}):
         tests += [(path.name, number, test) for number, test in enumerate(json.loads(path.read_text()), 1)]
-    for name in SETS[1::2]:
+    if is_through:
+        tests = list(chosen(tests))
+    for name in [] if is_through else SETS[1::2]:
         pure = [it for it in tests if (it[2]["kind"], it[2]["set"], it[2].get("form")) == ("sign", name, "pure")]
         tests += [(file, number, dict(test, kind="faults")) for file, number, test in pure[:1]]
     if verify_only:
@@ -209,6 +295,8 @@ def main():
     for (name, number, test), well in zip(tests, passes):
         if not well:
             print(f"{name} test {number} {test['kind']} {test['set']}: fail")
+    if is_through:
+        passes.append(library.end())
     failed = passes.count(False)
     print(f"{len(passes) - failed} passed, {failed} failed")
     sys.exit(1 if failed or not passes else 0)

@@ -218,6 +218,12 @@ run vectors --file many
 check "a vector file of 1,200 tests" wrote report
 run vectors --file many --workers 3
 check "the same by three workers" wrote report
+{
+    printf '[%.0s' {1..100000}
+    printf ']%.0s' {1..100000}
+} >deep
+run vectors --file deep
+check "a vector file of 100,000 lists in one another" refused "21 NotJson"
 context=$(printf 'a5%.0s' {1..255})
 run $sign --context "$context"
 cp output sig_of_context

@@ -32,7 +32,7 @@ one_failed() {
 "$program" params >"$work/report" 2>"$work/errors"
 
 for file in "$vectors"/*.json; do
-    # Its rows are of parameter records, which no vector file names: slh_conformance tests them.
+    # Its rows are of parameter records, which no vector file names: tools/interchange.py and tools/tables.sh test them.
     [ "${file##*/}" != records.json ] || continue
     name=$(basename "$file")
     tests=$(grep -c '"kind":' "$file")

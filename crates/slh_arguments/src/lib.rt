@@ -2,7 +2,7 @@
 #![tactic(auto)]
 
 ghost use Rattle.std.specs.Prelude.{◌≡◌, [], IfOk};
-ghost use Rattle.clap.specs.Words.{app_of};
+ghost use Rattle.clap.specs.Words.{Shape, app_of, with_subcommand};
 ghost use Rattle.slh_arguments.specs.Command.{CommandIs, no_command, subcommand};
 ghost use Rattle.slh_arguments.specs.Command.{check_shape, key_app, keygen_shape, message_app, params_shape, public_shape, root_shape, seed_app, sign_shape, slh_app, upgrade_shape, vectors_shape, verify_shape};
 
@@ -162,38 +162,46 @@ fn no_command<'a>(alloc: Global, about: &'a str, help: &'a str) -> Result<Comman
         .bin_name("slh")
 }
 
+/// The program with one more subcommand, where that was made.
+fn with_subcommand<'a>(
+    program: Command<'a>,
+    made: Result<Command<'a>, AllocError>,
+) -> Result<Command<'a>, AllocError>
+    ensures { (s : Shape) → IfOk made.entry (CommandIs s) → IfOk result (λ c. app_of c ≡ with_subcommand (app_of program.entry) s) }
+{
+    program.subcommand(made?)
+}
+
 /// The program with the commands that take no key file.
 fn seed_commands<'a>(alloc: Global) -> Result<Command<'a>, AllocError>
     ensures { IfOk result (λ c. app_of c ≡ seed_app) }
 {
-    no_command(alloc, ABOUT, STATUS_HELP)?
-        .subcommand(params_command(alloc)?)?
-        .subcommand(root_command(alloc)?)?
-        .subcommand(keygen_command(alloc)?)
+    let program = no_command(alloc, ABOUT, STATUS_HELP)?;
+    let program = with_subcommand(program, params_command(alloc))?;
+    let program = with_subcommand(program, root_command(alloc))?;
+    with_subcommand(program, keygen_command(alloc))
 }
 
 /// The program with `public` and `sign` too.
 fn message_commands<'a>(alloc: Global) -> Result<Command<'a>, AllocError>
     ensures { IfOk result (λ c. app_of c ≡ message_app) }
 {
-    seed_commands(alloc)?
-        .subcommand(public_command(alloc)?)?
-        .subcommand(sign_command(alloc)?)
+    let program = with_subcommand(seed_commands(alloc)?, public_command(alloc))?;
+    with_subcommand(program, sign_command(alloc))
 }
 
 /// The program with all commands on key files.
 fn key_commands<'a>(alloc: Global) -> Result<Command<'a>, AllocError>
     ensures { IfOk result (λ c. app_of c ≡ key_app) }
 {
-    message_commands(alloc)?
-        .subcommand(verify_command(alloc)?)?
-        .subcommand(check_command(alloc)?)?
-        .subcommand(upgrade_command(alloc)?)
+    let program = with_subcommand(message_commands(alloc)?, verify_command(alloc))?;
+    let program = with_subcommand(program, check_command(alloc))?;
+    with_subcommand(program, upgrade_command(alloc))
 }
 
 /// The program `slh` with its subcommands.
 pub fn slh_command<'a>(alloc: Global) -> Result<Command<'a>, AllocError>
     ensures { IfOk result (λ c. app_of c ≡ slh_app) }
 {
-    key_commands(alloc)?.subcommand(vectors_command(alloc)?)
+    with_subcommand(key_commands(alloc)?, vectors_command(alloc))
 }

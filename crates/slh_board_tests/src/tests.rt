@@ -1,6 +1,6 @@
-use super::*;
+use crate::threads::run;
 use linked_list_allocator::LocalHeap;
-use slh_board::{BoardFault, Tally};
+use slh_board::{Board, BoardFault, Claim, Seat, Tally};
 use std::alloc::AllocError;
 use std::fmt::Debug;
 use std::process::Abort;

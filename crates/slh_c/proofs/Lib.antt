@@ -1,1 +1,3 @@
 pub mod Begun
+mod Judged
+mod Numbered

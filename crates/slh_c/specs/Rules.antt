@@ -1,5 +1,5 @@
 -- What the calls ask of their arguments, in the order in which it is judged.
-use Rattle.std.specs.Prelude.{ℕ, ◌+◌, ◌*◌, ◌==◌, ◌||◌, nat_lt, nat_le, Bool, false, if◌then◌else◌, List, [], ◌∷◌, length, Option, None, Some}
+use Rattle.std.specs.Prelude.{⊤, ◌≡◌, ℕ, ◌+◌, ◌*◌, ◌==◌, ◌||◌, nat_lt, nat_le, true, false, if◌then◌else◌, List, [], ◌∷◌, length, Option, None, Some}
 use Rattle.slh_params.specs.Params.{pk_len, sk_len, sig_len}
 use Rattle.slh_params.specs.ParamSet.{params}
 use Rattle.slh_params.specs.declared.param_set.ParamSet.{ParamSet}
@@ -13,17 +13,18 @@ use Rattle.slh_c.specs.Cuttings.{levels_of}
 use Rattle.slh_c.specs.Numbers.{set_numbered, function_numbered}
 use Rattle.slh_c.specs.Refusals.{number, name, refusal_numbered}
 use Rattle.slh_c.specs.declared.refusal.Refusal.{Refusal}
+use Rattle.slh_c.specs.declared.rules.Rule.{Rule}
 use Rattle.slh_c.specs.declared.refusal.Refusal.TheVariants.{ContextTooLong, BadLength, BadCutting, NoSuchSet, NoSuchFunction, BadSeedLength, BadDigestLength, BadRandomizerLength, BadOutputLength, NoSuchRefusal, BadAnswersLength, NoSuchJob, BadStartLength}
-
--- what is asked of an argument, and the refusal where it does not hold
-pub record Rule : Type 0 where
-  pub is_met : Bool
-  pub refusal : Refusal
 
 -- the number of the first rule that is not met, and 0 where all are
 abbrev pub first_refusal : List Rule → ℕ
 first_refusal [] = 0
 first_refusal (rule ∷ rules) = if rule.is_met then first_refusal rules else number rule.refusal
+
+-- all rules are met
+abbrev pub AreMet : List Rule → Type 0
+AreMet [] = ⊤
+AreMet (rule ∷ rules) = (rule.is_met ≡ true) × AreMet rules
 
 -- that a number is one of something, and then the rules for what it is of
 abbrev pub numbered : {A : Type 0} → Option A → Refusal → (A → List Rule) → List Rule

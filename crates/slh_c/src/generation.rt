@@ -11,9 +11,9 @@ ghost use Rattle.slh_c.specs.Refusals.{number};
 ghost use Rattle.slh_c.specs.Rules.{first_refusal, keygen_jobs_rules, keygen_job_rules, keygen_join_rules};
 ghost use Rattle.slh_c.specs.declared.refusal.Refusal.TheVariants.{AnswersDisagree};
 
-use crate::cuttings::levels_of;
-use crate::numbers::set_of;
+use crate::cuttings::cut_of;
 use crate::refusal::{DONE, Refusal};
+use crate::rules::{self, judge};
 use slh_jobs::{Levels, key_answer_len, keygen_job, keygen_jobs, keygen_join};
 
 /// Writes how many jobs the generation of a key has where the XMSS tree of the top layer is cut by these levels, and
@@ -31,11 +31,9 @@ pub extern "C" fn slh_keygen_jobs(
         (jobs.new ≡ key_jobs c) × (answer.new ≡ 2 * (params c.set).n)) }
     ensures refused { result ≢ DONE → (jobs.new ≡ jobs.old) × (answer.new ≡ answer.old) }
 {
-    let Some(set) = set_of(set) else {
-        return Refusal::NoSuchSet.number();
-    };
-    let Some(levels) = levels_of(set, xmss_levels, 0) else {
-        return Refusal::BadCutting.number();
+    let levels = match cut_of(set, xmss_levels, 0) {
+        Ok(levels) => levels,
+        Err(refusal) => return refusal.number(),
     };
     *jobs = keygen_jobs(&levels);
     *answer = key_answer_len(levels.set);
@@ -61,21 +59,20 @@ pub extern "C" fn slh_keygen_job(
         answer.new ≡ key_answer c sk_seed.now sk_prf.now pk_seed.now job) }
     ensures refused { result ≢ DONE → answer.new ≡ answer.old }
 {
-    let Some(set) = set_of(set) else {
-        return Refusal::NoSuchSet.number();
-    };
-    let Some(levels) = levels_of(set, xmss_levels, 0) else {
-        return Refusal::BadCutting.number();
+    let levels = match cut_of(set, xmss_levels, 0) {
+        Ok(levels) => levels,
+        Err(refusal) => return refusal.number(),
     };
     if job >= keygen_jobs(&levels) {
         return Refusal::NoSuchJob.number();
     }
-    let n = levels.set.n();
-    if sk_seed.len() != n || sk_prf.len() != n || pk_seed.len() != n {
-        return Refusal::BadSeedLength.number();
-    }
-    if answer.len() != key_answer_len(levels.set) {
-        return Refusal::BadOutputLength.number();
+    if let Err(refusal) = judge(&[
+        rules::seed(levels.set, sk_seed),
+        rules::seed(levels.set, sk_prf),
+        rules::seed(levels.set, pk_seed),
+        rules::output(key_answer_len(levels.set), answer),
+    ]) {
+        return refusal.number();
     }
     keygen_job(&levels, sk_seed, sk_prf, pk_seed, job, answer);
     DONE
@@ -104,22 +101,15 @@ fn join_levels(
     ensures answers { IfOk result (λ levels. length answers.now ≡ key_jobs levels * (2 * (params levels.set).n)) }
     ensures sk { IfOk result (λ levels. length sk.now ≡ sk_len (params levels.set)) }
 {
-    let Some(set) = set_of(set) else {
-        return Err(Refusal::NoSuchSet);
-    };
-    let Some(levels) = levels_of(set, xmss_levels, 0) else {
-        return Err(Refusal::BadCutting);
-    };
-    let n = levels.set.n();
-    if sk_seed.len() != n || sk_prf.len() != n || pk_seed.len() != n {
-        return Err(Refusal::BadSeedLength);
-    }
-    if sk.len() != levels.set.sk_len() {
-        return Err(Refusal::BadOutputLength);
-    }
-    if answers.len() != keygen_jobs(&levels) as usize * key_answer_len(levels.set) {
-        return Err(Refusal::BadAnswersLength);
-    }
+    let levels = cut_of(set, xmss_levels, 0)?;
+    let answers_len = keygen_jobs(&levels) as usize * key_answer_len(levels.set);
+    judge(&[
+        rules::seed(levels.set, sk_seed),
+        rules::seed(levels.set, sk_prf),
+        rules::seed(levels.set, pk_seed),
+        rules::output(levels.set.sk_len(), sk),
+        rules::has_len(answers, answers_len, Refusal::BadAnswersLength),
+    ])?;
     Ok(levels)
 }
 

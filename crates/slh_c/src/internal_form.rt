@@ -8,9 +8,10 @@ ghost use Rattle.slh_c.specs.Numbers.{InSet};
 ghost use Rattle.slh_c.specs.Rules.{first_refusal, sign_internal_rules, verify_rules};
 
 use crate::numbers::set_of;
-use crate::randomizer::randomizer_of;
+use crate::randomizer::signer_of;
 use crate::refusal::{DONE, INVALID, Refusal};
-use slh_core::{PublicKey, SecretKey, sign_internal, verify_internal};
+use crate::rules::{self, judge};
+use slh_core::{PublicKey, sign_internal, verify_internal};
 
 /// Signs M' as it is (FIPS 205, Algorithm 19). The lengths are those of `slh_sign`. Refused, with nothing written,
 /// by `sign_internal_rules`: a number that is not a set's, a key, randomizer or output of another length.
@@ -33,15 +34,14 @@ pub extern "C" fn slh_sign_internal(
     let Some(set) = set_of(set) else {
         return Refusal::NoSuchSet.number();
     };
-    let Ok(sk) = SecretKey::from_bytes(set, sk) else {
-        return Refusal::BadLength.number();
-    };
-    let Some(randomizer) = randomizer_of(set, randomizer) else {
-        return Refusal::BadRandomizerLength.number();
-    };
-    if sig.len() != set.sig_len() {
-        return Refusal::BadOutputLength.number();
+    if let Err(refusal) = judge(&[
+        rules::secret(set, sk),
+        rules::randomizer(set, randomizer),
+        rules::output(set.sig_len(), sig),
+    ]) {
+        return refusal.number();
     }
+    let (sk, randomizer) = signer_of(set, sk, randomizer);
     sign_internal(&[msg], &sk, randomizer, sig);
     DONE
 }

@@ -1,24 +1,27 @@
 //! A signature as jobs for threads of the caller's own: how many jobs, and what each writes.
-ghost use Rattle.std.specs.Prelude.{◌≡◌, ◌≢◌, ◌↔◌};
+ghost use Rattle.std.specs.Prelude.{◌≡◌, ◌≢◌, ◌↔◌, ◌<◌, length, Some, IsOk, IfOk, IfErr};
 ghost use Rattle.slh_params.specs.ParamSet.{params};
 ghost use Rattle.slh_core.specs.Messages.{pure_message, pre_hash_message};
 ghost use Rattle.slh_core.specs.PreHash.{PH};
 ghost use Rattle.slh_jobs.specs.Jobs.{jobs, start_of, len_of, answers_len, answer_of};
 ghost use Rattle.slh_jobs.specs.Starts.{IsStart};
 ghost use Rattle.slh_jobs.specs.Tags.{start_len};
-ghost use Rattle.slh_c.specs.Cuttings.{WithLevels};
+ghost use Rattle.slh_c.specs.Cuttings.{WithLevels, levels_of};
 ghost use Rattle.slh_c.specs.Keys.{key, start_by};
-ghost use Rattle.slh_c.specs.Numbers.{InSet, WithFunction};
+ghost use Rattle.slh_c.specs.Numbers.{InSet, WithFunction, set_numbered};
 ghost use Rattle.slh_c.specs.Refusals.{number};
 ghost use Rattle.slh_c.specs.Rules.{first_refusal, sign_jobs_rules, answer_rules, sign_start_rules, hash_sign_start_rules, sign_job_rules};
 ghost use Rattle.slh_c.specs.declared.refusal.Refusal.TheVariants.{BadStart};
 
-use crate::cuttings::levels_of;
+use crate::cuttings::cut_of;
 use crate::numbers::{function_of, set_of};
-use crate::randomizer::randomizer_of;
+use crate::randomizer::signer_of;
 use crate::refusal::{DONE, Refusal};
+use crate::rules::{self, judge};
 use slh_core::{Form, SecretKey};
-use slh_jobs::{answer_len, answer_start, answers_len, sign_job, sign_jobs, sign_start, start_len};
+use slh_jobs::{
+    Levels, answer_len, answer_start, answers_len, sign_job, sign_jobs, sign_start, start_len,
+};
 
 /// Writes how many jobs a signature has where its XMSS trees and its FORS trees are cut by these levels, the length of
 /// a start and that of the answers of all jobs, in bytes. Refused, with nothing written, by `sign_jobs_rules`: a number
@@ -37,11 +40,9 @@ pub extern "C" fn slh_sign_jobs(
         × (start.new ≡ start_len (params c.set)) × (answers.new ≡ answers_len c)) }
     ensures refused { result ≢ DONE → (count.new ≡ count.old) × (start.new ≡ start.old) × (answers.new ≡ answers.old) }
 {
-    let Some(set) = set_of(set) else {
-        return Refusal::NoSuchSet.number();
-    };
-    let Some(levels) = levels_of(set, xmss_levels, fors_levels) else {
-        return Refusal::BadCutting.number();
+    let levels = match cut_of(set, xmss_levels, fors_levels) {
+        Ok(levels) => levels,
+        Err(refusal) => return refusal.number(),
     };
     *count = sign_jobs(&levels);
     *start = start_len(levels.set);
@@ -65,11 +66,9 @@ pub extern "C" fn slh_answer_place(
         (at.new ≡ start_of c job) × (len.new ≡ len_of c job)) }
     ensures refused { result ≢ DONE → (at.new ≡ at.old) × (len.new ≡ len.old) }
 {
-    let Some(set) = set_of(set) else {
-        return Refusal::NoSuchSet.number();
-    };
-    let Some(levels) = levels_of(set, xmss_levels, fors_levels) else {
-        return Refusal::BadCutting.number();
+    let levels = match cut_of(set, xmss_levels, fors_levels) {
+        Ok(levels) => levels,
+        Err(refusal) => return refusal.number(),
     };
     if job >= sign_jobs(&levels) {
         return Refusal::NoSuchJob.number();
@@ -100,18 +99,18 @@ pub extern "C" fn slh_sign_start(
     let Some(set) = set_of(set) else {
         return Refusal::NoSuchSet.number();
     };
-    let Ok(sk) = SecretKey::from_bytes(set, sk) else {
-        return Refusal::BadLength.number();
-    };
-    let Some(randomizer) = randomizer_of(set, randomizer) else {
-        return Refusal::BadRandomizerLength.number();
-    };
-    if start.len() != start_len(set) {
-        return Refusal::BadOutputLength.number();
+    if let Err(refusal) = judge(&[
+        rules::secret(set, sk),
+        rules::randomizer(set, randomizer),
+        rules::output(start_len(set), start),
+        rules::context(ctx),
+    ]) {
+        return refusal.number();
     }
+    let (sk, randomizer) = signer_of(set, sk, randomizer);
     match sign_start(Form::Pure, msg, ctx, &sk, randomizer, start) {
         Ok(()) => DONE,
-        Err(_) => Refusal::ContextTooLong.number(),
+        Err(_) => unreachable!(),
     }
 }
 
@@ -141,19 +140,53 @@ pub extern "C" fn slh_hash_sign_start(
     let Some(function) = function_of(function) else {
         return Refusal::NoSuchFunction.number();
     };
-    let Ok(sk) = SecretKey::from_bytes(set, sk) else {
-        return Refusal::BadLength.number();
-    };
-    let Some(randomizer) = randomizer_of(set, randomizer) else {
-        return Refusal::BadRandomizerLength.number();
-    };
-    if start.len() != start_len(set) {
-        return Refusal::BadOutputLength.number();
+    if let Err(refusal) = judge(&[
+        rules::secret(set, sk),
+        rules::randomizer(set, randomizer),
+        rules::output(start_len(set), start),
+        rules::context(ctx),
+    ]) {
+        return refusal.number();
     }
+    let (sk, randomizer) = signer_of(set, sk, randomizer);
     match sign_start(Form::PreHash(function), msg, ctx, &sk, randomizer, start) {
         Ok(()) => DONE,
-        Err(_) => Refusal::ContextTooLong.number(),
+        Err(_) => unreachable!(),
     }
+}
+
+/// The levels and the secret key of the arguments of `slh_sign_job`. Refused by `sign_job_rules`.
+fn job_arguments(
+    set: u32,
+    xmss_levels: u32,
+    fors_levels: u32,
+    sk: &[u8],
+    start: &[u8],
+    job: u32,
+    answer: &[u8],
+) -> Result<(Levels, SecretKey), Refusal>
+    ensures ok { IsOk result ↔ (first_refusal (sign_job_rules set xmss_levels fors_levels sk.now start.now job answer.now) ≡ DONE) }
+    ensures refused { IfErr result (λ refusal. number refusal ≡ first_refusal (sign_job_rules set xmss_levels fors_levels sk.now start.now job answer.now)) }
+    ensures set { IfOk result (λ it. set_numbered set ≡ Some it.0.set) }
+    ensures levels { IfOk result (λ it. levels_of it.0.set xmss_levels fors_levels ≡ Some it.0) }
+    ensures key { IfOk result (λ it. it.1 ≡ key it.0.set sk.now) }
+    ensures start { IfOk result (λ it. length start.now ≡ start_len (params it.0.set)) }
+    ensures job { IfOk result (λ it. job < jobs it.0) }
+    ensures answer { IfOk result (λ it. length answer.now ≡ len_of it.0 job) }
+{
+    let levels = cut_of(set, xmss_levels, fors_levels)?;
+    if job >= sign_jobs(&levels) {
+        return Err(Refusal::NoSuchJob);
+    }
+    judge(&[
+        rules::secret(levels.set, sk),
+        rules::begun(levels.set, start),
+        rules::output(answer_len(&levels, job), answer),
+    ])?;
+    let Ok(sk) = SecretKey::from_bytes(levels.set, sk) else {
+        unreachable!()
+    };
+    Ok((levels, sk))
 }
 
 /// Writes the answer of a job of the signature that `start` begins. Refused, with nothing written, by `sign_job_rules`:
@@ -181,24 +214,10 @@ pub extern "C" fn slh_sign_job(
         answer.new ≡ answer_of c (key c.set sk.now) start.now job) }
     ensures refused { result ≢ DONE → answer.new ≡ answer.old }
 {
-    let Some(set) = set_of(set) else {
-        return Refusal::NoSuchSet.number();
+    let (levels, sk) = match job_arguments(set, xmss_levels, fors_levels, sk, start, job, answer) {
+        Ok(arguments) => arguments,
+        Err(refusal) => return refusal.number(),
     };
-    let Some(levels) = levels_of(set, xmss_levels, fors_levels) else {
-        return Refusal::BadCutting.number();
-    };
-    if job >= sign_jobs(&levels) {
-        return Refusal::NoSuchJob.number();
-    }
-    let Ok(sk) = SecretKey::from_bytes(levels.set, sk) else {
-        return Refusal::BadLength.number();
-    };
-    if start.len() != start_len(levels.set) {
-        return Refusal::BadStartLength.number();
-    }
-    if answer.len() != answer_len(&levels, job) {
-        return Refusal::BadOutputLength.number();
-    }
     match sign_job(&levels, &sk, start, job, answer) {
         Ok(()) => DONE,
         Err(_) => Refusal::BadStart.number(),

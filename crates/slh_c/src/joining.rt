@@ -15,11 +15,11 @@ ghost use Rattle.slh_c.specs.Refusals.{number};
 ghost use Rattle.slh_c.specs.Rules.{first_refusal, sign_join_rules};
 ghost use Rattle.slh_c.specs.declared.refusal.Refusal.TheVariants.{AnswersDisagree, BadStart};
 
-use crate::cuttings::levels_of;
-use crate::numbers::set_of;
+use crate::cuttings::cut_of;
 use crate::refusal::{DONE, Refusal};
+use crate::rules::{self, judge};
 use slh_core::SecretKey;
-use slh_jobs::{JobFault, Levels, answers_len, sign_join, start_len};
+use slh_jobs::{JobFault, Levels, answers_len, sign_join};
 
 /// The levels and the secret key of the arguments of `slh_sign_join`. Refused by `sign_join_rules`.
 fn join_arguments(
@@ -40,24 +40,16 @@ fn join_arguments(
     ensures answers { IfOk result (λ it. length answers.now ≡ answers_len it.0) }
     ensures sig { IfOk result (λ it. length sig.now ≡ sig_len (params it.0.set)) }
 {
-    let Some(set) = set_of(set) else {
-        return Err(Refusal::NoSuchSet);
-    };
-    let Some(levels) = levels_of(set, xmss_levels, fors_levels) else {
-        return Err(Refusal::BadCutting);
-    };
+    let levels = cut_of(set, xmss_levels, fors_levels)?;
+    judge(&[
+        rules::secret(levels.set, sk),
+        rules::begun(levels.set, start),
+        rules::output(levels.set.sig_len(), sig),
+        rules::has_len(answers, answers_len(&levels), Refusal::BadAnswersLength),
+    ])?;
     let Ok(sk) = SecretKey::from_bytes(levels.set, sk) else {
-        return Err(Refusal::BadLength);
+        unreachable!()
     };
-    if start.len() != start_len(levels.set) {
-        return Err(Refusal::BadStartLength);
-    }
-    if sig.len() != levels.set.sig_len() {
-        return Err(Refusal::BadOutputLength);
-    }
-    if answers.len() != answers_len(&levels) {
-        return Err(Refusal::BadAnswersLength);
-    }
     Ok((levels, sk))
 }
 

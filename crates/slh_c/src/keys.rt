@@ -8,6 +8,7 @@ ghost use Rattle.slh_c.specs.Rules.{first_refusal, lengths_rules, keygen_rules, 
 
 use crate::numbers::set_of;
 use crate::refusal::{DONE, INVALID, Refusal};
+use crate::rules::{self, judge};
 use slh_core::{SecretKey, check_pair, keygen_internal};
 
 /// Writes the lengths of a set's public keys, secret keys and signatures in bytes, and n. Refused, with nothing
@@ -55,12 +56,13 @@ pub extern "C" fn slh_keygen(
     let Some(set) = set_of(set) else {
         return Refusal::NoSuchSet.number();
     };
-    let n = set.n();
-    if sk_seed.len() != n || sk_prf.len() != n || pk_seed.len() != n {
-        return Refusal::BadSeedLength.number();
-    }
-    if sk.len() != set.sk_len() {
-        return Refusal::BadOutputLength.number();
+    if let Err(refusal) = judge(&[
+        rules::seed(set, sk_seed),
+        rules::seed(set, sk_prf),
+        rules::seed(set, pk_seed),
+        rules::output(set.sk_len(), sk),
+    ]) {
+        return refusal.number();
     }
     sk.copy_from_slice(keygen_internal(set, sk_seed, sk_prf, pk_seed).bytes());
     DONE

@@ -19,3 +19,5 @@ mod pre_hash_form;
 mod pure_form;
 mod randomizer;
 mod refusal;
+mod rules;
+mod version;

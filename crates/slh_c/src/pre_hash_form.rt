@@ -10,11 +10,11 @@ ghost use Rattle.slh_c.specs.Numbers.{InSet, WithFunction};
 ghost use Rattle.slh_c.specs.Rules.{first_refusal, hash_sign_rules, hash_sign_digest_rules, hash_verify_rules, hash_verify_digest_rules};
 
 use crate::numbers::{function_of, set_of};
-use crate::randomizer::randomizer_of;
+use crate::randomizer::signer_of;
 use crate::refusal::{DONE, INVALID, Refusal};
+use crate::rules::{self, judge};
 use slh_core::{
-    MessageDigest, PublicKey, SecretKey, hash_sign, hash_sign_digest, hash_verify,
-    hash_verify_digest,
+    MessageDigest, PublicKey, hash_sign, hash_sign_digest, hash_verify, hash_verify_digest,
 };
 
 /// Signs a message by its digest under a pre-hash function, and under a context (FIPS 205, Algorithm 23). The lengths
@@ -44,18 +44,18 @@ pub extern "C" fn slh_hash_sign(
     let Some(function) = function_of(function) else {
         return Refusal::NoSuchFunction.number();
     };
-    let Ok(sk) = SecretKey::from_bytes(set, sk) else {
-        return Refusal::BadLength.number();
-    };
-    let Some(randomizer) = randomizer_of(set, randomizer) else {
-        return Refusal::BadRandomizerLength.number();
-    };
-    if sig.len() != set.sig_len() {
-        return Refusal::BadOutputLength.number();
+    if let Err(refusal) = judge(&[
+        rules::secret(set, sk),
+        rules::randomizer(set, randomizer),
+        rules::output(set.sig_len(), sig),
+        rules::context(ctx),
+    ]) {
+        return refusal.number();
     }
+    let (sk, randomizer) = signer_of(set, sk, randomizer);
     match hash_sign(msg, ctx, function, &sk, randomizer, sig) {
         Ok(()) => DONE,
-        Err(_) => Refusal::ContextTooLong.number(),
+        Err(_) => unreachable!(),
     }
 }
 
@@ -122,21 +122,22 @@ pub extern "C" fn slh_hash_sign_digest(
     let Some(function) = function_of(function) else {
         return Refusal::NoSuchFunction.number();
     };
-    let Ok(sk) = SecretKey::from_bytes(set, sk) else {
-        return Refusal::BadLength.number();
-    };
-    let Some(digest) = MessageDigest::from_bytes(function, digest) else {
-        return Refusal::BadDigestLength.number();
-    };
-    let Some(randomizer) = randomizer_of(set, randomizer) else {
-        return Refusal::BadRandomizerLength.number();
-    };
-    if sig.len() != set.sig_len() {
-        return Refusal::BadOutputLength.number();
+    if let Err(refusal) = judge(&[
+        rules::secret(set, sk),
+        rules::digest(function, digest),
+        rules::randomizer(set, randomizer),
+        rules::output(set.sig_len(), sig),
+        rules::context(ctx),
+    ]) {
+        return refusal.number();
     }
+    let (sk, randomizer) = signer_of(set, sk, randomizer);
+    let Some(digest) = MessageDigest::from_bytes(function, digest) else {
+        unreachable!()
+    };
     match hash_sign_digest(&digest, ctx, &sk, randomizer, sig) {
         Ok(()) => DONE,
-        Err(_) => Refusal::ContextTooLong.number(),
+        Err(_) => unreachable!(),
     }
 }
 

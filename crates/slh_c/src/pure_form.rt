@@ -9,9 +9,10 @@ ghost use Rattle.slh_c.specs.Numbers.{InSet};
 ghost use Rattle.slh_c.specs.Rules.{first_refusal, sign_rules, verify_rules};
 
 use crate::numbers::set_of;
-use crate::randomizer::randomizer_of;
+use crate::randomizer::signer_of;
 use crate::refusal::{DONE, INVALID, Refusal};
-use slh_core::{PublicKey, SecretKey, sign, verify};
+use crate::rules::{self, judge};
+use slh_core::{PublicKey, sign, verify};
 
 /// Signs a message under a context (FIPS 205, Algorithm 22), writing `sig_len` bytes. `sk` has 4n bytes, the
 /// randomizer n, or none in the deterministic variant. Refused, with nothing written, by `sign_rules`: a number that
@@ -36,18 +37,18 @@ pub extern "C" fn slh_sign(
     let Some(set) = set_of(set) else {
         return Refusal::NoSuchSet.number();
     };
-    let Ok(sk) = SecretKey::from_bytes(set, sk) else {
-        return Refusal::BadLength.number();
-    };
-    let Some(randomizer) = randomizer_of(set, randomizer) else {
-        return Refusal::BadRandomizerLength.number();
-    };
-    if sig.len() != set.sig_len() {
-        return Refusal::BadOutputLength.number();
+    if let Err(refusal) = judge(&[
+        rules::secret(set, sk),
+        rules::randomizer(set, randomizer),
+        rules::output(set.sig_len(), sig),
+        rules::context(ctx),
+    ]) {
+        return refusal.number();
     }
+    let (sk, randomizer) = signer_of(set, sk, randomizer);
     match sign(msg, ctx, &sk, randomizer, sig) {
         Ok(()) => DONE,
-        Err(_) => Refusal::ContextTooLong.number(),
+        Err(_) => unreachable!(),
     }
 }
 

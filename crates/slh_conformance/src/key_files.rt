@@ -1,41 +1,106 @@
-//! Key files, and writing them within little memory.
-use crate::fixtures::{equal, key};
-use linked_list_allocator::LocalHeap;
-use slh_files::{FileFault, write_public, write_secret};
-use slh_params::ParamSet;
-use std::process::Abort;
-use std::test::Fail;
+//! Key files.
 
-mod lines;
+use crate::row::Row;
+use slh_core::{PublicKey, SecretKey};
+use slh_files::{
+    AnyKey, FileFault, read_key, read_public, read_secret, write_public, write_secret,
+};
 
-/// Whether the file was written as it should be; if not, memory ran out.
-fn is_written(rt: &impl Abort, written: Result<String<&LocalHeap>, FileFault>, file: &str) -> bool {
-    match written {
-        Ok(text) => equal(rt, &text.as_str(), &file),
-        Err(fault) => {
-            equal(rt, &fault, &FileFault::NoMemory);
-            return false;
-        }
+/// A set, the bytes of a public key; its file.
+pub fn write_public_row(row: &mut Row) {
+    let set = row.set();
+    let Ok(key) = PublicKey::from_bytes(set, &row.bytes()) else {
+        return row.refuse();
+    };
+    match write_public(row.alloc(), &key) {
+        Ok(file) => row.is_file(file.as_str()),
+        Err(_) => row.refuse(),
     }
-    true
 }
 
-/// Each heap is larger by the smallest block: so the first growth is refused, then the second, and so on,
-/// until none is.
-#[test]
-fn key_files_at_each_refused_growth(rt: HostRuntime) -> Result<(), Fail> {
-    let secret = key(ParamSet::S128f);
-    let public = secret.public();
-    let public_file = write_public(rt.alloc(), &public)?;
-    let secret_file = write_secret(rt.alloc(), &secret)?;
-    let (mut refused, mut done) = (false, false);
-    for size in (16..1024).step_by(16) {
-        let heap = LocalHeap::new(rt.alloc(), size)?;
-        let has_public = is_written(&rt, write_public(&heap, &public), public_file.as_str());
-        let has_secret = is_written(&rt, write_secret(&heap, &secret), secret_file.as_str());
-        refused = refused || !has_public && !has_secret;
-        done = has_public && has_secret;
+/// A set, the bytes of a secret key; its file.
+pub fn write_secret_row(row: &mut Row) {
+    let set = row.set();
+    let Ok(key) = SecretKey::from_bytes(set, &row.bytes()) else {
+        return row.refuse();
+    };
+    match write_secret(row.alloc(), &key) {
+        Ok(file) => row.is_file(file.as_str()),
+        Err(_) => row.refuse(),
     }
-    assert!(rt; refused && done);
-    Ok(())
+}
+
+/// A file; set and bytes of its public key, or the refusal. A key is read as one of either kind, too.
+pub fn read_public_row(row: &mut Row) {
+    let file = row.file();
+    match read_public(file.as_bytes()) {
+        Ok(key) => {
+            row.is_text(key.set().label().as_str());
+            row.is_bytes(key.bytes());
+            match read_key(file.as_bytes()) {
+                Ok(AnyKey::Public(any)) => row.is_true(any.bytes() == key.bytes()),
+                _ => row.is_true(false),
+            }
+        }
+        Err(fault) => row.is_refusal(fault.number(), fault.name()),
+    }
+}
+
+/// A file; set and bytes of its secret key, or the refusal. A key is read as one of either kind, too.
+pub fn read_secret_row(row: &mut Row) {
+    let file = row.file();
+    match read_secret(file.as_bytes()) {
+        Ok(key) => {
+            row.is_text(key.set().label().as_str());
+            row.is_bytes(key.bytes());
+            match read_key(file.as_bytes()) {
+                Ok(AnyKey::Secret(any)) => row.is_true(any.bytes() == key.bytes()),
+                _ => row.is_true(false),
+            }
+        }
+        Err(fault) => row.is_refusal(fault.number(), fault.name()),
+    }
+}
+
+/// The number of the refusal, or 0 where a key was read.
+fn status<K: Drop>(read: Result<K, FileFault>) -> u64 {
+    match read {
+        Ok(_) => 0,
+        Err(fault) => fault.number() as u64,
+    }
+}
+
+/// A file of a public key; for its first 0, 1, 2, .. bytes up to all the number of the refusal, or 0. They are read as
+/// those of a key of either kind with the same answer.
+pub fn read_public_cut(row: &mut Row) {
+    let file = row.file();
+    for len in 0..=file.as_bytes().len() {
+        let bytes = &file.as_bytes()[..len];
+        row.is_number(status(read_public(bytes)));
+        row.is_true(status(read_key(bytes)) == status(read_public(bytes)));
+    }
+}
+
+/// The same of a secret key.
+pub fn read_secret_cut(row: &mut Row) {
+    let file = row.file();
+    for len in 0..=file.as_bytes().len() {
+        let bytes = &file.as_bytes()[..len];
+        row.is_number(status(read_secret(bytes)));
+        row.is_true(status(read_key(bytes)) == status(read_secret(bytes)));
+    }
+}
+
+/// A file of a public key; with its first, second, .. byte replaced by ff the number of the refusal, or 0.
+pub fn read_public_replaced(row: &mut Row) {
+    let text = row.file();
+    let Ok(mut file) = text.as_bytes().to_vec(row.alloc()) else {
+        return row.refuse();
+    };
+    for place in 0..file.len() {
+        let kept = file[place];
+        file[place] = 255;
+        row.is_number(status(read_public(&file)));
+        file[place] = kept;
+    }
 }

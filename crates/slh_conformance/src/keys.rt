@@ -1,134 +1,92 @@
-//! Keys: their lengths, PK.root, and sources of random bytes.
-ghost use Rattle.std.specs.Prelude.{⊤};
+//! Keys.
+ghost use Rattle.std.specs.Prelude.{◌≡◌};
 
-use crate::fixtures::{counting, equal, key, key_from, signature};
-use rand_core::Rng;
+use crate::row::Row;
+use crate::sources::Counting;
 use rand_pcg::Pcg32;
-use slh_core::{
-    FromRng, PublicKey, RandomBytes, SecretKey, SourceFault, check_pair, keygen, keygen_internal,
-    verify,
-};
+use slh_core::{FromRng, PublicKey, SecretKey, check_pair, keygen, keygen_internal};
 use slh_params::ParamSet;
-use std::process::Abort;
-use std::test::Fail;
 
-/// A source that counts up from 00 and fails at one draw, when half of the bytes are written.
-#[derive(Drop)]
-struct Counting {
-    next: u8,
-    draws: u32,
-    fails_at: u32,
-    failures: u64,
+/// The key of SK.seed, SK.prf and PK.seed.
+pub fn key_of(row: &mut Row, set: ParamSet) -> SecretKey
+    ensures { result.set ≡ set }
+{
+    let sk_seed = row.node(set);
+    let sk_prf = row.node(set);
+    let pk_seed = row.node(set);
+    keygen_internal(set, &sk_seed, &sk_prf, &pk_seed)
 }
 
-impl RandomBytes for Counting {
-    ghost draws = { λ _ _ _. ⊤ };
+/// A set, SK.seed, SK.prf, PK.seed; the public key. The pair is consistent.
+pub fn keygen_row(row: &mut Row) {
+    let set = row.set();
+    let sk = key_of(row, set);
+    row.is_bytes(sk.public_bytes());
+    row.is_true(check_pair(&sk));
+}
 
-    ghost failures = { λ source. source.failures };
-
-    fn draw(&mut self, out: &mut [u8]) -> Result<(), SourceFault> {
-        self.draws = self.draws.saturating_add(1);
-        let fails = self.draws == self.fails_at;
-        let count = if fails { out.len() / 2 } else { out.len() };
-        let mut next = self.next;
-        for byte in &mut out[..count] {
-            *byte = next;
-            next = next.wrapping_add(1);
+/// A set, the draw at which a source that counts from 00 fails, or 0; where it fails the refusal and the draws made,
+/// and then the public key of the next three draws.
+pub fn keygen_from_source(row: &mut Row) {
+    let set = row.set();
+    let mut source = Counting::new(row.below(4) as u32);
+    let made = match keygen(set, &mut source) {
+        Ok(sk) => Ok(sk),
+        Err(fault) => {
+            row.is_refusal(fault.number(), fault.name());
+            row.is_number(source.draws as u64);
+            keygen(set, &mut source)
         }
-        self.next = next;
-        if fails {
-            self.failures = self.failures.saturating_add(1);
-            return Err(SourceFault);
-        }
-        Ok(())
-    }
-}
-
-/// A source whose draws are counted from 1.
-fn failing_at(fails_at: u32) -> Counting {
-    Counting {
-        next: 0,
-        draws: 0,
-        fails_at,
-        failures: 0,
-    }
-}
-
-fn same_key(rt: &impl Abort, sk: &SecretKey, expected: &SecretKey) {
-    equal(rt, &sk.bytes(), &expected.bytes());
-    assert!(rt; check_pair(sk));
-}
-
-#[test]
-fn failing_sources(rt: HostRuntime) -> Result<(), Fail> {
-    for fails_at in 1..4 {
-        let mut source = failing_at(fails_at);
-        let refused = keygen(ParamSet::S128f, &mut source).err();
-        equal(&rt, &refused.map(|fault| fault.number()), &Some(7));
-        equal(&rt, &source.draws, &fails_at);
-    }
-    let sk = keygen(ParamSet::S128f, &mut failing_at(0))?;
-    same_key(&rt, &sk, &key(ParamSet::S128f));
-
-    // After the failure, 24 bytes are spent.
-    let mut source = failing_at(2);
-    assert!(rt; keygen(ParamSet::S128f, &mut source).is_err());
-    let sk = keygen(ParamSet::S128f, &mut source)?;
-    same_key(&rt, &sk, &key_from(ParamSet::S128f, 24));
-    Ok(())
-}
-
-#[test]
-fn random_number_generator(rt: HostRuntime) -> Result<(), Fail> {
-    let set = ParamSet::S128f;
-    assert!(rt; set.n() == 16);
-    let mut source = FromRng {
-        rng: Pcg32::new(42, 54),
     };
-    let sk = keygen(set, &mut source)?;
-    let mut rng = Pcg32::new(42, 54);
-    let (mut sk_seed, mut sk_prf, mut pk_seed) = ([0; 16], [0; 16], [0; 16]);
-    rng.fill_bytes(&mut sk_seed);
-    rng.fill_bytes(&mut sk_prf);
-    rng.fill_bytes(&mut pk_seed);
-    let expected = keygen_internal(set, &sk_seed, &sk_prf, &pk_seed);
-    same_key(&rt, &sk, &expected);
-    Ok(())
+    match made {
+        Ok(sk) => {
+            row.is_bytes(sk.public_bytes());
+            row.is_true(check_pair(&sk));
+        }
+        Err(_) => row.is_true(false),
+    }
 }
 
-#[test]
-fn lengths_and_parts(rt: HostRuntime) -> Result<(), Fail> {
-    let refused = SecretKey::from_bytes(ParamSet::S128f, &[0; 63]).err();
-    equal(&rt, &refused.map(|fault| fault.number()), &Some(3));
-    let refused = PublicKey::from_bytes(ParamSet::S128f, &[0; 33]).err();
-    equal(&rt, &refused.map(|fault| fault.name()), &Some("BadLength"));
-
-    // The PK.root of OpenSSL 3.5 under the same seeds.
-    let sk = key(ParamSet::S128f);
-    let root = hex::decode(rt.alloc(), "3b56e816847f000386aeec2e2bb9e1b5")?;
-    equal(&rt, &sk.pk_root(), &root.as_slice());
-    let bytes = counting(0);
-    equal(&rt, &sk.sk_seed(), &&bytes[..16]);
-    equal(&rt, &sk.sk_prf(), &&bytes[16..32]);
-    equal(&rt, &sk.pk_seed(), &&bytes[32..48]);
-    equal(&rt, &sk.public().bytes(), &sk.public_bytes());
-    let pk = PublicKey::from_bytes(ParamSet::S128f, sk.public_bytes())?;
-    equal(
-        &rt,
-        &(pk.pk_seed(), pk.pk_root()),
-        &(sk.pk_seed(), sk.pk_root()),
-    );
-    Ok(())
+/// A set, a state and a stream of the generator PCG32; the secret key of its bytes.
+pub fn keygen_from_pcg32(row: &mut Row) {
+    let set = row.set();
+    let (state, stream) = (row.number(), row.number());
+    let mut source = FromRng {
+        rng: Pcg32::new(state, stream),
+    };
+    match keygen(set, &mut source) {
+        Ok(sk) => {
+            row.is_bytes(sk.bytes());
+            row.is_true(check_pair(&sk));
+        }
+        Err(_) => row.is_true(false),
+    }
 }
 
-#[test]
-fn altered_root(rt: HostRuntime) -> Result<(), Fail> {
-    let mut bytes = key(ParamSet::S128f).bytes().to_vec(rt.alloc())?;
-    assert!(rt; bytes.len() == 64);
-    bytes[63] ^= 1;
-    let sk = SecretKey::from_bytes(ParamSet::S128f, &bytes)?;
-    assert!(rt; !check_pair(&sk));
-    let sig = signature(rt.alloc(), b"abc", b"", &sk)?;
-    assert!(rt; !verify(b"abc", b"", &sig, &sk.public()));
-    Ok(())
+/// A set, bytes; the parts of the secret key that they are and whether it is consistent, or the refusal.
+pub fn secret_key(row: &mut Row) {
+    let set = row.set();
+    match SecretKey::from_bytes(set, &row.bytes()) {
+        Ok(sk) => {
+            row.is_bytes(sk.sk_seed());
+            row.is_bytes(sk.sk_prf());
+            row.is_bytes(sk.pk_seed());
+            row.is_bytes(sk.pk_root());
+            row.is_true(sk.public().bytes() == sk.public_bytes());
+            row.is_display(&check_pair(&sk));
+        }
+        Err(fault) => row.is_refusal(fault.number(), fault.name()),
+    }
+}
+
+/// A set, bytes; the parts of the public key that they are, or the refusal.
+pub fn public_key(row: &mut Row) {
+    let set = row.set();
+    match PublicKey::from_bytes(set, &row.bytes()) {
+        Ok(pk) => {
+            row.is_bytes(pk.pk_seed());
+            row.is_bytes(pk.pk_root());
+        }
+        Err(fault) => row.is_refusal(fault.number(), fault.name()),
+    }
 }

@@ -1,85 +1,93 @@
-//! Worked examples of paths, climbs and covers.
-ghost use Rattle.std.specs.Prelude.{◌<◌, ◌^◌};
+//! Paths, climbs and covers of a tree of known nodes.
+ghost use Rattle.std.specs.Prelude.{◌≡◌, ◌≤◌, ◌<◌, ◌^◌, ◌%◌, [], ◌∷◌, IfSome, slice_index, refl};
 
-use crate::fixtures::equal;
-use example::{Example, node_at};
-use slh_params::node_of;
-use slh_tree::{Cover, PathRec, climb, gather, hash_range, path, root};
-use std::process::Abort;
+use crate::row::Row;
+use slh_params::{Node, node_of};
+use slh_tree::{Cover, PathRec, Tree, climb, gather, hash_range, path, root};
+use std::cell::Cell;
 
-mod example;
-
-#[test]
-fn paths_and_climbs_of_four_leaves(rt: HostRuntime) {
-    let tree = Example::of(2);
-    equal(&rt, &root(&tree).as_slice(), &[2, 0, 0, 1].as_slice());
-    let mut out = [0u8; 8];
-    path(&tree, 1, &mut out);
-    equal(&rt, &out, &[0, 0, 0, 0, 1, 1, 2, 3]);
-    let leaf = node_of(&[0, 2, 0, 0]);
-    equal(
-        &rt,
-        &climb(&tree, 2, &leaf, &out).as_slice(),
-        &[2, 0, 1, 1].as_slice(),
-    );
-    path(&tree, 2, &mut out);
-    equal(&rt, &out, &[0, 3, 0, 0, 1, 0, 0, 1]);
-    equal(
-        &rt,
-        &climb(&tree, 2, &leaf, &out).as_slice(),
-        &[2, 0, 0, 1].as_slice(),
-    );
-    let mut short = [9u8; 4];
-    path(&Example::of(1), 1, &mut short);
-    equal(&rt, &short, &[0, 0, 0, 0]);
+/// A tree whose node (z, i) is the bytes z, i and the second bytes of the two children. It counts how often a leaf was
+/// asked for, in `calls`, and keeps which ones were: leaf i as bit i of `asked`.
+#[derive(Drop)]
+struct Example {
+    height: u32,
+    leaves: u32,
+    calls: Cell<u32>,
+    asked: Cell<u64>,
+    ghost low: { 1 ≤ height },
+    ghost high: { height ≤ 6 },
+    ghost all: { leaves ≡ 2 ^ height },
 }
 
-#[test]
-fn every_leaf_climbs_to_the_root(rt: HostRuntime) {
-    for height in 1..7 {
-        let tree = Example::of(height);
-        equal(&rt, &root(&tree).as_slice(), &node_at(height, 0).as_slice());
-        for idx in 0..tree.leaves {
-            climbs_to_the_root(&rt, &tree, idx);
-        }
+impl Tree for Example {
+    ghost tree = { λ t. record {
+      height = t.height;
+      width = 4;
+      leaf = λ i. 0 ∷ (i % 256) ∷ 0 ∷ 0 ∷ [];
+      join = λ z i l r. (z % 256) ∷ (i % 256) ∷ slice_index l 1 ∷ slice_index r 1 ∷ [];
+    } };
+
+    ghost lawful = { λ t. record { leaf_width = λ i. refl; join_width = λ z i l r. refl } };
+
+    fn height(&self) -> u32 {
+        self.height
+    }
+
+    fn leaf(&self, i: u32) -> Node {
+        self.calls.set(self.calls.get().wrapping_add(1));
+        self.asked.set(self.asked.get() | 1 << (i % 64));
+        node_of(&[0, (i % 256) as u8, 0, 0])
+    }
+
+    fn join(&self, z: u32, i: u32, l: &Node, r: &Node) -> Node {
+        node_of(&[(z % 256) as u8, (i % 256) as u8, l[1], r[1]])
     }
 }
 
-/// The path of leaf `idx` is made from each other leaf once and never from it, and leads from it to the root.
-fn climbs_to_the_root(rt: &impl Abort, tree: &Example, idx: u32)
-    requires { idx < 2 ^ tree.now.height }
+/// The next two fields: the tree of a height from 1 to 6, and a leaf of it.
+fn tree_and_leaf(row: &mut Row) -> Option<(Example, u32)>
+    ensures { IfSome result (λ both. both.1 < 2 ^ both.0.height) }
 {
-    tree.calls.set(0);
-    tree.asked.set(0);
+    let height = row.below(7) as u32;
+    if height == 0 {
+        row.refuse();
+        return None;
+    }
+    let tree = Example {
+        height,
+        leaves: 1 << height,
+        calls: Cell::new(0),
+        asked: Cell::new(0),
+    };
+    let leaf = row.below(tree.leaves as u64) as u32;
+    Some((tree, leaf))
+}
+
+/// A height, a leaf; its path and the root. The path is made from each other leaf once and never from the leaf itself,
+/// leads from it to the root, and comes from the covers of the leaves before and after any place.
+pub fn tree_leaf(row: &mut Row) {
+    let Some((tree, idx)) = tree_and_leaf(row) else {
+        return;
+    };
     let mut auth = [0u8; 24];
     let out = &mut auth[..4 * tree.height as usize];
-    path(tree, idx, out);
-    equal(rt, &tree.calls.get(), &(tree.leaves - 1));
-    equal(rt, &tree.asked.get().count_ones(), &(tree.leaves - 1));
-    equal(rt, &((tree.asked.get() >> (idx % 64)) & 1), &0);
-    for level in 0..tree.height {
-        let start = 4 * level as usize;
-        let sibling = &out[start..start + 4];
-        equal(rt, &sibling, &node_at(level, (idx >> level) ^ 1).as_slice());
-    }
-    let last = climb(tree, idx, &node_of(&node_at(0, idx)), out);
-    equal(rt, &last.as_slice(), &node_at(tree.height, 0).as_slice());
-}
-
-#[test]
-fn every_cut_in_two(rt: HostRuntime) {
-    for height in 1..7 {
-        let tree = Example::of(height);
-        for idx in 0..tree.leaves {
-            for cut in 1..tree.leaves {
-                gathers_the_path(&rt, &tree, cut, idx);
-            }
-        }
+    path(&tree, idx, out);
+    row.is_bytes(out);
+    row.is_true(tree.calls.get() == tree.leaves - 1);
+    row.is_true(tree.asked.get().count_ones() == tree.leaves - 1);
+    row.is_true((tree.asked.get() >> (idx % 64)) & 1 == 0);
+    let top = root(&tree);
+    row.is_bytes(&top);
+    row.is_true(
+        climb(&tree, idx, &node_of(&[0, idx as u8, 0, 0]), out).as_slice() == top.as_slice(),
+    );
+    for cut in 1..tree.leaves {
+        row.is_true(gathers(&tree, cut, idx, out, &top));
     }
 }
 
-/// The root and the whole path of leaf `idx` come from the covers of the leaves before and after `cut`.
-fn gathers_the_path(rt: &impl Abort, tree: &Example, cut: u32, idx: u32)
+/// Whether the root and the whole path of leaf `idx` come from the covers of the leaves before and after `cut`.
+fn gathers(tree: &Example, cut: u32, idx: u32, auth: &[u8], top: &Node) -> bool
     requires some { 0 < cut }
     requires within { cut < 2 ^ tree.now.height }
     requires index { idx < 2 ^ tree.now.height }
@@ -92,90 +100,74 @@ fn gathers_the_path(rt: &impl Abort, tree: &Example, cut: u32, idx: u32)
     ];
     rec.merge(&other);
     let last = gather(tree, &covers, &mut rec);
-    equal(rt, &last.as_slice(), &node_at(tree.height, 0).as_slice());
-    for level in 0..tree.height {
-        let sibling = node_at(level, (idx >> level) ^ 1);
-        assert!(rt;
-            rec.at(level)
-                .is_some_and(|node| node.as_slice() == sibling.as_slice())
-        );
+    last.as_slice() == top.as_slice() && has_path(&rec, auth)
+}
+
+/// Whether the record has the nodes of this path, of 4 bytes each.
+fn has_path(rec: &PathRec, auth: &[u8]) -> bool {
+    (0..).zip(auth.chunks_exact(4)).all(|(level, node)| rec
+        .at(level)
+        .is_some_and(|known| known.as_slice() == node))
+}
+
+/// A height, a leaf, a path; what the leaf climbs to.
+pub fn tree_climb(row: &mut Row) {
+    let Some((tree, idx)) = tree_and_leaf(row) else {
+        return;
+    };
+    let auth = row.bytes();
+    if auth.len() != 4 * tree.height as usize {
+        return row.refuse();
+    }
+    let leaf = node_of(&[0, idx as u8, 0, 0]);
+    row.is_bytes(&climb(&tree, idx, &leaf, &auth));
+}
+
+/// For each height of the leaf's path whether its node is known, as 1 or 0.
+fn is_known(row: &mut Row, rec: &PathRec, height: u32) {
+    for level in 0..height {
+        row.is_number(if rec.at(level).is_some() { 1 } else { 0 });
     }
 }
 
-/// Whether the cover has just these nodes.
-fn has_nodes(cover: &Cover, places: &[(u32, u32)]) -> bool {
-    cover.nodes.len() == places.len()
-        && cover.nodes.as_slice().iter().zip(places).all(|(placed, (z, i))| placed.z == *z
-            && placed.i == *i
-            && placed.node.as_slice() == node_at(*z, *i).as_slice())
+/// A height, a leaf, the first leaf of a range and the one past its last leaf; for each height whether the node of the
+/// leaf's path is known, and height, index and bytes of each node of the range's cover.
+pub fn tree_cover(row: &mut Row) {
+    let Some((tree, idx)) = tree_and_leaf(row) else {
+        return;
+    };
+    let (lo, hi) = (row.word(), row.word());
+    if lo >= hi || hi > tree.leaves {
+        return row.refuse();
+    }
+    let mut rec = PathRec::for_leaf(tree.height, idx);
+    let cover = hash_range(&tree, lo, hi, &mut rec);
+    is_known(row, &rec, tree.height);
+    for placed in cover.nodes.as_slice() {
+        row.is_number(placed.z as u64);
+        row.is_number(placed.i as u64);
+        row.is_bytes(&placed.node);
+    }
 }
 
-#[test]
-fn covers_of_ranges(rt: HostRuntime) {
-    let sixteen = Example::of(4);
-    let mut rec = PathRec::for_leaf(4, 0);
-    let cover = hash_range(&sixteen, 3, 13, &mut rec);
-    assert!(rt; has_nodes(&cover, &[(0, 3), (2, 1), (2, 2), (0, 12)]));
-    let cover = hash_range(&sixteen, 0, 16, &mut rec);
-    assert!(rt; has_nodes(&cover, &[(4, 0)]));
-    let sixty_four = Example::of(6);
-    let mut rec = PathRec::for_leaf(6, 0);
-    let cover = hash_range(&sixty_four, 0, 31, &mut rec);
-    assert!(rt; has_nodes(&cover, &[(4, 0), (3, 2), (2, 6), (1, 14), (0, 30)]));
-    let cover = hash_range(&sixty_four, 31, 33, &mut rec);
-    assert!(rt; has_nodes(&cover, &[(0, 31), (0, 32)]));
-}
-
-#[test]
-fn four_leaves_cut_at_one_and_three(rt: HostRuntime) {
-    let tree = Example::of(2);
-    let mut rec = PathRec::for_leaf(2, 1);
-    let first = hash_range(&tree, 0, 1, &mut rec);
-    equal(&rt, &known_levels(&rec), &[true, false, false]);
-    let mut other = PathRec::for_leaf(2, 1);
-    let second = hash_range(&tree, 1, 3, &mut other);
-    let third = hash_range(&tree, 3, 4, &mut other);
-    equal(&rt, &known_levels(&other), &[false, false, false]);
-    assert!(rt; has_nodes(&first, &[(0, 0)]));
-    assert!(rt; has_nodes(&second, &[(0, 1), (0, 2)]));
-    assert!(rt; has_nodes(&third, &[(0, 3)]));
-    rec.merge(&other);
-    gather(&tree, &[first, second, third], &mut rec);
-    equal(&rt, &known_levels(&rec), &[true, true, false]);
-}
-
-#[test]
-fn eight_leaves_cut_at_three_and_six(rt: HostRuntime) {
-    let tree = Example::of(3);
-    let mut recs = [
-        PathRec::for_leaf(3, 5),
-        PathRec::for_leaf(3, 5),
-        PathRec::for_leaf(3, 5),
-    ];
+/// A height, a leaf, two places; the root, and for each height whether the node of the leaf's path is known, from the
+/// covers of the leaves before, between and after the places.
+pub fn tree_gather(row: &mut Row) {
+    let Some((tree, idx)) = tree_and_leaf(row) else {
+        return;
+    };
+    let (first, second) = (row.word(), row.word());
+    if first == 0 || first >= second || second >= tree.leaves {
+        return row.refuse();
+    }
+    let mut rec = PathRec::for_leaf(tree.height, idx);
+    let mut other = PathRec::for_leaf(tree.height, idx);
     let covers = [
-        hash_range(&tree, 0, 3, &mut recs[0]),
-        hash_range(&tree, 3, 6, &mut recs[1]),
-        hash_range(&tree, 6, 8, &mut recs[2]),
+        hash_range(&tree, 0, first, &mut rec),
+        hash_range(&tree, first, second, &mut other),
+        hash_range(&tree, second, tree.leaves, &mut other),
     ];
-    assert!(rt; has_nodes(&covers[0], &[(1, 0), (0, 2)]));
-    assert!(rt; has_nodes(&covers[1], &[(0, 3), (1, 2)]));
-    assert!(rt; has_nodes(&covers[2], &[(1, 3)]));
-    equal(&rt, &known_levels(&recs[0]), &[false, false, false]);
-    equal(&rt, &known_levels(&recs[1]), &[true, false, false]);
-    equal(&rt, &known_levels(&recs[2]), &[false, true, false]);
-    let [mut rec, second, third] = recs;
-    rec.merge(&second);
-    rec.merge(&third);
-    let last = gather(&tree, &covers, &mut rec);
-    equal(&rt, &last.as_slice(), &[3, 0, 0, 1].as_slice());
-    equal(&rt, &known_levels(&rec), &[true, true, true]);
-}
-
-/// At which of the three lowest heights the record knows its path's node.
-fn known_levels(rec: &PathRec) -> [bool; 3] {
-    [
-        rec.at(0).is_some(),
-        rec.at(1).is_some(),
-        rec.at(2).is_some(),
-    ]
+    rec.merge(&other);
+    row.is_bytes(&gather(&tree, &covers, &mut rec));
+    is_known(row, &rec, tree.height);
 }

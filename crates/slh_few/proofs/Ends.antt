@@ -1,7 +1,7 @@
 -- Parts put end to end.
 use Rattle.std.proofs.Common.{◌≡◌, ℕ, zero, suc, ◌+◌, ◌-◌, ◌*◌, ◌<◌, ◌≤◌, List, [], ◌++◌, length, take, drop, replicate, get_or, refl, ap, sym, subst, ◌∙◌, arith, add-one, inl, inr}
 use Rattle.std.proofs.lemmas.Bool.{cases_lt}
-use Rattle.std.proofs.lemmas.List.{take-append-le, drop-append-le, length-append, length-drop, drop_at, take_all, get_or-append-add, get_or-replicate, get_or_past, length-replicate, drop-replicate}
+use Rattle.std.proofs.lemmas.List.{take-append-drop, take-take, drop-take, take-append-le, drop-append-le, length-append, length-drop, drop_at, take_all, get_or-append-add, get_or-replicate, get_or_past, length-replicate, drop-replicate}
 use Rattle.std.proofs.Math.Nat.{mul-le-mul_right}
 use Rattle.slh_tree.specs.Tree.{MerkleTree, sibling}
 use Rattle.slh_tree.specs.Climb.{path_below}
@@ -92,3 +92,19 @@ pub path_below-siblings : (t : MerkleTree) (i k : ℕ) → path_below t i k ≡ 
 unfolding path_below end_to_end
 path_below-siblings t i zero = refl
 path_below-siblings t i (suc k) = ap (λ xs. xs ++ sibling t i k) (path_below-siblings t i k)
+
+-- the front of bytes with one part more
+pub take-part_more : (n : ℕ) (xs : List ℕ) (c : ℕ) → take ((c + 1) * n) xs ≡ take (c * n) xs ++ part n xs c
+take-part_more n xs c =
+    let m : ℕ = c * n in
+    let more : (c + 1) * n ≡ m + n = omega arith in
+    let le : m ≤ m + n = omega arith in
+    ap (λ k. take k xs) more ∙ sym (take-append-drop m (take (m + n) xs))
+    ∙ ap (λ ys. ys ++ drop m (take (m + n) xs)) (take-take m (m + n) xs le) ∙ ap (λ ys. take m xs ++ ys) (drop-take m n xs)
+
+-- a number that stands in each place
+pub replicate_below : (k v i b : ℕ) → v ≤ b → get_or (replicate k v) i 0 ≤ b
+replicate_below k v i b le = elim (cases_lt i k) [
+  | inl lt ↦ rw (get_or-replicate k i v 0 lt) le
+  | inr ge ↦ rw (get_or_past (replicate k v) i 0 (omega (arith, ge, length-replicate {A = ℕ} k v))) (omega arith)
+]

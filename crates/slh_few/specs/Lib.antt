@@ -1,4 +1,6 @@
 pub mod Parts
+pub mod LaneValues
+pub mod ChainOrder
 pub mod Wots
 pub mod KeptChains
 pub mod Xmss

@@ -1,5 +1,6 @@
 -- XMSS (FIPS 205, section 6).
-use Rattle.std.specs.Prelude.{ℕ, ◌+◌, ◌*◌, List, [], ◌++◌, take, drop}
+use Rattle.std.specs.Prelude.{◌≡◌, ℕ, ◌+◌, ◌*◌, ◌<◌, List, [], ◌++◌, length, slice_index_or, take, drop}
+use Rattle.arrayvec.specs.ArrayVec.{ArrayVec}
 use Rattle.slh_params.specs.Address.{address, TREE}
 use Rattle.slh_params.specs.Params.{Params, len}
 use Rattle.slh_hash.specs.Hash.{H}
@@ -11,6 +12,11 @@ use Rattle.slh_few.specs.declared.place.Place.{Place}
 -- the place with these numbers
 abbrev pub place : ℕ → ℕ → ℕ → Place
 place l t i = record { layer = l; tree = t; pair = i }
+
+-- the nodes are the public keys at this place and those after it
+abbrev pub AreKeysFrom : Params → List ℕ → List ℕ → Place → List (ArrayVec ℕ) → Type 0
+AreKeysFrom p sk pk at keys = (j : ℕ) (d : ArrayVec ℕ) → j < length keys
+    → (slice_index_or keys j d).items ≡ wots_pk p sk pk (place at.layer at.tree (at.pair + j))
 
 -- tree t of layer l: its leaves are WOTS+ public keys (Algorithm 9)
 abbrev pub xmss_tree : Params → List ℕ → List ℕ → ℕ → ℕ → MerkleTree

@@ -8,8 +8,8 @@ ghost use Rattle.slh_few.specs.Wots.{digits as digits_of, digit, checksum, check
 use crate::nodes::bytes_of;
 use slh_params::{Node, ParamSet, base_2b, to_byte};
 
-/// The most digits that a message of any set has, with its checksum.
-pub(crate) const MOST_DIGITS: usize = 133;
+/// At least the digits that a message of any set has, with its checksum: whole groups of eight.
+pub(crate) const MOST_DIGITS: usize = 136;
 
 /// No checksum is larger: at most 128 digits of a message, each at most 255 below w - 1.
 const MOST_CHECKSUM: u32 = 32640;

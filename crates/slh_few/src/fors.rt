@@ -12,8 +12,9 @@ use crate::fors_parts::{fors_indices, fors_roots};
 use crate::fors_tree::{ForsTree, SeededForsTree, fors_adrs, index_in_forest};
 use crate::place::{Public, Seeds};
 use slh_hash::{SeededHash, SeededTreeHash};
+use slh_lanes::SeededLanes;
 use slh_params::{AdrsType, Node, ParamSet, node_of};
-use slh_tree::{climb, path};
+use slh_tree::climb;
 
 /// The length of a tree's part of a signature, a secret and its path: (1 + a) * n bytes.
 pub fn fors_part_len(set: ParamSet) -> usize
@@ -37,7 +38,7 @@ fn sign_tree(seeded_tree: &SeededForsTree, i: u32, out: &mut [u8])
     let tree = &seeded_tree.tree;
     let (secret, auth) = out.split_at_mut(tree.seeds.set.n());
     secret.copy_from_slice(&tree.secret(seeded_tree.seeded, i));
-    path(seeded_tree, i, auth);
+    seeded_tree.put_path(i, auth);
 }
 
 /// Writes the secret of leaf `i`, then the leaf's path, from `start` on.
@@ -75,9 +76,10 @@ pub fn fors_sign(seeds: &Seeds, idx_tree: u64, idx_leaf: u32, md: &[u8], out: &m
     let indices = fors_indices(seeds.set, md);
     let size = fors_part_len(seeds.set);
     let seeded = SeededHash::new(seeds.set, seeds.pk_seed);
+    let lanes = SeededLanes::new(seeds.set, seeds.pk_seed);
     let joins = SeededTreeHash::new(seeds.set, seeds.pk_seed);
     for j in 0..seeds.set.k() {
-        let tree = SeededForsTree::new(&seeded, &joins, seeds, idx_tree, idx_leaf, j);
+        let tree = SeededForsTree::new(&seeded, &lanes, &joins, seeds, idx_tree, idx_leaf, j);
         put_tree(&tree, indices[j as usize], out, j as usize * size);
     }
 }
@@ -144,8 +146,9 @@ pub fn fors_root_from_sig(
         pk_seed: public.pk_seed,
     };
     let seeded = SeededHash::new(public.set, public.pk_seed);
+    let lanes = SeededLanes::new(public.set, public.pk_seed);
     let joins = SeededTreeHash::new(public.set, public.pk_seed);
-    let tree = SeededForsTree::new(&seeded, &joins, &seeds, idx_tree, idx_leaf, tree_no);
+    let tree = SeededForsTree::new(&seeded, &lanes, &joins, &seeds, idx_tree, idx_leaf, tree_no);
     root_from(&tree, index, sig)
 }
 
@@ -172,10 +175,11 @@ pub fn fors_pk_from_sig(
         pk_seed: public.pk_seed,
     };
     let seeded = SeededHash::new(public.set, public.pk_seed);
+    let lanes = SeededLanes::new(public.set, public.pk_seed);
     let joins = SeededTreeHash::new(public.set, public.pk_seed);
     let mut roots = fors_roots(public, idx_tree, idx_leaf);
     for j in 0..public.set.k() {
-        let tree = SeededForsTree::new(&seeded, &joins, &seeds, idx_tree, idx_leaf, j);
+        let tree = SeededForsTree::new(&seeded, &lanes, &joins, &seeds, idx_tree, idx_leaf, j);
         roots.absorb(&root_at(&tree, indices[j as usize], sig));
     }
     roots.finish()

@@ -5,14 +5,18 @@ ghost use Rattle.slh_params.specs.AdrsType.{type_number};
 ghost use Rattle.slh_params.specs.ParamSet.{params};
 ghost use Rattle.slh_hash.specs.Seeded.{IsSeeded};
 ghost use Rattle.slh_hash.specs.Stream.{IsSeededTree};
+ghost use Rattle.slh_lanes.specs.Lanes.{HasAddress, IsSeededLanes, value_at};
+ghost use Rattle.slh_tree.specs.Leaves.{AreLeavesFrom};
 ghost use Rattle.slh_few.specs.Fors.{fors_tree, fors_leaf, fors_secret};
 ghost use Rattle.slh_few.specs.declared.fors_parts.TheConstants.{MOST_TREES};
 
 use crate::fors_parts::MOST_TREES;
+use crate::nodes::first_nodes;
 use crate::place::Seeds;
 use slh_hash::{SeededHash, SeededTreeHash};
+use slh_lanes::{LaneAdrs, LaneNodes, SeededLanes, adrs_lanes, consecutive, set_hashes};
 use slh_params::{Adrs, AdrsType, Node};
-use slh_tree::Tree;
+use slh_tree::{Leaves, Tree};
 
 /// One of the k FORS trees of a key pair.
 #[derive(Drop)]
@@ -114,6 +118,47 @@ impl<'a> ForsTree<'a> {
         seeded.f(&adrs, &self.secret(seeded, i))
     }
 
+    /// The leaves from `first` on, as many as `count`: F of their secrets, eight at once.
+    fn leaves_from(&self, lanes: &SeededLanes, first: u32, count: u32) -> Leaves
+        requires some { 1 ≤ count }
+        requires few { count ≤ 8 }
+        requires within { first + count ≤ 2 ^ (params self.now.seeds.set).a }
+        ensures len { length result.items ≡ count }
+        ensures leaves { let p = params self.now.seeds.set in let sk = self.now.seeds.sk_seed.now in
+            (pk : List ℕ) → IsSeededLanes lanes.now p pk
+            → AreLeavesFrom (fors_tree p sk pk self.now.idx_tree self.now.idx_leaf self.now.tree_no) first result.items }
+    {
+        let leaves = self.leaf_lanes(lanes, first);
+        first_nodes(&leaves, self.seeds.set.n(), count as usize)
+    }
+
+    /// The leaves from `first` on, one in each lane: F of their secrets.
+    pub(crate) fn leaf_lanes(&self, lanes: &SeededLanes, first: u32) -> LaneNodes
+        requires { first < 2 ^ (params self.now.seeds.set).a }
+        ensures { let p = params self.now.seeds.set in let sk = self.now.seeds.sk_seed.now in
+            (pk : List ℕ) → IsSeededLanes lanes.now p pk → (j : ℕ) → j < 8 → value_at result j p.n
+            ≡ (fors_tree p sk pk self.now.idx_tree self.now.idx_leaf self.now.tree_no).leaf (first + j) }
+    {
+        let secrets = lanes.prf(
+            self.seeds.sk_seed,
+            &self.lane_adrs(AdrsType::ForsPrf, 0, first),
+        );
+        lanes.f(&self.lane_adrs(AdrsType::ForsTree, 0, first), &secrets)
+    }
+
+    /// The addresses of a type of the nodes of height `z` from index `first` on, one in each lane.
+    pub(crate) fn lane_adrs(&self, kind: AdrsType, z: u32, first: u32) -> LaneAdrs
+        requires height { z ≤ (params self.now.seeds.set).a }
+        requires index { first < 2 ^ ((params self.now.seeds.set).a - z) }
+        ensures { (j : ℕ) → j < 8 → HasAddress result j (address 0 self.now.idx_tree (type_number kind) self.now.idx_leaf z
+            (self.now.tree_no * 2 ^ ((params self.now.seeds.set).a - z) + (first + j))) }
+    {
+        let index = index_in_forest(self.tree_no, self.seeds.set.a() - z, first);
+        let mut adrs = adrs_lanes(&fors_adrs(self.idx_tree, self.idx_leaf, kind, z, 0));
+        set_hashes(&mut adrs, consecutive(index));
+        adrs
+    }
+
     /// Node `i` of height `z`: H of its two children.
     fn join_from(&self, seeded: &SeededTreeHash, z: u32, i: u32, l: &Node, r: &Node) -> Node
         requires height { z ≤ (params self.now.seeds.set).a }
@@ -147,6 +192,12 @@ impl<'a> Tree for ForsTree<'a> {
     }
 
     #[tactic(auto, unfolding(crate::specs::Trees::fors_tree_of))]
+    fn leaves(&self, first: u32, count: u32) -> Leaves {
+        let lanes = SeededLanes::new(self.seeds.set, self.seeds.pk_seed);
+        self.leaves_from(&lanes, first, count)
+    }
+
+    #[tactic(auto, unfolding(crate::specs::Trees::fors_tree_of))]
     fn join(&self, z: u32, i: u32, l: &Node, r: &Node) -> Node {
         let seeded = SeededTreeHash::new(self.seeds.set, self.seeds.pk_seed);
         self.join_from(&seeded, z, i, l, r)
@@ -158,14 +209,17 @@ impl<'a> Tree for ForsTree<'a> {
 pub(crate) struct SeededForsTree<'s, 'h> {
     pub(crate) tree: ForsTree<'s>,
     pub(crate) seeded: &'h SeededHash,
+    pub(crate) lanes: &'h SeededLanes<'s>,
     pub(crate) joins: &'h SeededTreeHash,
     ghost state: { ∥ IsSeeded seeded.now (params tree.seeds.set) tree.seeds.pk_seed.now ∥₁ },
+    ghost lane_state: { ∥ IsSeededLanes lanes.now (params tree.seeds.set) tree.seeds.pk_seed.now ∥₁ },
     ghost join_state: { ∥ IsSeededTree joins.now (params tree.seeds.set) tree.seeds.pk_seed.now ∥₁ },
 }
 
 impl<'s, 'h> SeededForsTree<'s, 'h> {
     pub(crate) fn new(
         seeded: &'h SeededHash,
+        lanes: &'h SeededLanes<'s>,
         joins: &'h SeededTreeHash,
         seeds: &Seeds<'s>,
         idx_tree: u64,
@@ -174,6 +228,7 @@ impl<'s, 'h> SeededForsTree<'s, 'h> {
     ) -> Self
         requires number { tree_no < (params seeds.now.set).k }
         requires state { IsSeeded seeded.now (params seeds.now.set) seeds.now.pk_seed.now }
+        requires lane_state { IsSeededLanes lanes.now (params seeds.now.set) seeds.now.pk_seed.now }
         requires join_state { IsSeededTree joins.now (params seeds.now.set) seeds.now.pk_seed.now }
         ensures seeds { result.tree.seeds ≡ seeds.now }
         ensures idx_tree { result.tree.idx_tree ≡ idx_tree }
@@ -185,6 +240,7 @@ impl<'s, 'h> SeededForsTree<'s, 'h> {
         SeededForsTree {
             tree,
             seeded,
+            lanes,
             joins,
         }
     }
@@ -205,6 +261,11 @@ impl<'s, 'h> Tree for SeededForsTree<'s, 'h> {
     #[tactic(auto, unfolding(crate::specs::Trees::fors_tree_of))]
     fn leaf(&self, i: u32) -> Node {
         self.tree.leaf_from(self.seeded, i)
+    }
+
+    #[tactic(auto, unfolding(crate::specs::Trees::fors_tree_of))]
+    fn leaves(&self, first: u32, count: u32) -> Leaves {
+        self.tree.leaves_from(self.lanes, first, count)
     }
 
     #[tactic(auto, unfolding(crate::specs::Trees::fors_tree_of))]

@@ -1,17 +1,21 @@
 //! Values of a key's chains that are kept from the making of the key until it signs.
-ghost use Rattle.std.specs.Prelude.{◌≡◌, ◌+◌, ◌-◌, ◌*◌, ◌≤◌, ◌<◌, ◌++◌, length, take};
+ghost use Rattle.std.specs.Prelude.{◌≡◌, ◌≢◌, ℕ, ◌+◌, ◌-◌, ◌*◌, ◌≤◌, ◌<◌, length};
 ghost use Rattle.slh_params.specs.Params.{len, w};
 ghost use Rattle.slh_params.specs.ParamSet.{params};
 ghost use Rattle.slh_hash.specs.Seeded.{IsSeeded};
+ghost use Rattle.slh_lanes.specs.Lanes.{IsSeededLanes, value_at};
+ghost use Rattle.slh_few.specs.Parts.{part};
 ghost use Rattle.slh_few.specs.Wots.{whole_chain, wots_pk, wots_sig};
-ghost use Rattle.slh_few.specs.KeptChains.{spacing as spacing_of, kept_count as kept_count_of, kept_chain_len as chain_len, kept_chains_len as chains_len, kept_chain, kept_chains, run_from_kept, wots_sig_from};
+ghost use Rattle.slh_few.specs.KeptChains.{spacing as spacing_of, kept_count as kept_count_of, kept_chain_len as chain_len, kept_chains_len as chains_len, kept_value, kept_chain, kept_chains, run_from_kept, wots_sig_from};
 
 use crate::base_w::digits_of;
-use crate::nodes::{node_at, part_at};
-use crate::place::{Place, Seeds};
-use crate::wots::{run_chain, run_secret, wots_adrs};
-use slh_hash::{SeededHash, TStream};
-use slh_params::{AdrsType, Node, ParamSet, put_node};
+use crate::chain_lanes::{put_lanes, run_lanes, secret_lanes};
+use crate::nodes::{node_at, part_at, put_part};
+use crate::place::{Place, Public, Seeds};
+use crate::wots::{MOST_VALUES, compressed_ends, run_chain, wots_sig_len};
+use slh_hash::SeededHash;
+use slh_lanes::{LaneNodes, SeededLanes, Words, consecutive, lane_node};
+use slh_params::{Node, ParamSet, put_node};
 
 /// The most values of a chain that are kept.
 const MOST_KEPT: u32 = 16;
@@ -48,49 +52,84 @@ pub fn kept_chains_len(set: ParamSet) -> usize
     set.len() * kept_chain_len(set)
 }
 
-/// Writes the kept values of chain `c` of a key, and gives the end of the chain.
-fn keep_chain(seeded: &SeededHash, seeds: &Seeds, at: Place, c: u32, out: &mut [u8]) -> Node
-    requires seeded { IsSeeded seeded.now (params seeds.now.set) seeds.now.pk_seed.now }
-    requires out { length out.old ≡ chain_len (params seeds.now.set) }
-    ensures end { let p = params seeds.now.set in let sk = seeds.now.sk_seed.now in
-        let pk = seeds.now.pk_seed.now in
-        result.items ≡ whole_chain p sk pk at c }
-    ensures kept { let p = params seeds.now.set in let sk = seeds.now.sk_seed.now in
-        let pk = seeds.now.pk_seed.now in
-        out.new ≡ kept_chain p sk pk at c }
+/// Writes value `j` of the kept values of chain `c`.
+fn put_value(set: ParamSet, kept: &mut [u8], c: usize, j: usize, value: &Node)
+    requires kept { length kept.old ≡ chains_len (params set) }
+    requires chain { c < len (params set) }
+    requires number { j < kept_count_of (params set) }
+    requires value { length value.now.items ≡ (params set).n }
+    ensures set { part (params set).n (part (chain_len (params set)) kept.new c) j ≡ value.now.items }
+    ensures others { (i : ℕ) → i ≢ j → part (params set).n (part (chain_len (params set)) kept.new c) i
+        ≡ part (params set).n (part (chain_len (params set)) kept.old c) i }
+    ensures chains { (i : ℕ) → i ≢ c → part (chain_len (params set)) kept.new i ≡ part (chain_len (params set)) kept.old i }
 {
-    let n = seeds.set.n();
-    let steps = spacing(seeds.set);
-    let last = kept_count(seeds.set) - 1;
-    let mut node = run_secret(seeded, seeds.sk_seed, at, c, 0);
-    for j in 0..last {
-        put_node(out, j as usize * n, &node);
-        node = run_chain(seeded, at, c, node, j * steps, steps);
-    }
-    put_node(out, last as usize * n, &node);
-    run_chain(seeded, at, c, node, last * steps, steps - 1)
+    let size = kept_chain_len(set);
+    let start = c * size;
+    put_part(&mut kept[start..start + size], set.n(), j, value);
 }
 
-/// Writes the kept values of chain `c` of a key from `start` on, and gives the end of the chain.
-fn put_chain(
-    seeded: &SeededHash,
+/// Writes value `j` of the kept values of the chains from `c` on, from the first `used` lanes.
+fn put_values(set: ParamSet, kept: &mut [u8], c: usize, j: usize, nodes: &LaneNodes, used: usize)
+    requires kept { length kept.old ≡ chains_len (params set) }
+    requires lanes { used ≤ 8 }
+    requires chains { c + used ≤ len (params set) }
+    requires number { j < kept_count_of (params set) }
+    ensures set { (i : ℕ) → i < used → part (params set).n (part (chain_len (params set)) kept.new (c + i)) j
+        ≡ value_at nodes.now i (params set).n }
+    ensures others { (d i : ℕ) → i ≢ j → part (params set).n (part (chain_len (params set)) kept.new d) i
+        ≡ part (params set).n (part (chain_len (params set)) kept.old d) i }
+    ensures chains { (d : ℕ) → d < c → part (chain_len (params set)) kept.new d ≡ part (chain_len (params set)) kept.old d }
+{
+    for i in 0..used {
+        put_value(set, kept, c + i, j, &lane_node(nodes, i, set.n()));
+    }
+}
+
+/// Writes the kept values of the chains from `c` on, as many as `used`, and gives the ends of these chains.
+fn keep_chains(
+    lanes: &SeededLanes,
     seeds: &Seeds,
     at: Place,
-    c: u32,
-    out: &mut [u8],
-    start: usize,
-) -> Node
-    requires seeded { IsSeeded seeded.now (params seeds.now.set) seeds.now.pk_seed.now }
-    requires out { start + chain_len (params seeds.now.set) ≤ length out.old }
-    ensures end { let p = params seeds.now.set in let sk = seeds.now.sk_seed.now in
-        let pk = seeds.now.pk_seed.now in
-        result.items ≡ whole_chain p sk pk at c }
-    ensures kept { let p = params seeds.now.set in let sk = seeds.now.sk_seed.now in
-        let pk = seeds.now.pk_seed.now in
-        take (start + chain_len p) out.new ≡ take start out.old ++ kept_chain p sk pk at c }
+    c: usize,
+    used: usize,
+    kept: &mut [u8],
+) -> LaneNodes
+    requires lanes { IsSeededLanes lanes.now (params seeds.now.set) seeds.now.pk_seed.now }
+    requires used { used ≤ 8 }
+    requires chains { c + used ≤ len (params seeds.now.set) }
+    requires kept { length kept.old ≡ chains_len (params seeds.now.set) }
+    ensures ends { let p = params seeds.now.set in (j : ℕ) → j < 8
+        → value_at result j p.n ≡ whole_chain p seeds.now.sk_seed.now seeds.now.pk_seed.now at (c + j) }
+    ensures kept { let p = params seeds.now.set in (i j : ℕ) → i < used → j < kept_count_of p
+        → part p.n (part (chain_len p) kept.new (c + i)) j
+        ≡ kept_value p seeds.now.sk_seed.now seeds.now.pk_seed.now at (c + i) j }
+    ensures before { let p = params seeds.now.set in (d : ℕ) → d < c
+        → part (chain_len p) kept.new d ≡ part (chain_len p) kept.old d }
 {
-    let end = start + kept_chain_len(seeds.set);
-    keep_chain(seeded, seeds, at, c, &mut out[start..end])
+    let every = spacing(seeds.set);
+    let last = kept_count(seeds.set) - 1;
+    let group = consecutive(c as u32).to_array();
+    let mut nodes = secret_lanes(lanes, seeds.sk_seed, at, &group);
+    for j in 0..last {
+        put_values(seeds.set, kept, c, j as usize, &nodes, used);
+        nodes = run_lanes(
+            lanes,
+            at,
+            &group,
+            &nodes,
+            Words::splat(j * every),
+            Words::splat(every),
+        );
+    }
+    put_values(seeds.set, kept, c, last as usize, &nodes, used);
+    run_lanes(
+        lanes,
+        at,
+        &group,
+        &nodes,
+        Words::splat(last * every),
+        Words::splat(every - 1),
+    )
 }
 
 /// The public key at a place, n bytes (Algorithm 6). Into `kept` it writes values of the key's chains, of
@@ -106,18 +145,22 @@ pub fn wots_pk_keeping(seeds: &Seeds, at: Place, kept: &mut [u8]) -> Node
         let pk = seeds.now.pk_seed.now in
         kept.new ≡ kept_chains p sk pk at }
 {
-    let seeded = SeededHash::new(seeds.set, seeds.pk_seed);
-    let mut ends = TStream::new(
-        seeds.set,
-        seeds.pk_seed,
-        &wots_adrs(at, AdrsType::WotsPk, 0, 0),
-    );
-    let size = kept_chain_len(seeds.set);
-    for c in 0..seeds.set.len() {
-        let end = put_chain(&seeded, seeds, at, c as u32, kept, c * size);
-        ends.absorb(&end);
+    let lanes = SeededLanes::new(seeds.set, seeds.pk_seed);
+    let mut buffer = [0; MOST_VALUES];
+    let ends = &mut buffer[..wots_sig_len(seeds.set)];
+    let n = seeds.set.n();
+    let count = seeds.set.len();
+    for group in 0..count.div_ceil(8) {
+        let c = 8 * group;
+        let used = (count - c).min(8);
+        let nodes = keep_chains(&lanes, seeds, at, c, used, kept);
+        put_lanes(ends, n, &consecutive(c as u32).to_array(), &nodes, used);
     }
-    ends.finish()
+    let public = Public {
+        set: seeds.set,
+        pk_seed: seeds.pk_seed,
+    };
+    compressed_ends(&public, at, ends)
 }
 
 /// The value of chain `c` of a key after `steps` steps from its secret, run on from the last kept value before it.

@@ -5,11 +5,15 @@
 #![tactic(auto, using(slh_params::proofs::Bounds::bounds))]
 
 mod base_w;
+mod chain_lanes;
+mod chain_order;
 mod fors;
+mod fors_lanes;
 mod fors_parts;
 mod fors_tree;
 mod hypertree;
 mod kept_chains;
+mod key_lanes;
 mod nodes;
 mod path_bytes;
 mod place;

@@ -1,9 +1,12 @@
 //! Nodes as byte strings, and as parts of them.
-ghost use Rattle.std.specs.Prelude.{◌≡◌, ◌+◌, ◌*◌, ◌≤◌, length};
+ghost use Rattle.std.specs.Prelude.{◌≡◌, ◌≢◌, ℕ, ◌+◌, ◌*◌, ◌≤◌, length};
 ghost use Rattle.slh_params.specs.Bits.{AllBytes};
+ghost use Rattle.slh_few.specs.LaneValues.{HasValues};
 ghost use Rattle.slh_few.specs.Parts.{part};
 
+use slh_lanes::{LaneNodes, lane_node};
 use slh_params::{Node, node_of};
+use slh_tree::Leaves;
 
 /// Part number `index` of the bytes, which are parts of one size.
 pub(crate) fn part_at(bytes: &[u8], size: usize, index: usize) -> &[u8]
@@ -25,6 +28,17 @@ pub(crate) fn node_at(bytes: &[u8], size: usize, index: usize) -> Node
     node_of(part_at(bytes, size, index))
 }
 
+/// Writes part number `index` of the bytes, which are parts of one size.
+pub(crate) fn put_part(bytes: &mut [u8], size: usize, index: usize, value: &[u8])
+    requires within { index * size + size ≤ length bytes.old }
+    requires value { length value.now ≡ size }
+    ensures set { part size bytes.new index ≡ value.now }
+    ensures others { (i : ℕ) → i ≢ index → part size bytes.new i ≡ part size bytes.old i }
+{
+    let start = index * size;
+    bytes[start..start + size].copy_from_slice(value);
+}
+
 /// The node's bytes.
 pub(crate) fn bytes_of(node: &Node) -> &[u8]
     ensures value { result.now ≡ node.now.items }
@@ -34,4 +48,18 @@ pub(crate) fn bytes_of(node: &Node) -> &[u8]
     // For the prover: what a node holds are bytes.
     let _count = bytes.len();
     bytes
+}
+
+/// The values of n bytes in the first `count` lanes.
+pub(crate) fn first_nodes(nodes: &LaneNodes, n: usize, count: usize) -> Leaves
+    requires n { n ≤ 32 }
+    requires lanes { count ≤ 8 }
+    ensures len { length result.items ≡ count }
+    ensures values { HasValues result.items nodes.now n }
+{
+    let mut values = Leaves::new();
+    for j in 0..count {
+        values.push(lane_node(nodes, j, n));
+    }
+    values
 }

@@ -13,6 +13,7 @@ use crate::kept_chains::wots_pk_keeping;
 use crate::place::{Place, Seeds};
 use crate::xmss::{KnownLeafTree, SeededXmssTree};
 use slh_hash::{SeededHash, SeededTreeHash};
+use slh_lanes::SeededLanes;
 use slh_tree::{Cover, PathRec, hash_range};
 
 /// The cover of the leaves from `lo` to `hi`, `hi` left out, of tree `tree` of layer `layer`. The record, of a leaf of
@@ -98,7 +99,8 @@ pub fn fors_range(
         Gains (fors_tree p sk pk idx_tree idx_leaf tree_no) (LiesInRange lo hi rec.old.leaf) rec.old rec.new }
 {
     let seeded = SeededHash::new(seeds.set, seeds.pk_seed);
+    let lanes = SeededLanes::new(seeds.set, seeds.pk_seed);
     let joins = SeededTreeHash::new(seeds.set, seeds.pk_seed);
-    let tree = SeededForsTree::new(&seeded, &joins, seeds, idx_tree, idx_leaf, tree_no);
+    let tree = SeededForsTree::new(&seeded, &lanes, &joins, seeds, idx_tree, idx_leaf, tree_no);
     hash_range(&tree, lo, hi, rec)
 }

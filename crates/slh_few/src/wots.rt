@@ -1,17 +1,20 @@
 //! WOTS+, one-time signatures (FIPS 205, section 5).
-ghost use Rattle.std.specs.Prelude.{◌≡◌, ℕ, List, ◌+◌, ◌-◌, ◌*◌, ◌≤◌, ◌<◌, length};
+ghost use Rattle.std.specs.Prelude.{◌≡◌, ℕ, List, ◌+◌, ◌-◌, ◌*◌, ◌≤◌, ◌<◌, length, slice_index};
+ghost use Rattle.slh_params.specs.Address.{WOTS_PK};
 ghost use Rattle.slh_params.specs.AdrsType.{type_number};
 ghost use Rattle.slh_params.specs.Params.{Params, len, w};
 ghost use Rattle.slh_params.specs.ParamSet.{params};
+ghost use Rattle.slh_hash.specs.Hash.{T};
 ghost use Rattle.slh_hash.specs.Seeded.{IsSeeded};
 ghost use Rattle.slh_few.specs.Wots.{wots_address, chain as chain_of, secret, whole_chain, wots_pk, wots_sig, wots_pk_from_sig};
 ghost use Rattle.slh_few.specs.Xmss.{wots_sig_len};
 
-use crate::base_w::digits_of;
+use crate::base_w::{MOST_DIGITS, digits_of};
+use crate::chain_lanes::{ChainNumbers, run_secrets, run_values};
 use crate::nodes::node_at;
 use crate::place::{Place, Public, Seeds};
 use slh_hash::{SeededHash, TStream};
-use slh_params::{Adrs, AdrsType, Node, ParamSet, copy_of, put_node};
+use slh_params::{Adrs, AdrsType, Node, ParamSet, copy_of};
 
 /// The WOTS+ address of a type at a place: a chain, and a step of it.
 pub(crate) fn wots_adrs(at: Place, kind: AdrsType, chain: u32, hash: u32) -> Adrs
@@ -70,16 +73,22 @@ pub fn chain(public: &Public, at: Place, chain_no: u32, x: &Node, from: u32, ste
     run_chain(&seeded, at, chain_no, copy_of(x), from, steps)
 }
 
-/// The value of chain `c` after `steps` steps from its secret.
-pub(crate) fn run_secret(seeded: &SeededHash, sk_seed: &[u8], at: Place, c: u32, steps: u32) -> Node
-    requires { steps ≤ MOST_STEPS }
-    ensures value { (p : Params) (pk : List ℕ) → IsSeeded seeded.now p pk
-        → result.items ≡ chain_of p pk at c (secret p sk_seed.now pk at c) 0 steps }
-    ensures len { (p : Params) (pk : List ℕ) → IsSeeded seeded.now p pk → length result.items
-        ≡ p.n }
+/// The most bytes that a value of each chain of a key takes.
+pub(crate) const MOST_VALUES: usize = 4256;
+
+/// T over the ends of all chains: the public key, n bytes (Algorithm 6, lines 7 to 10).
+pub(crate) fn compressed_ends(public: &Public, at: Place, ends: &[u8]) -> Node
+    requires { length ends.now ≡ len (params public.now.set) * (params public.now.set).n }
+    ensures value { let p = params public.now.set in
+        result.items ≡ T p public.now.pk_seed.now (wots_address at WOTS_PK 0 0) ends.now }
+    ensures len { length result.items ≡ (params public.now.set).n }
 {
-    let secret = seeded.prf(sk_seed, &wots_adrs(at, AdrsType::WotsPrf, c, 0));
-    run_chain(seeded, at, c, secret, 0, steps)
+    let adrs = wots_adrs(at, AdrsType::WotsPk, 0, 0);
+    let mut stream = TStream::new(public.set, public.pk_seed, &adrs);
+    for c in 0..public.set.len() {
+        stream.absorb(&node_at(ends, public.set.n(), c));
+    }
+    stream.finish()
 }
 
 /// The public key at a place: n bytes (Algorithm 6).
@@ -90,17 +99,15 @@ pub fn wots_pk(seeds: &Seeds, at: Place) -> Node
         result.items ≡ wots_pk p sk pk at }
     ensures len { length result.items ≡ (params seeds.now.set).n }
 {
-    let seeded = SeededHash::new(seeds.set, seeds.pk_seed);
-    let last = seeds.set.w() - 1;
-    let mut ends = TStream::new(
-        seeds.set,
-        seeds.pk_seed,
-        &wots_adrs(at, AdrsType::WotsPk, 0, 0),
-    );
-    for c in 0..seeds.set.len() as u32 {
-        ends.absorb(&run_secret(&seeded, seeds.sk_seed, at, c, last));
-    }
-    ends.finish()
+    let mut buffer = [0; MOST_VALUES];
+    let ends = &mut buffer[..wots_sig_len(seeds.set)];
+    let last = [seeds.set.w() - 1; MOST_DIGITS];
+    run_secrets(seeds, at, &last, ends);
+    let public = Public {
+        set: seeds.set,
+        pk_seed: seeds.pk_seed,
+    };
+    compressed_ends(&public, at, ends)
 }
 
 /// The length of a signature: len * n bytes.
@@ -123,13 +130,23 @@ pub fn wots_sign(seeds: &Seeds, at: Place, msg: &Node, out: &mut [u8])
     ensures key { wots_pk_from_sig (params seeds.now.set) seeds.now.pk_seed.now at msg.now.items out.new
         ≡ wots_pk (params seeds.now.set) seeds.now.sk_seed.now seeds.now.pk_seed.now at }
 {
-    let seeded = SeededHash::new(seeds.set, seeds.pk_seed);
-    let digits = digits_of(seeds.set, msg);
-    let n = seeds.set.n();
-    for c in 0..seeds.set.len() {
-        let node = run_secret(&seeded, seeds.sk_seed, at, c as u32, digits[c]);
-        put_node(out, c * n, &node);
+    run_secrets(seeds, at, &digits_of(seeds.set, msg), out);
+}
+
+/// How many steps each chain has left from its digit to its end, with zeros after them: a lane without a chain of the
+/// key takes no steps.
+fn steps_left(set: ParamSet, digits: &ChainNumbers) -> ChainNumbers
+    requires { (c : ℕ) → slice_index digits.now c ≤ w (params set) - 1 }
+    ensures left { (c : ℕ) → c < len (params set) → slice_index result c
+        ≡ w (params set) - 1 - slice_index digits.now c }
+    ensures rest { (c : ℕ) → len (params set) ≤ c → slice_index result c ≡ 0 }
+{
+    let last = set.w() - 1;
+    let mut left = [0; MOST_DIGITS];
+    for c in 0..set.len() {
+        left[c] = last - digits[c];
     }
+    left
 }
 
 /// The public key that a signature of a message of n bytes gives: n bytes (Algorithm 8).
@@ -141,20 +158,10 @@ pub fn wots_pk_from_sig(public: &Public, at: Place, msg: &Node, sig: &[u8]) -> N
         result.items ≡ wots_pk_from_sig p pk at msg.now.items sig.now }
     ensures len { length result.items ≡ (params public.now.set).n }
 {
-    let seeded = SeededHash::new(public.set, public.pk_seed);
     let digits = digits_of(public.set, msg);
-    let n = public.set.n();
-    let last = public.set.w() - 1;
-    let mut ends = TStream::new(
-        public.set,
-        public.pk_seed,
-        &wots_adrs(at, AdrsType::WotsPk, 0, 0),
-    );
-    for c in 0..public.set.len() {
-        let node = node_at(sig, n, c);
-        let digit = digits[c];
-        let end = run_chain(&seeded, at, c as u32, node, digit, last - digit);
-        ends.absorb(&end);
-    }
-    ends.finish()
+    let left = steps_left(public.set, &digits);
+    let mut buffer = [0; MOST_VALUES];
+    let ends = &mut buffer[..wots_sig_len(public.set)];
+    run_values(public, at, sig, &digits, &left, ends);
+    compressed_ends(public, at, ends)
 }

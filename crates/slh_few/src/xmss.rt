@@ -10,11 +10,12 @@ ghost use Rattle.slh_few.specs.Trees.{xmss_tree_of};
 ghost use Rattle.slh_few.specs.Wots.{wots_pk};
 ghost use Rattle.slh_few.specs.Xmss.{xmss_tree, xmss_sig, xmss_pk_from_sig, xmss_sig_len};
 
+use crate::key_lanes::wots_pks;
 use crate::place::{Place, Public, Seeds};
 use crate::wots::{wots_pk, wots_pk_from_sig, wots_sign};
 use slh_hash::SeededTreeHash;
 use slh_params::{Adrs, AdrsType, Node, copy_of};
-use slh_tree::{Tree, climb, path};
+use slh_tree::{Leaves, Tree, climb, path};
 
 /// One tree of a layer of the hypertree. Its leaves are WOTS+ public keys (Algorithm 9).
 #[derive(Drop)]
@@ -88,6 +89,21 @@ impl<'a> Tree for XmssTree<'a> {
     }
 
     #[tactic(auto, unfolding(crate::specs::Trees::xmss_tree_of))]
+    fn leaves(&self, first: u32, count: u32) -> Leaves {
+        // For the prover: a tree has a height of at most 14.
+        let _highest = self.height();
+        wots_pks(
+            &self.seeds,
+            Place {
+                layer: self.layer,
+                tree: self.tree,
+                pair: first,
+            },
+            count,
+        )
+    }
+
+    #[tactic(auto, unfolding(crate::specs::Trees::xmss_tree_of))]
     fn join(&self, z: u32, i: u32, l: &Node, r: &Node) -> Node {
         let seeded = SeededTreeHash::new(self.seeds.set, self.seeds.pk_seed);
         self.join_from(&seeded, z, i, l, r)
@@ -133,6 +149,11 @@ impl<'a> Tree for SeededXmssTree<'a> {
     #[tactic(auto, unfolding(crate::specs::Trees::xmss_tree_of))]
     fn leaf(&self, i: u32) -> Node {
         self.tree.leaf(i)
+    }
+
+    #[tactic(auto, unfolding(crate::specs::Trees::xmss_tree_of))]
+    fn leaves(&self, first: u32, count: u32) -> Leaves {
+        self.tree.leaves(first, count)
     }
 
     #[tactic(auto, unfolding(crate::specs::Trees::xmss_tree_of))]
@@ -184,6 +205,19 @@ impl<'a> Tree for KnownLeafTree<'a> {
         } else {
             self.tree.leaf(i)
         }
+    }
+
+    fn leaves(&self, first: u32, count: u32) -> Leaves {
+        if self.pair < first || count <= self.pair - first {
+            return self.tree.leaves(first, count);
+        }
+        // For the prover: a tree has a height of at most 14.
+        let _highest = self.height();
+        let mut leaves = Leaves::new();
+        for j in 0..count {
+            leaves.push(self.leaf(first + j));
+        }
+        leaves
     }
 
     fn join(&self, z: u32, i: u32, l: &Node, r: &Node) -> Node {

@@ -1,5 +1,6 @@
 pub mod Ranges
 pub mod Tops
+pub mod SeededTrees
 pub mod Tags
 pub mod Jobs
 pub mod Starts

@@ -1,6 +1,7 @@
 //! What the answers of all jobs give, whatever bytes they are: the roots of the trees, and the parts of a signature.
 ghost use Rattle.std.specs.Prelude.{◌≡◌, ◌+◌, ◌*◌, ◌/◌, ◌^◌, ◌<◌, ◌≤◌, ◌++◌, ◌↔◌, IsSome, IfSome, length, take};
 ghost use Rattle.slh_params.specs.ParamSet.{params};
+ghost use Rattle.slh_hash.specs.Stream.{IsSeededTree};
 ghost use Rattle.slh_few.specs.Fors.{fors_part_len};
 ghost use Rattle.slh_few.specs.KeptChains.{wots_sig_from};
 ghost use Rattle.slh_few.specs.Xmss.{xmss_sig_len};
@@ -14,10 +15,12 @@ ghost use Rattle.slh_jobs.specs.Joined.{fors_answers, layer_root, fors_root_give
 use crate::given::Given;
 use crate::jobs::ranges;
 use crate::levels::Levels;
+use crate::seeded_trees::{SeededForsTree, SeededXmssTree};
 use crate::signing::Signing;
 use crate::top_tree::put_auth;
 use slh_core::SecretKey;
-use slh_few::{ForsTree, XmssTree, fors_part_len, wots_sig_len, wots_sign_kept, xmss_sig_len};
+use slh_few::{fors_part_len, wots_sig_len, wots_sign_kept, xmss_sig_len};
+use slh_hash::SeededTreeHash;
 use slh_params::Node;
 
 /// The answers of all jobs of a signature, as they are handed in.
@@ -26,11 +29,13 @@ pub(crate) struct Answered<'a> {
     pub(crate) signing: Signing<'a>,
     pub(crate) xmss: Given<'a>,
     pub(crate) fors: Given<'a>,
+    joins: SeededTreeHash,
     ghost xmss_cut: { xmss.shape ≡ xmss_shape signing.levels },
     ghost fors_cut: { fors.shape ≡ fors_shape signing.levels },
     ghost rest: { fors.bytes.now ≡ fors_answers signing.levels xmss.bytes.now },
     ghost xmss_there: { xmss_jobs signing.levels * answer_len (xmss_shape signing.levels) ≤ length xmss.bytes.now },
     ghost fors_there: { fors_jobs signing.levels * answer_len (fors_shape signing.levels) ≤ length fors.bytes.now },
+    ghost joins_state: { ∥ IsSeededTree joins (params signing.levels.set) (pk_seed (public_of signing.sk.now)) ∥₁ },
 }
 
 impl<'a> Answered<'a> {
@@ -61,10 +66,12 @@ impl<'a> Answered<'a> {
             shape: levels.fors_shape(),
             bytes: &answers[xmss_len..],
         };
+        let joins = SeededTreeHash::new(levels.set, sk.pk_seed());
         Some(Answered {
             signing,
             xmss,
             fors,
+            joins,
         })
     }
 
@@ -104,7 +111,13 @@ impl<'a> Answered<'a> {
         let range = leaf >> self.fors.shape.below();
         let (secret, auth) = out.split_at_mut(self.fors.shape.n);
         secret.copy_from_slice(self.fors.rest((first + range) as usize));
-        let tree = ForsTree::new(&seeds, signing.idx_tree, signing.idx_leaf, tree_no);
+        let tree = SeededForsTree::new(
+            &self.joins,
+            &seeds,
+            signing.idx_tree,
+            signing.idx_leaf,
+            tree_no,
+        );
         put_auth(&tree, &self.fors, first, leaf, auth)
     }
 
@@ -129,7 +142,7 @@ impl<'a> Answered<'a> {
         let (wots, auth) = out.split_at_mut(wots_sig_len(seeds.set));
         let kept = self.xmss.rest((first + range) as usize);
         wots_sign_kept(&seeds, at, msg, kept, wots);
-        let tree = XmssTree::new(&seeds, layer, at.tree);
+        let tree = SeededXmssTree::new(&self.joins, &seeds, layer, at.tree);
         put_auth(&tree, &self.xmss, first, at.pair, auth)
     }
 }

@@ -11,11 +11,13 @@ use crate::fault::JobFault;
 use crate::given::Given;
 use crate::jobs::ranges;
 use crate::levels::Levels;
+use crate::seeded_trees::SeededXmssTree;
 use crate::shape::Shape;
 use crate::tag::{answer_tag, are_same, keyed_for_key};
 use crate::top_tree::top_root;
 use slh_core::SecretKey;
-use slh_few::{Seeds, XmssTree, xmss_range};
+use slh_few::{Seeds, xmss_range};
+use slh_hash::SeededTreeHash;
 use slh_params::{Node, ParamSet, copy_of};
 use slh_tree::PathRec;
 
@@ -155,6 +157,8 @@ pub fn keygen_join(
         sk_seed,
         pk_seed,
     };
-    let root = top_root(&XmssTree::new(&seeds, set.d() as u8 - 1, 0), &given, 0);
+    let joins = SeededTreeHash::new(set, pk_seed);
+    let tree = SeededXmssTree::new(&joins, &seeds, set.d() as u8 - 1, 0);
+    let root = top_root(&tree, &given, 0);
     Ok(SecretKey::from_parts(set, sk_seed, sk_prf, pk_seed, &root))
 }

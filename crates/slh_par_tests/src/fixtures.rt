@@ -1,22 +1,28 @@
-//! Keys, cuttings, gates and comparisons that the tests of `slh_par` share.
+//! Keys, cuttings, room and comparisons that the tests share.
 ghost use Rattle.std.specs.Prelude.{◌≡◌, ◌==◌, IfOk, replicate};
 ghost use Rattle.std.specs.List.{list_all};
 ghost use Rattle.slh_params.specs.Params.{sig_len};
 ghost use Rattle.slh_params.specs.ParamSet.{params};
 
-use sha2::{Digest, Sha256};
 use slh_core::{SecretKey, keygen_internal};
 use slh_par::{Cuts, Cutting, Gate, ParFault, Workers, keygen_par};
 use slh_params::ParamSet;
 use std::alloc::{Allocator, Global};
+use std::fmt::Debug;
+use std::process::Abort;
 use std::test::Fail;
 use std::thread::Threads;
 
-/// The set of the tests that need one set alone.
-pub const SET: ParamSet = ParamSet::S128f;
+/// Fails the test where the two are not equal.
+pub(crate) fn equal<T: PartialEq + Debug>(rt: &impl Abort, found: &T, expected: &T) {
+    assert_eq!(rt; found, expected);
+}
+
+/// The set of the tests.
+pub(crate) const SET: ParamSet = ParamSet::S128f;
 
 /// Nothing is written over these bytes where a call is refused.
-pub const UNWRITTEN: u8 = 0xa5;
+pub(crate) const UNWRITTEN: u8 = 0xa5;
 
 /// The bytes 00, 01, 02, ...
 fn counting() -> [u8; 96] {
@@ -30,7 +36,7 @@ fn counting() -> [u8; 96] {
 }
 
 /// The key whose seeds are the bytes 00, 01, 02, .., by one thread.
-pub fn key(set: ParamSet) -> SecretKey
+pub(crate) fn key(set: ParamSet) -> SecretKey
     ensures { result.set ≡ set }
 {
     let bytes = counting();
@@ -39,7 +45,7 @@ pub fn key(set: ParamSet) -> SecretKey
 }
 
 /// The same key, by several workers.
-pub fn key_par<R: Threads + Sync, A: Allocator + Clone + Send + Sync, G: Gate>(
+pub(crate) fn key_par<R: Threads + Sync, A: Allocator + Clone + Send + Sync, G: Gate>(
     rt: &R,
     alloc: A,
     workers: Workers,
@@ -65,34 +71,29 @@ pub fn key_par<R: Threads + Sync, A: Allocator + Clone + Send + Sync, G: Gate>(
 }
 
 /// That many workers.
-pub fn workers(number: u8) -> Result<Workers, Fail>
+pub(crate) fn workers(number: u8) -> Result<Workers, Fail>
     ensures { IfOk result (λ workers. workers ≡ number) }
 {
     Ok(Workers::new(number).ok_or("no such number of workers")?)
 }
 
 /// Trees with one range each. 128f has 22 XMSS trees and 33 FORS trees, so the jobs of a signature are 0 to 54.
-pub fn whole_trees(set: ParamSet) -> Result<Cutting, Fail>
+pub(crate) fn whole_trees(set: ParamSet) -> Result<Cutting, Fail>
     ensures { IfOk result (λ cutting. cutting.set ≡ set) }
 {
     Ok(Cutting::new(set, Cuts::Levels(0), Cuts::Levels(0))?)
 }
 
 /// Room for a signature.
-pub fn unwritten(alloc: Global, set: ParamSet) -> Result<Vec<u8>, Fail>
+pub(crate) fn unwritten(alloc: Global, set: ParamSet) -> Result<Vec<u8>, Fail>
     ensures { IfOk result (λ out. out.items ≡ replicate (sig_len (params set)) UNWRITTEN) }
 {
     Ok(vec![in alloc; UNWRITTEN; set.sig_len()]?)
 }
 
 /// Whether nothing was written.
-pub fn is_unwritten(out: &[u8]) -> bool
+pub(crate) fn is_unwritten(out: &[u8]) -> bool
     ensures { result ≡ list_all (λ byte. byte == UNWRITTEN) out.now }
 {
     out.iter().all(|&byte| byte == UNWRITTEN)
-}
-
-/// The SHA-256 of the bytes, in hexadecimal digits.
-pub fn sha256_hex(alloc: Global, bytes: &[u8]) -> Result<String, Fail> {
-    Ok(hex::encode(alloc, Sha256::digest(bytes).as_slice())?)
 }

@@ -1,7 +1,7 @@
 //! Calls with the 1st growth of memory refused, then the 2nd, and so on until a call meets no refusal.
-ghost use Rattle.std.specs.Prelude.{◌≡◌, ◌<◌};
+ghost use Rattle.std.specs.Prelude.{◌≡◌};
 
-use crate::fixtures::{SET, is_unwritten, key, key_par, unwritten, whole_trees, workers};
+use crate::fixtures::{SET, equal, is_unwritten, key, key_par, unwritten, whole_trees, workers};
 use crate::signing::{FORMS, Form};
 use refusing_allocator::Refusing;
 use slh_par::{Cuts, Cutting, NoGate, ParFault, VerifyItem, verify_all};
@@ -27,13 +27,13 @@ fn keygen_par_refuses_at_each_growth(rt: HostRuntime) -> Result<(), Fail> {
             let alloc = Refusing::new(rt.alloc(), rt.alloc(), nth)?;
             let outcome = key_par(&rt, alloc.clone()?, workers(number)?, &cutting, &NoGate);
             if !alloc.has_refused() {
-                assert_eq!(rt; outcome?.bytes(), key(SET).bytes());
+                equal(&rt, &outcome?.bytes(), &key(SET).bytes());
                 break;
             }
-            assert_eq!(rt; outcome.err(), Some(ParFault::NoMemory), "growth {nth}");
+            equal(&rt, &outcome.err(), &Some(ParFault::NoMemory));
             refusals = nth;
         }
-        assert!(rt; ended(refusals), "{refusals} refusals, {number} workers");
+        equal(&rt, &ended(refusals), &true);
     }
     Ok(())
 }
@@ -59,14 +59,14 @@ fn refuse_signing<R: Abort + Threads + Sync>(
         );
         if !refusing.has_refused() {
             outcome?;
-            assert!(rt; out.as_slice() == expected.as_slice(), "{form:?}");
+            equal(rt, &(out == expected), &true);
             break;
         }
-        assert_eq!(rt; outcome.err(), Some(ParFault::NoMemory), "growth {nth}");
-        assert!(rt; is_unwritten(&out), "growth {nth}");
+        equal(rt, &outcome.err(), &Some(ParFault::NoMemory));
+        equal(rt, &is_unwritten(&out), &true);
         refusals = nth;
     }
-    assert!(rt; ended(refusals), "{refusals} refusals, {number} workers");
+    equal(rt, &ended(refusals), &true);
     Ok(())
 }
 
@@ -101,14 +101,13 @@ fn verify_all_refuses_at_each_growth(rt: HostRuntime) -> Result<(), Fail> {
             let alloc = Refusing::new(rt.alloc(), rt.alloc(), nth)?;
             let outcome = verify_all(&rt, alloc.clone()?, &items, workers(number)?);
             if !alloc.has_refused() {
-                assert!(rt; outcome?.iter().copied().eq([false, true]));
+                equal(&rt, &outcome?.as_slice(), &[false, true].as_slice());
                 break;
             }
-            assert_eq!(rt; outcome.err(), Some(ParFault::NoMemory), "growth {nth}");
+            equal(&rt, &outcome.err(), &Some(ParFault::NoMemory));
             refusals = nth;
         }
-        assert!(rt; ended(refusals), "{refusals} refusals, {number} workers");
-        assert!(rt; before < refusals, "{refusals} refusals, {number} workers");
+        equal(&rt, &(ended(refusals) && before < refusals), &true);
         before = refusals;
     }
     Ok(())

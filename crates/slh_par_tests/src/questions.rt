@@ -1,5 +1,5 @@
 //! One question to each item of a list.
-use crate::fixtures::workers;
+use crate::fixtures::{equal, workers};
 use slh_par::{NoMemory, Question, answer_all};
 use std::test::Fail;
 
@@ -24,14 +24,11 @@ fn answers_in_the_order_of_the_items(rt: HostRuntime) -> Result<(), Fail> {
     for number in [1u8, 2, 64] {
         let some = workers(number)?;
         let answers = answer_all(&rt, rt.alloc(), &Next, &[7, 0, 100, 7], some)?;
-        assert!(rt;
-            answers.iter().copied().eq([8, 1, 101, 8]),
-            "{number} workers"
-        );
+        equal(&rt, &answers.as_slice(), &[8, 1, 101, 8].as_slice());
         let none = answer_all(&rt, rt.alloc(), &Next, &[], some)?;
-        assert!(rt; none.is_empty(), "{number} workers");
+        equal(&rt, &none.len(), &0);
         let refused = answer_all(&rt, rt.alloc(), &Next, &[7, u32::MAX, 0], some);
-        assert!(rt; refused.is_err(), "{number} workers");
+        equal(&rt, &refused.err(), &Some(NoMemory));
     }
     Ok(())
 }

@@ -1,7 +1,7 @@
 //! Gates that hold a worker at a job until another has run one: the bytes stay those of one thread.
 ghost use Rattle.std.specs.Prelude.{◌≡◌};
 
-use crate::fixtures::{SET, key, key_par, whole_trees, workers};
+use crate::fixtures::{SET, equal, key, key_par, whole_trees, workers};
 use crate::gates::{FirstMeetsSecond, FirstWaitsFor, Watch};
 use crate::signing::{FORMS, Form};
 use slh_par::{Cuts, Cutting};
@@ -19,9 +19,8 @@ fn sign_by_two<R: Abort + Threads + Sync, W: Watch>(
 ) -> Result<(), Fail> {
     let sk = key(SET);
     let sig = form.abc_par(rt, alloc, &sk, workers(2)?, &whole_trees(sk.set())?, gate)?;
-    assert!(rt; !gate.gave_up(), "{form:?}");
-    let expected = form.abc(alloc, &sk)?;
-    assert!(rt; sig.as_slice() == expected.as_slice(), "{form:?}");
+    equal(rt, &gate.gave_up(), &false);
+    equal(rt, &(sig == form.abc(alloc, &sk)?), &true);
     Ok(())
 }
 
@@ -38,8 +37,8 @@ fn two_key_generation_jobs_run_at_the_same_time(rt: HostRuntime) -> Result<(), F
     let gate = FirstMeetsSecond::new();
     let cutting = Cutting::new(SET, Cuts::Levels(1), Cuts::Levels(1))?;
     let sk = key_par(&rt, rt.alloc(), workers(2)?, &cutting, &gate)?;
-    assert!(rt; !gate.gave_up());
-    assert_eq!(rt; sk.bytes(), key(SET).bytes());
+    equal(&rt, &gate.gave_up(), &false);
+    equal(&rt, &sk.bytes(), &key(SET).bytes());
     Ok(())
 }
 

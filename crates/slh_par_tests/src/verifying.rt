@@ -1,7 +1,7 @@
 //! Many signatures at once.
 ghost use Rattle.std.specs.Prelude.{◌≡◌};
 
-use crate::fixtures::{SET, key, workers};
+use crate::fixtures::{SET, equal, key, workers};
 use crate::signing::Form;
 use slh_core::PreHash;
 use slh_par::{VerifyItem, verify_all};
@@ -17,9 +17,10 @@ fn verdicts_in_the_order_of_the_items(rt: HostRuntime) -> Result<(), Fail> {
     let _ = shorter.pop();
     let mut longer = Form::Pure.abc(rt.alloc(), &sk)?;
     longer.push(0)?;
-    assert_eq!(rt;
-        (shorter.len(), good.len(), longer.len()),
-        (17087, 17088, 17089)
+    equal(
+        &rt,
+        &(shorter.len(), good.len(), longer.len()),
+        &(17087, 17088, 17089),
     );
     let item = |sig, prehash| VerifyItem {
         pk: &pk,
@@ -40,12 +41,10 @@ fn verdicts_in_the_order_of_the_items(rt: HostRuntime) -> Result<(), Fail> {
     ];
     let expected = [false, false, false, true, false, false, true, false];
     for number in [1u8, 2, 64] {
-        let four = verify_all(&rt, rt.alloc(), &items[..4], workers(number)?)?;
-        assert_eq!(rt; four.as_slice(), &expected[..4], "{number} workers");
-        let all = verify_all(&rt, rt.alloc(), &items, workers(number)?)?;
-        assert_eq!(rt; all.as_slice(), expected.as_slice(), "{number} workers");
-        let none = verify_all(&rt, rt.alloc(), &[], workers(number)?)?;
-        assert!(rt; none.is_empty(), "{number} workers");
+        for count in [8usize, 4, 0] {
+            let answers = verify_all(&rt, rt.alloc(), &items[..count], workers(number)?)?;
+            equal(&rt, &answers.as_slice(), &&expected[..count]);
+        }
     }
     Ok(())
 }

@@ -1,18 +1,16 @@
-//! Commands through `command`: outside values, and what no clause says.
-mod damage;
+//! Commands through `command`, where memory is refused and where files, inputs and outputs fail or never end.
+mod callers;
 mod devices;
 mod disk;
 mod failures;
-mod files;
+mod faults;
+mod fixtures;
+mod key_files;
 mod memory;
-mod messages;
 mod own_files;
 mod roots;
-mod sets;
+mod vector_memory;
 mod vectors;
-mod versions;
-mod words;
-mod workers;
 
 use crate::{Answer, Folder, words_of};
 use slh_devices::{Files, Reader, Sink, Source, Writer};

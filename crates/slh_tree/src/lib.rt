@@ -4,6 +4,7 @@
 
 mod cover;
 mod gathering;
+mod leaf_group;
 mod paths;
 mod range;
 mod record;
@@ -12,8 +13,8 @@ mod tree;
 
 pub use cover::{Cover, Placed, covers_are_unique, covers_read_from_the_end};
 pub use gathering::gather;
-pub use paths::{climb, path};
+pub use paths::{climb, node_over, path};
 pub use range::{hash_range, root};
 pub use record::PathRec;
 pub use stack::Stack;
-pub use tree::Tree;
+pub use tree::{Leaves, Tree};

@@ -25,7 +25,7 @@ pub fn path<T: Tree>(tree: &T, idx: u32, out: &mut [u8])
 }
 
 /// The node of height `z` at index `i`, made from its own leaves alone.
-fn node_over<T: Tree>(tree: &T, z: u32, i: u32) -> Node
+pub fn node_over<T: Tree>(tree: &T, z: u32, i: u32) -> Node
     requires height { z < (T.tree tree.now).height }
     requires within { past_leaf z i ≤ 2 ^ (T.tree tree.now).height }
     ensures { result.items ≡ node (T.tree tree.now) z i }

@@ -6,6 +6,7 @@ ghost use Rattle.slh_tree.specs.Cover.{IsCover, first_leaf, past_leaf};
 ghost use Rattle.slh_tree.specs.Record.{Gains, LiesInRange};
 
 use crate::cover::{Cover, Placed};
+use crate::leaf_group::LeafGroup;
 use crate::record::PathRec;
 use crate::stack::Stack;
 use crate::tree::Tree;
@@ -28,11 +29,12 @@ pub fn hash_range<T: Tree>(tree: &T, lo: u32, hi: u32, rec: &mut PathRec) -> Cov
     // For the prover: a tree has a height of at most 14.
     let _highest = tree.height();
     let mut stack = Stack::new();
+    let mut group = LeafGroup::none();
     for i in lo..hi {
         let leaf = Placed {
             z: 0,
             i,
-            node: tree.leaf(i),
+            node: group.leaf(tree, i, hi),
         };
         rec.note(&leaf);
         stack.push(tree, leaf, rec);

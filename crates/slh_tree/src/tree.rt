@@ -1,8 +1,13 @@
 //! What a Merkle tree is.
-ghost use Rattle.std.specs.Prelude.{◌≡◌, ◌-◌, ◌^◌, ◌<◌, ◌≤◌, length};
+ghost use Rattle.std.specs.Prelude.{◌≡◌, ◌+◌, ◌-◌, ◌^◌, ◌<◌, ◌≤◌, length};
 ghost use Rattle.slh_tree.specs.Tree.{MerkleTree, Lawful};
+ghost use Rattle.slh_tree.specs.Leaves.{AreLeavesFrom};
 
+use arrayvec::ArrayVec;
 use slh_params::Node;
+
+/// Leaves of a tree in their order, at most eight.
+pub type Leaves = ArrayVec<Node, 8>;
 
 /// A Merkle tree of height 1 to 14, whose nodes all have one length of at most 32 bytes.
 ///
@@ -22,6 +27,23 @@ pub trait Tree {
     fn leaf(&self, i: u32) -> Node
         requires { i < 2 ^ (tree self.now).height }
         ensures { result.items ≡ (tree self.now).leaf i };
+
+    /// The leaves from `first` on, as many as `count`. A tree that makes eight leaves at once has a body of its own.
+    fn leaves(&self, first: u32, count: u32) -> Leaves
+        requires some { 1 ≤ count }
+        requires few { count ≤ 8 }
+        requires within { first + count ≤ 2 ^ (tree self.now).height }
+        ensures len { length result.items ≡ count }
+        ensures leaves { AreLeavesFrom (tree self.now) first result.items }
+    {
+        // For the prover: a tree has a height of at most 14.
+        let _highest = self.height();
+        let mut leaves = Leaves::new();
+        for j in 0..count {
+            leaves.push(self.leaf(first + j));
+        }
+        leaves
+    }
 
     /// The node of height `z` at index `i`, from its left and its right child.
     fn join(&self, z: u32, i: u32, l: &Node, r: &Node) -> Node

@@ -19,5 +19,3 @@ mod reading;
 mod running;
 mod runs;
 mod test;
-#[cfg(test)]
-mod tests;

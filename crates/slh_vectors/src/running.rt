@@ -18,7 +18,9 @@ use std::alloc::Allocator;
 
 /// What comes of a test. A keygen test passes where both keys are the generated ones; a sign test where signing is
 /// not refused and gives exactly its signature; a verify test where the answer is its `valid`. Refused only for lack
-/// of memory, which a sign test takes for one signature.
+/// of memory, which a sign test takes for one signature. It is kept out of line, so that the stack holds no signature's
+/// locals while a file is read.
+#[inline(never)]
 pub fn run_test<A: Allocator>(alloc: A, test: &Test) -> Result<Outcome, VectorFault>
     ensures done { IfOk result (IsOutcome (test_view test.now)) }
     ensures refused { IfErr result (λ e. e ≡ NoMemory) }

@@ -9,7 +9,8 @@ mod refusals;
 mod run;
 #[cfg(test)]
 mod work_off;
-pub mod works;
+#[cfg(test)]
+mod works;
 
 /// Fails the test where the two are not equal.
 #[cfg(test)]

@@ -79,3 +79,25 @@ impl Sink for Full {
         Ok(n)
     }
 }
+
+/// An output that takes this many bytes, at most three at a time, keeps them, and then fails.
+#[derive(Drop)]
+pub(super) struct Narrow {
+    pub(super) taken: Vec<u8>,
+    pub(super) room: usize,
+    pub(super) failures: u64,
+}
+
+impl Sink for Narrow {
+    ghost state = { λ s. record { contents = None; failures = s.failures } };
+
+    fn put(&mut self, bytes: &[u8]) -> Result<usize, WriteFault> {
+        let n = bytes.len().min(self.room).min(3);
+        if (n == 0 && !bytes.is_empty()) || self.taken.extend_from_slice(&bytes[..n]).is_err() {
+            self.failures = self.failures.saturating_add(1);
+            return Err(WriteFault);
+        }
+        self.room -= n;
+        Ok(n)
+    }
+}

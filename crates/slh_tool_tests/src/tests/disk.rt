@@ -1,6 +1,6 @@
 //! Files of a runtime, as the program reads them.
 use super::devices::Folder;
-use super::messages::{PUBLIC, SIGN, VERIFY, joined, secret_key};
+use super::fixtures::{PUBLIC, SECRET, SIGN, VECTORS, VERIFY, VERIFY_HASHED};
 use super::own_files::{Counts, OwnFiles, PLAIN, Ways};
 use super::{check_refused, equal, run_over};
 use crate::Answer;
@@ -106,16 +106,10 @@ fn check_ways<'f, R: Abort + AllocGlobal + Threads + Sync>(
 
 #[test]
 fn reads_files_in_any_pieces(rt: HostRuntime) -> Result<(), Fail> {
-    let secret = secret_key(&rt)?;
     let message = long_message(&rt)?;
-    let signature = signature(&rt, secret.as_slice(), message.as_slice())?;
+    let signature = signature(&rt, SECRET, message.as_slice())?;
     equal(&rt, &signature.len(), &17088);
-    check_ways(
-        &rt,
-        secret.as_slice(),
-        message.as_slice(),
-        signature.as_slice(),
-    )
+    check_ways(&rt, SECRET, message.as_slice(), signature.as_slice())
 }
 
 /// How many reads the command makes, where each of them ends it by 32 if it fails.
@@ -138,23 +132,21 @@ fn reads<'f, R: Abort + AllocGlobal + Threads + Sync>(
 
 #[test]
 fn tells_each_read_that_fails(rt: HostRuntime) -> Result<(), Fail> {
-    let secret = secret_key(&rt)?;
     let message = long_message(&rt)?;
     let files = [
-        ("secret", secret.as_slice()),
+        ("secret", SECRET),
         ("public", PUBLIC),
         ("abc", message.as_slice()),
         ("sig", message.as_slice()),
         ("tests", b"[]".as_slice()),
     ];
-    let hashed = joined(&rt, &VERIFY, &["--prehash", "SHA2-256"])?;
     // A key file is read once for its bytes and once for its end, the message and the signature three times and once.
     let cases: [(&[&str], u64); 5] = [
         (&["check", "--key", "secret"], 2),
         (&SIGN, 6),
         (&VERIFY, 10),
-        (hashed.as_slice(), 10),
-        (&["vectors", "--file", "tests"], 2),
+        (&VERIFY_HASHED, 10),
+        (&VECTORS, 2),
     ];
     for (words, count) in cases {
         equal(&rt, &reads(&rt, words, &files)?, &count);

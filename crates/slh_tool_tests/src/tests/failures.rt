@@ -1,13 +1,11 @@
 //! Files and outputs that fail, and a file that never ends.
 use super::devices::{Folder, Full, WithEndlessFile};
-use super::messages::{PUBLIC, SIGN, VERIFY, joined, secret_key};
+use super::fixtures::{PUBLIC, SECRET, SIGN, SIGN_HASHED, VERIFY, VERIFY_HASHED};
 use super::{equal, run_over, run_to};
 use slh_devices::Reader;
 use std::process::Abort;
 use std::test::Fail;
 use std::thread::Threads;
-
-const PREHASH: [&str; 2] = ["--prehash", "SHA2-256"];
 
 /// How many fetches the command makes, where each of them ends it by 32 if it fails.
 fn fetches<R: Abort + AllocGlobal + Threads + Sync>(
@@ -42,28 +40,24 @@ fn fetches<R: Abort + AllocGlobal + Threads + Sync>(
 
 #[test]
 fn tells_each_fetch_that_fails(rt: HostRuntime) -> Result<(), Fail> {
-    let secret = secret_key(&rt)?;
-    let sign_hashed = joined(&rt, &SIGN, &PREHASH)?;
-    let verify_hashed = joined(&rt, &VERIFY, &PREHASH)?;
     // Each file is fetched once for its bytes and once for its end.
     let cases: [(&[&str], u64); 6] = [
         (&["public", "--key", "secret"], 2),
         (&["check", "--key", "secret"], 2),
         (&SIGN, 4),
-        (sign_hashed.as_slice(), 4),
+        (&SIGN_HASHED, 4),
         (&VERIFY, 6),
-        (verify_hashed.as_slice(), 6),
+        (&VERIFY_HASHED, 6),
     ];
     for (words, count) in cases {
-        equal(&rt, &fetches(&rt, words, secret.as_slice())?, &count);
+        equal(&rt, &fetches(&rt, words, SECRET)?, &count);
     }
     Ok(())
 }
 
 #[test]
 fn tells_an_output_that_breaks_off(rt: HostRuntime) -> Result<(), Fail> {
-    let secret = secret_key(&rt)?;
-    let files = [("secret", secret.as_slice()), ("abc", b"abc".as_slice())];
+    let files = [("secret", SECRET), ("abc", b"abc".as_slice())];
     let digits = [b'7'; 96];
     let cases: [&[&str]; 5] = [
         &["params"],
@@ -93,13 +87,12 @@ fn tells_an_output_that_breaks_off(rt: HostRuntime) -> Result<(), Fail> {
 
 #[test]
 fn hashes_a_message_by_pieces_up_to_the_limit(rt: HostRuntime) -> Result<(), Fail> {
-    let words = joined(&rt, &VERIFY, &PREHASH)?;
     let files = [("public", PUBLIC)];
     let mut files = WithEndlessFile {
         folder: Folder::new(&files),
         name: "abc",
     };
-    let answer = run_over(&rt, words.as_slice(), &mut files)?;
+    let answer = run_over(&rt, &VERIFY_HASHED, &mut files)?;
     equal(
         &rt,
         &answer.errors.as_slice(),

@@ -1,8 +1,7 @@
 //! Memory that is refused.
 use super::devices::Folder;
 use super::equal;
-use super::messages::{PUBLIC, SIGN, VERIFY, joined, secret_key};
-use super::vectors::{NOT_VALID, VECTORS};
+use super::fixtures::{NOT_VALID, PUBLIC, SECRET, SIGN, VECTORS, VERIFY};
 use crate::{Answer, words_of};
 use refusing_allocator::Refusing;
 use slh_devices::{Reader, Writer};
@@ -56,11 +55,9 @@ fn run_counted<R: AllocGlobal + Threads + Sync>(
 
 #[test]
 fn refuses_each_growth_and_then_works(rt: HostRuntime) -> Result<(), Fail> {
-    let secret = secret_key(&rt)?;
     let set = ["--set", "SLH-DSA-SHA2-128f"];
-    let sign_shared = joined(&rt, &SIGN, &["--workers", "2", "--fors-cuts", "31,33"])?;
     let files = [
-        ("secret", secret.as_slice()),
+        ("secret", SECRET),
         (
             "public",
             b"slh-dsa-public 1\nSLH-DSA-SHA2-128f\n202122232425262728292a2b2c2d2e2f3b56e816847f000386aeec2e2bb9e1b5\n".as_slice(),
@@ -89,7 +86,17 @@ fn refuses_each_growth_and_then_works(rt: HostRuntime) -> Result<(), Fail> {
         &["upgrade", "--key", "secret"],
         &["upgrade", "--key", "public"],
         &SIGN,
-        sign_shared.as_slice(),
+        &[
+            "sign",
+            "--key",
+            "secret",
+            "--message",
+            "abc",
+            "--workers",
+            "2",
+            "--fors-cuts",
+            "31,33",
+        ],
         &VERIFY,
         &VECTORS,
     ];

@@ -1,5 +1,5 @@
 -- What `sign_join` says of the levels and the key holds of the numbers and bytes that they were made of.
-use Rattle.std.proofs.Common.{◌≡◌, ◌↔◌, ℕ, List, Some, IsSomeAnd, sym, subst, ◌∙◌, arith}
+use Rattle.std.proofs.Common.{◌≡◌, ◌↔◌, ℕ, List, subst, ◌∙◌, arith}
 use Rattle.std.proofs.lemmas.Bool.{false≢true}
 use Rattle.slh_jobs.specs.Jobs.{AreAnswers}
 use Rattle.slh_jobs.specs.Starts.{start_by as start_under, IsStart}
@@ -7,16 +7,10 @@ use Rattle.slh_jobs.specs.declared.levels.Levels.{Levels}
 use Rattle.slh_core.specs.Keys.{Key, public_of, IsGeneratedKey}
 use Rattle.slh_core.specs.Signatures.{IsValid, signature_by as signature_under}
 use Rattle.slh_core.specs.declared.randomizer.Randomizer.{Randomizer}
-use Rattle.slh_c.specs.Cuttings.{WithLevels, levels_of}
 use Rattle.slh_c.specs.Keys.{start_by, signature_by}
-use Rattle.slh_c.specs.Numbers.{set_numbered}
+use Rattle.slh_c.proofs.Numbered.{with_levels}
 use Rattle.slh_c.proofs.Begun.{of_bytes, start_of_bytes, signature_of_bytes}
 use Rattle.slh_c.proofs.joining.slh_sign_join.Goals as goal
-
-with_levels : (P : Levels → Type 0) (set xmss fors : ℕ) {c : Levels}
-    → set_numbered set ≡ Some c.set → levels_of c.set xmss fors ≡ Some c → P c → WithLevels set xmss fors P
-with_levels P set xmss fors e f holds =
-    subst (λ o. IsSomeAnd o (λ s. IsSomeAnd (levels_of s xmss fors) P)) (sym e) (subst (λ o. IsSomeAnd o P) (sym f) holds)
 
 authentic : {sk sk' : Key} (start sig : List ℕ) → sk ≡ sk'
     → ((msg : List ℕ) (randomizer : Randomizer) → start ≡ start_under sk msg randomizer → IsValid (public_of sk) msg sig)

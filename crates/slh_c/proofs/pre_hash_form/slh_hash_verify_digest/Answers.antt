@@ -4,10 +4,8 @@ use Rattle.slh_core.specs.Keys.{Key}
 use Rattle.slh_core.specs.Messages.{pre_hash_message}
 use Rattle.slh_core.specs.PreHash.{Digest}
 use Rattle.slh_core.specs.Signatures.{IsValid}
+use Rattle.slh_c.proofs.Numbered.{some_and}
 use Rattle.slh_c.proofs.pre_hash_form.slh_hash_verify_digest.Goals as goal
-
-some_and : {A : Type 0} (P : A → Type 0) {o : Option A} {x : A} → o ≡ Some x → P x → IsSomeAnd o P
-some_and P e holds = subst (λ it. IsSomeAnd it P) (sym e) holds
 
 of_some_and : {A : Type 0} (P : A → Type 0) {o : Option A} {x : A} → o ≡ Some x → IsSomeAnd o P → P x
 of_some_and P e holds = subst (λ it. IsSomeAnd it P) e holds

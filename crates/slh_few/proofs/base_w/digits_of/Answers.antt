@@ -13,12 +13,12 @@ slice_bounds-out-end c = omega (arith, c.len-count.ensures, len_high c.args.set)
 
 pub slice_bounds-digits-end : goal.slice_bounds-digits-end
 slice_bounds-digits-end c =
-    let h : c.len-count.result ≤ 133 = omega (arith, c.len-count.ensures, len_high c.args.set) in
+    let h : c.len-count.result ≤ 136 = omega (arith, c.len-count.ensures, len_high c.args.set) in
     sym (length-take-le c.len-count.result _ h)
 
 pub digits-requires-clause-out : goal.digits-requires-clause-out
 digits-requires-clause-out c =
-    let h : c.len-count.result ≤ 133 = omega (arith, c.len-count.ensures, len_high c.args.set) in
+    let h : c.len-count.result ≤ 136 = omega (arith, c.len-count.ensures, len_high c.args.set) in
     length-take-le c.len-count.result _ h ∙ c.len-count.ensures
 
 pub returns-clause-digits : goal.returns-clause-digits
@@ -40,4 +40,4 @@ returns-clause-rest c = λ i l.
     let p = params c.args.set in
     let s : length c.digits.new.out ≡ c.len-count.result =
     ap length c.digits.ensures.digits ∙ length-digits p c.args.msg.now.items ∙ sym c.len-count.ensures in
-    zeros_after c.digits.new.out c.len-count.result 133 i s (omega (arith, c.len-count.ensures))
+    zeros_after c.digits.new.out c.len-count.result 136 i s (omega (arith, c.len-count.ensures))

@@ -1,5 +1,5 @@
 -- The first k places have the digest's groups of a bits, and the others their zeros.
-use Rattle.std.proofs.Common.{◌≡◌, ℕ, ◌≤◌, ◌<◌, List, length, get_or, refl, ap, sym, ◌∙◌, arith}
+use Rattle.std.proofs.Common.{◌≡◌, ◌≤◌, length, get_or, refl, ap, sym, ◌∙◌, arith}
 use Rattle.std.proofs.lemmas.List.{length-take-le}
 use Rattle.std.proofs.Math.ListN.{get_or-append}
 use Rattle.slh_params.specs.Bits.{base_2b}

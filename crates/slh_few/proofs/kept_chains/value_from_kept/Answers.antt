@@ -1,5 +1,5 @@
 -- The chain runs on from the last kept value before the step.
-use Rattle.std.proofs.Common.{◌≡◌, ℕ, ◌*◌, ◌/◌, ◌%◌, List, length, ap, ◌∙◌}
+use Rattle.std.proofs.Common.{◌≡◌, ◌*◌, ◌/◌, ◌%◌, length, ap, ◌∙◌}
 use Rattle.slh_params.specs.ParamSet.{params}
 use Rattle.slh_few.specs.Parts.{part}
 use Rattle.slh_few.specs.Wots.{chain}

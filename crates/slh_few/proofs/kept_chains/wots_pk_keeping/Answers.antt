@@ -1,58 +1,93 @@
--- After each chain the stream has absorbed the ends so far, and the values of the chains so far are written.
-use Rattle.std.proofs.Common.{◌≡◌, ◌+◌, ◌*◌, ◌<◌, length, take, refl, ap, sym, ◌∙◌, arith}
+-- After each group the ends of its chains and the values that are kept of them are written, too.
+use Rattle.std.proofs.Common.{◌≡◌, ℕ, ◌+◌, ◌-◌, ◌*◌, ◌<◌, min, List, length, slice_index, drop, inl, inr, ap, sym, ◌∙◌, arith, rules}
+use Rattle.std.proofs.lemmas.Bool.{cases_lt}
+use Rattle.std.proofs.lemmas.List.{length-drop, length-take-le}
 use Rattle.slh_params.specs.ParamSet.{params}
-use Rattle.slh_params.specs.Params.{len}
-use Rattle.slh_params.proofs.Bounds.{n_high}
-use Rattle.slh_few.specs.Wots.{whole_chain, wots_pk}
-use Rattle.slh_few.specs.KeptChains.{kept_chain_len, kept_chain, kept_chains}
-use Rattle.slh_few.proofs.Ends.{end_to_end-none, end_to_end-more, writes-more, part_fits, written_all}
-use Rattle.slh_few.proofs.KeptChains.{length-kept_chain}
+use Rattle.slh_params.specs.Params.{Params, len}
+use Rattle.slh_hash.specs.Hash.{T}
+use Rattle.slh_lanes.specs.Lanes.{value_at}
+use Rattle.slh_few.specs.Parts.{part}
+use Rattle.slh_few.specs.Wots.{whole_chain, wots_address, wots_pk}
+use Rattle.slh_few.specs.KeptChains.{kept_chain_len, kept_chain, kept_chains, kept_count, kept_value}
+use Rattle.slh_few.specs.declared.place.Place.{Place}
+use Rattle.slh_few.proofs.ChainLanes.{group_below, group_next, group_all}
+use Rattle.slh_few.proofs.Ends.{part_fits}
+use Rattle.slh_few.proofs.PartWrites.{all_parts}
 use Rattle.slh_few.proofs.kept_chains.wots_pk_keeping.Goals as goal
 
-pub loop-c-init : goal.loop-c-init
-loop-c-init c =
-    let p = params c.args.seeds.now.set in
-    let sk = c.args.seeds.now.sk_seed.now in
-    let pk = c.args.seeds.now.pk_seed.now in
-    let zero : 0 * kept_chain_len p ≡ 0 = omega arith in
+-- the values of a chain are its kept values
+chain_of_values : (p : Params) (sk pk : List ℕ) (at : Place) (d : ℕ) (b : List ℕ) → length b ≡ kept_count p * p.n
+    → ((j : ℕ) → j < kept_count p → part p.n b j ≡ kept_value p sk pk at d j) → b ≡ kept_chain p sk pk at d
+unfolding kept_chain
+chain_of_values p sk pk at d b long values = all_parts (kept_value p sk pk at d) p.n (kept_count p) b long values
+
+pub loop-group-init : goal.loop-group-init
+loop-group-init c =
+    let none : min (8 * 0) c.len-count.result ≡ 0 = omega arith in
     record {
-      ends = rw (end_to_end-none (whole_chain p sk pk c.args.at), sym c.wots_adrs.ensures) c.new-ends.ensures;
-      kept = ap (λ k. take k c.args.kept.now) zero ∙ sym (end_to_end-none _);
+      ends = λ d low. absurd (omega (arith, low, none));
+      kept = λ d low. absurd (omega (arith, low, none));
     }
 
-pub put_chain-end-requires-clause-out : goal.put_chain-end-requires-clause-out
-put_chain-end-requires-clause-out c =
+pub loop-group-preserved : goal.loop-group-preserved
+loop-group-preserved c =
     let p = params c.args.seeds.now.set in
-    let b : c.loop-c.c < len p = omega (arith, c.len-c-end.ensures) in
-    let q : length c.loop-c.kept ≡ len p * kept_chain_len p = omega (arith, c.requires) in
-    rw c.kept_chain_len-size.ensures.value (part_fits c.loop-c.c (len p) (kept_chain_len p) (length c.loop-c.kept) b q)
-
-pub loop-c-preserved : goal.loop-c-preserved
-loop-c-preserved c =
-    let s = c.args.seeds.now.set in
-    let p = params s in
     let sk = c.args.seeds.now.sk_seed.now in
     let pk = c.args.seeds.now.pk_seed.now in
-    let l = c.loop-c.c in
-    let n = kept_chain_len p in
-    let size = length-kept_chain p sk pk c.args.at l (n_high s) in
+    let g : ℕ = c.loop-group.group in
+    let k : ℕ = c.len-count.result in
+    let n : ℕ = c.n-n.result in
+    let f : ℕ → List ℕ = whole_chain p sk pk c.args.at in
+    let all = c.len-count.ensures in
+    let below = group_below g k c.div_ceil-group-end.result c.div_ceil-group-end.ensures c.loop-group-test.true in
+    let next = group_next g k c.min-used.result below c.min-used.ensures in
+    let here : min (8 * g) k ≡ 8 * g = omega arith in
+    let values : (j : ℕ) → j < c.min-used.result → value_at c.keep_chains-nodes.result j n ≡ f (slice_index c.consecutive.result j) = λ j lt.
+    let lane : j < 8 = omega (arith, c.min-used.ensures) in
+    ap (value_at c.keep_chains-nodes.result j) c.n-n.ensures ∙ c.keep_chains-nodes.ensures.ends j lane ∙ ap f (sym (c.consecutive.ensures j lane)) in
     record {
-      ends = rw (end_to_end-more (whole_chain p sk pk c.args.at) l, sym c.put_chain-end.ensures.end) (c.absorb.ensures _ _ _ _ c.loop-c.invariant.ends);
-      kept = writes-more (kept_chain p sk pk c.args.at) l n c.loop-c.kept c.put_chain-end.new.out (kept_chain p sk pk c.args.at l) refl size c.loop-c.invariant.kept
-          (ap (λ k. take (l * n + k) c.put_chain-end.new.out) size ∙ rw c.kept_chain_len-size.ensures.value at c.put_chain-end.ensures.kept);
+      ends = λ d low. elim (cases_lt d (8 * g)) [
+        | inl before ↦ c.put_lanes.ensures.kept f values d (c.loop-group.invariant.ends d (omega (arith, here, before)))
+        | inr ge ↦
+            let i : ℕ = d - 8 * g in
+            let used : i < c.min-used.result = omega (arith, low, next, ge) in
+            let lane : i < 8 = omega (arith, used, c.min-used.ensures) in
+            let at : slice_index c.consecutive.result i ≡ d = c.consecutive.ensures i lane ∙ omega arith in
+            rw at at (c.put_lanes.ensures.written f values i used)
+      ];
+      kept = λ d low. elim (cases_lt d (8 * g)) [
+        | inl before ↦ c.keep_chains-nodes.ensures.before d before ∙ c.loop-group.invariant.kept d (omega (arith, here, before))
+        | inr ge ↦
+            let i : ℕ = d - 8 * g in
+            let at : 8 * g + i ≡ d = omega arith in
+            let used : i < c.min-used.result = omega (arith, low, next, ge) in
+            let few : d < len p = omega (arith, low, all) in
+            let size : length c.keep_chains-nodes.new.kept ≡ len p * kept_chain_len p = omega (arith, c.keep_chains-nodes.auto.kept, c.loop-group.auto.kept, c.requires) in
+            let room = part_fits d (len p) (kept_chain_len p) (length c.keep_chains-nodes.new.kept) few size in
+            let long : length (part (kept_chain_len p) c.keep_chains-nodes.new.kept d) ≡ kept_count p * p.n =
+            length-take-le (kept_chain_len p) (drop (d * kept_chain_len p) c.keep_chains-nodes.new.kept) (simp length-drop (omega (arith, room))) in
+            chain_of_values p sk pk c.args.at d (part (kept_chain_len p) c.keep_chains-nodes.new.kept d) long (λ q many.
+            rw at at (c.keep_chains-nodes.ensures.kept i q used many))
+      ];
     }
 
 pub returns-clause-value : goal.returns-clause-value
 unfolding wots_pk
 returns-clause-value c =
-    let e : c.loop-c.c ≡ len (params c.args.seeds.now.set) = omega (arith, c.len-c-end.ensures) in
-    rw e at (c.finish.ensures.value _ _ _ _ c.loop-c.invariant.ends)
-
-pub returns-clause-len : goal.returns-clause-len
-returns-clause-len c = c.finish.ensures.len _ _ _ _ c.loop-c.invariant.ends
+    let p = params c.args.seeds.now.set in
+    let sk = c.args.seeds.now.sk_seed.now in
+    let pk = c.args.seeds.now.pk_seed.now in
+    let all = group_all c.loop-group.group c.len-count.result c.div_ceil-group-end.result c.div_ceil-group-end.ensures c.loop-group-test.false ∙ c.len-count.ensures in
+    let long : length c.loop-group.ends ≡ len p * p.n = search rules in
+    c.compressed_ends.ensures.value
+    ∙ ap (T p pk (wots_address c.args.at 1 0 0)) (all_parts (whole_chain p sk pk c.args.at) p.n (len p) c.loop-group.ends long (λ d low.
+    rw c.n-n.ensures at (c.loop-group.invariant.ends d (omega (arith, all, low)))))
 
 pub returns-clause-kept : goal.returns-clause-kept
 unfolding kept_chains
 returns-clause-kept c =
     let p = params c.args.seeds.now.set in
-    written_all _ (len p) (kept_chain_len p) c.loop-c.c c.loop-c.kept (omega (arith, c.len-c-end.ensures)) (omega (arith, c.requires)) c.loop-c.invariant.kept
+    let sk = c.args.seeds.now.sk_seed.now in
+    let pk = c.args.seeds.now.pk_seed.now in
+    let all = group_all c.loop-group.group c.len-count.result c.div_ceil-group-end.result c.div_ceil-group-end.ensures c.loop-group-test.false ∙ c.len-count.ensures in
+    all_parts (kept_chain p sk pk c.args.at) (kept_chain_len p) (len p) c.loop-group.kept (omega (arith, c.loop-group.auto.kept, c.requires)) (λ d low. c.loop-group.invariant.kept d (omega (arith, all, low)))

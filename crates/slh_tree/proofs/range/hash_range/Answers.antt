@@ -20,7 +20,7 @@ pub push-requires-clause-own : goal.push-requires-clause-own
 push-requires-clause-own g c = record {
   height = omega arith;
   within = omega arith;
-  bytes = c.leaf.ensures ∙ sym (node-leaf (g.T.Tree.tree c.args.tree.now) c.loop-i.i);
+  bytes = c.leaf.ensures.leaf ∙ sym (node-leaf (g.T.Tree.tree c.args.tree.now) c.loop-i.i);
 }
 
 pub push-requires-clause-follows : goal.push-requires-clause-follows
@@ -42,7 +42,8 @@ loop-i-preserved g c =
     let e : (c.loop-i.i + 1) * 2 ^ 0 ≡ c.loop-i.i + 1 = omega arith in
     record {
       cover = subst At e (c.push.ensures.cover c.args.lo cover);
-      record_is = hashed_more t c.args.lo c.loop-i.i c.args.rec.now c.loop-i.rec c.note.new.self c.push.new.rec leaf refl refl c.leaf.ensures c.loop-i.auto.i c.loop-i.invariant.record_is notes pushed;
+      made = c.leaf.ensures.own;
+      record_is = hashed_more t c.args.lo c.loop-i.i c.args.rec.now c.loop-i.rec c.note.new.self c.push.new.rec leaf refl refl c.leaf.ensures.leaf c.loop-i.auto.i c.loop-i.invariant.record_is notes pushed;
     }
 
 pub returns-clause-lo : goal.returns-clause-lo

@@ -1,0 +1,106 @@
+//! What the calls ask of their arguments, rule by rule, as `specs/Rules` states it.
+ghost use Rattle.std.specs.Prelude.{◌≡◌, IfOk, IfErr};
+ghost use Rattle.slh_c.specs.Refusals.{number};
+ghost use Rattle.slh_c.specs.Rules.{first_refusal, AreMet};
+ghost use Rattle.slh_c.specs.Rules as rules;
+
+use crate::refusal::Refusal;
+use slh_core::PreHash;
+use slh_jobs::start_len;
+use slh_params::ParamSet;
+
+/// What is asked of an argument, and the refusal where it does not hold.
+#[derive(Clone, Copy)]
+pub struct Rule {
+    pub is_met: bool,
+    pub refusal: Refusal,
+}
+
+/// The refusal of the first rule that is not met.
+pub(crate) fn judge(rules: &[Rule]) -> Result<(), Refusal>
+    ensures refused { IfErr result (λ refusal. first_refusal rules.now ≡ number refusal) }
+    ensures done { IfOk result (λ _. first_refusal rules.now ≡ 0) }
+    ensures met { IfOk result (λ _. AreMet rules.now) }
+{
+    for rule in rules {
+        if !rule.is_met {
+            return Err(rule.refusal);
+        }
+    }
+    Ok(())
+}
+
+/// That bytes have this length.
+pub(crate) fn has_len(bytes: &[u8], len: usize, refusal: Refusal) -> Rule
+    ensures { result ≡ rules.has_len bytes.now len refusal }
+{
+    Rule {
+        is_met: bytes.len() == len,
+        refusal,
+    }
+}
+
+/// That a secret key has 4n bytes.
+pub(crate) fn secret(set: ParamSet, sk: &[u8]) -> Rule
+    ensures { result ≡ rules.secret set sk.now }
+{
+    has_len(sk, set.sk_len(), Refusal::BadLength)
+}
+
+/// That a randomizer has n bytes, or none for the deterministic variant.
+pub(crate) fn randomizer(set: ParamSet, bytes: &[u8]) -> Rule
+    ensures { result ≡ rules.randomizer set bytes.now }
+{
+    Rule {
+        is_met: bytes.is_empty() || bytes.len() == set.n(),
+        refusal: Refusal::BadRandomizerLength,
+    }
+}
+
+/// That a seed has n bytes.
+pub(crate) fn seed(set: ParamSet, bytes: &[u8]) -> Rule
+    ensures { result ≡ rules.seed set bytes.now }
+{
+    has_len(bytes, set.n(), Refusal::BadSeedLength)
+}
+
+/// That an output has this length.
+pub(crate) fn output(len: usize, out: &[u8]) -> Rule
+    ensures { result ≡ rules.output len out.now }
+{
+    has_len(out, len, Refusal::BadOutputLength)
+}
+
+/// That a context has at most 255 bytes.
+pub(crate) fn context(ctx: &[u8]) -> Rule
+    ensures { result ≡ rules.context ctx.now }
+{
+    Rule {
+        is_met: ctx.len() <= 255,
+        refusal: Refusal::ContextTooLong,
+    }
+}
+
+/// That a start has the length of the set's.
+pub(crate) fn begun(set: ParamSet, start: &[u8]) -> Rule
+    ensures { result ≡ rules.begun set start.now }
+{
+    has_len(start, start_len(set), Refusal::BadStartLength)
+}
+
+/// That a number is one of these jobs'.
+pub(crate) fn below(job: u32, count: u32) -> Rule
+    ensures { result ≡ rules.below job count }
+{
+    Rule {
+        is_met: job < count,
+        refusal: Refusal::NoSuchJob,
+    }
+}
+
+/// That a digest has the length of the function's.
+pub(crate) fn digest(function: PreHash, bytes: &[u8]) -> Rule
+    ensures { result ≡ rules.digest function bytes.now }
+{
+    has_len(bytes, function.digest_len(), Refusal::BadDigestLength)
+}

@@ -1,0 +1,100 @@
+//! F, PRF, chains and SHA-256's compression in eight lanes.
+ghost use Rattle.std.specs.Prelude.{◌<◌};
+
+use crate::params::adrs_of;
+use crate::row::Row;
+use slh_lanes::{
+    LaneAdrs, LaneNodes, SeededLanes, Words, adrs_lanes, compress, consecutive, lane_node,
+    node_lanes, set_chains, set_hashes, set_lane,
+};
+use slh_params::ParamSet;
+
+/// Eight numbers, of which the next field is the first.
+fn numbers_from(row: &mut Row) -> Words {
+    consecutive(row.below((1 << 32) - 7) as u32)
+}
+
+/// An address, and in place of its last two words eight chains and eight hashes, each by the first of them.
+fn adrs_of_lanes(row: &mut Row) -> LaneAdrs {
+    let mut adrs = adrs_lanes(&adrs_of(row));
+    set_chains(&mut adrs, numbers_from(row));
+    set_hashes(&mut adrs, numbers_from(row));
+    adrs
+}
+
+/// The next eight fields, nodes.
+#[tactic(auto, using(slh_params::proofs::Bounds::n_high, slh_lanes::proofs::NodeLengths::n_whole))]
+fn nodes_of(row: &mut Row, set: ParamSet) -> LaneNodes {
+    let mut nodes = node_lanes(&[]);
+    for j in 0..8usize {
+        set_lane(&mut nodes, j, &row.node(set));
+    }
+    nodes
+}
+
+/// The next eight fields are these nodes.
+fn are_nodes(row: &mut Row, nodes: &LaneNodes, set: ParamSet) {
+    for j in 0..8usize {
+        row.is_bytes(&lane_node(nodes, j, set.n()));
+    }
+}
+
+/// A set, PK.seed, eight addresses, eight nodes; F in each lane.
+pub fn lanes_f(row: &mut Row) {
+    let set = row.set();
+    let pk_seed = row.bytes();
+    let adrs = adrs_of_lanes(row);
+    let x = nodes_of(row, set);
+    are_nodes(row, &SeededLanes::new(set, &pk_seed).f(&adrs, &x), set);
+}
+
+/// A set, PK.seed, SK.seed, eight addresses; PRF in each lane.
+pub fn lanes_prf(row: &mut Row) {
+    let set = row.set();
+    let (pk_seed, sk_seed) = (row.bytes(), row.bytes());
+    let adrs = adrs_of_lanes(row);
+    let secrets = SeededLanes::new(set, &pk_seed).prf(&sk_seed, &adrs);
+    are_nodes(row, &secrets, set);
+}
+
+/// A set, PK.seed, eight addresses, eight nodes; the chains run on from the nodes after 2 steps, for 13 steps, and after
+/// 0, 3, 0, 14, 200, 15, 1 and 7 steps, for 0, 1, 15, 1, 55, 0, 2 and 8 steps.
+pub fn lanes_chains(row: &mut Row) {
+    let set = row.set();
+    let pk_seed = row.bytes();
+    let lanes = SeededLanes::new(set, &pk_seed);
+    let adrs = adrs_of_lanes(row);
+    let x = nodes_of(row, set);
+    are_nodes(row, &lanes.chains(&adrs, &x, 2, 13), set);
+    let from = Words::from_array([0, 3, 0, 14, 200, 15, 1, 7]);
+    let counts = Words::from_array([0, 1, 15, 1, 55, 0, 2, 8]);
+    are_nodes(row, &lanes.chains_each(&adrs, &x, from, counts), set);
+}
+
+/// A hash value, a block; the hash value after it, in each lane where the others' blocks are zeros.
+pub fn lanes_compress(row: &mut Row) {
+    let (state, block, after) = (row.bytes(), row.bytes(), row.bytes());
+    if state.len() != 32 || block.len() != 64 {
+        return row.refuse();
+    }
+    let mut bytes = [0; 64];
+    bytes.copy_from_slice(&block);
+    for j in 0..8usize {
+        let mut states = node_lanes(&state);
+        compress(&mut states, &block_in(j, &bytes));
+        row.is_true(lane_node(&states, j, 32).as_slice() == after.as_slice());
+    }
+}
+
+/// A block in lane `j`, and zeros in the others.
+fn block_in(j: usize, block: &[u8; 64]) -> [Words; 16]
+    requires { j < 8 }
+{
+    let (mut first, mut last) = (node_lanes(&[]), node_lanes(&[]));
+    set_lane(&mut first, j, &block[..32]);
+    set_lane(&mut last, j, &block[32..]);
+    let mut words = [Words::splat(0); 16];
+    words[..8].copy_from_slice(&first);
+    words[8..].copy_from_slice(&last);
+    words
+}

@@ -1,0 +1,5 @@
+use Rattle.slh_lanes.proofs.WordLanes.{lane_lt}
+use Rattle.slh_lanes.proofs.words.tell_words.Goals as goal
+
+pub returns : goal.returns
+returns c = lane_lt c.args._x c.fits-_x

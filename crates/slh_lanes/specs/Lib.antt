@@ -1,0 +1,4 @@
+pub mod Columns
+pub mod Block
+pub mod Lanes
+pub mod Steps

@@ -1,0 +1,107 @@
+//! The block after PK.seed's that F and PRF hash, in eight lanes (FIPS 205, section 11.2).
+ghost use Rattle.std.specs.Prelude.{◌≡◌, ℕ, ◌<◌, ◌⊎◌, take};
+ghost use Rattle.sha2.specs.Sha256.{digest_bytes, initial_hash_256};
+ghost use Rattle.slh_lanes.specs.Block.{marked, second_block};
+ghost use Rattle.slh_lanes.specs.Columns.{column, HasWords};
+
+use crate::lane_adrs::LaneAdrs;
+use crate::lane_nodes::LaneNodes;
+use crate::words::{Words, halves, high, tell_all};
+
+/// The initial hash value (FIPS 180-4, section 5.3.3) in each lane.
+pub(crate) fn initial() -> [Words; 8]
+    ensures { (j : ℕ) → j < 8 → column j result ≡ initial_hash_256 }
+{
+    [
+        Words::splat(0x6a09_e667),
+        Words::splat(0xbb67_ae85),
+        Words::splat(0x3c6e_f372),
+        Words::splat(0xa54f_f53a),
+        Words::splat(0x510e_527f),
+        Words::splat(0x9b05_688c),
+        Words::splat(0x1f83_d9ab),
+        Words::splat(0x5be0_cd19),
+    ]
+}
+
+/// The words in lane 0.
+pub(crate) fn first_lane(words: &[Words; 8]) -> [u32; 8]
+    ensures { result ≡ column 0 words.now }
+{
+    let [a, b, c, d, e, f, g, h] = *words;
+    [
+        a.to_array()[0],
+        b.to_array()[0],
+        c.to_array()[0],
+        d.to_array()[0],
+        e.to_array()[0],
+        f.to_array()[0],
+        g.to_array()[0],
+        h.to_array()[0],
+    ]
+}
+
+/// Eight words, each in all eight lanes.
+#[inline(always)]
+pub(crate) fn splat_all(words: &[u32; 8]) -> [Words; 8]
+    ensures { (j : ℕ) → j < 8 → column j result ≡ words.now }
+{
+    let [a, b, c, d, e, f, g, h] = *words;
+    [
+        Words::splat(a),
+        Words::splat(b),
+        Words::splat(c),
+        Words::splat(d),
+        Words::splat(e),
+        Words::splat(f),
+        Words::splat(g),
+        Words::splat(h),
+    ]
+}
+
+/// The words of a value of n bytes, the word that begins the padding, and zeros.
+#[inline(always)]
+fn marked(x: &LaneNodes, n: usize) -> [Words; 9]
+    ensures { (j : ℕ) → j < 8 → column j result ≡ marked n (column j x.now) }
+{
+    let [a, b, c, d, e, f, g, h] = *x;
+    let mark = Words::splat(0x8000_0000);
+    let zero = Words::splat(0);
+    if n == 16 {
+        [a, b, c, d, mark, zero, zero, zero, zero]
+    } else if n == 24 {
+        [a, b, c, d, e, f, mark, zero, zero]
+    } else {
+        [a, b, c, d, e, f, g, h, mark]
+    }
+}
+
+/// The 22 bytes of the address, the n bytes of the value, and the padding.
+#[inline(always)]
+pub(crate) fn second_block(n: usize, adrs: &LaneAdrs, x: &LaneNodes) -> [Words; 16]
+    requires { (n ≡ 16) ⊎ (n ≡ 24) ⊎ (n ≡ 32) }
+    ensures { (j : ℕ) → j < 8 → HasWords
+        (second_block (take 22 (digest_bytes (column j adrs.now) 6)) (take n (digest_bytes (column j x.now) 8))) (column j result) }
+{
+    tell_all(adrs);
+    tell_all(x);
+    let m = marked(x, n);
+    [
+        adrs[0],
+        adrs[1],
+        adrs[2],
+        adrs[3],
+        adrs[4],
+        halves(high(adrs[5]), m[0]),
+        halves(m[0], m[1]),
+        halves(m[1], m[2]),
+        halves(m[2], m[3]),
+        halves(m[3], m[4]),
+        halves(m[4], m[5]),
+        halves(m[5], m[6]),
+        halves(m[6], m[7]),
+        halves(m[7], m[8]),
+        Words::splat(0),
+        Words::splat((86 + n as u32) * 8),
+    ]
+}

@@ -1,0 +1,43 @@
+//! Bytes to words of lanes and back, high byte first.
+ghost use Rattle.std.specs.Prelude.{◌≡◌, ℕ, ◌+◌, ◌*◌, ◌^◌, ◌<◌, ◌≤◌, length, slice_index};
+ghost use Rattle.std.specs.Int.{w32, to_be_bytes};
+ghost use Rattle.sha2.specs.Sha256.{digest_bytes, word_at};
+ghost use Rattle.slh_lanes.specs.Columns.{column};
+
+use crate::words::Words;
+
+/// The word at byte `i`.
+#[inline(always)]
+pub(crate) fn load_be(bytes: &[u8], i: usize) -> u32
+    requires { i + 4 ≤ length bytes.now }
+    ensures { result ≡ word_at bytes.now i }
+{
+    u32::from_be_bytes([bytes[i], bytes[i + 1], bytes[i + 2], bytes[i + 3]])
+}
+
+/// The words of the bytes, each in all eight lanes.
+#[inline(always)]
+pub(crate) fn load_all(words: &mut [Words], bytes: &[u8])
+    requires { 4 * length words.old ≤ length bytes.now }
+    ensures len { length words.new ≡ length words.old }
+    ensures words { (j : ℕ) → j < 8 → (k : ℕ) → k < length words.old
+        → slice_index (column j words.new) k ≡ word_at bytes.now (4 * k) }
+    ensures bytes { (k : ℕ) → slice_index bytes.now k < 2 ^ 8 }
+{
+    'words: for k in 0..words.len() {
+        words[k] = Words::splat(load_be(bytes, 4 * k));
+    }
+}
+
+/// Writes the bytes of lane `j`.
+#[inline(always)]
+pub(crate) fn store_lane(words: &[Words], j: usize, out: &mut [u8])
+    requires lane { j < 8 }
+    requires out { length out.old ≡ 4 * length words.now }
+    ensures { out.new ≡ digest_bytes (column j words.now) (length words.now) }
+{
+    'words: for k in 0..words.len() {
+        let lanes = words[k].to_array();
+        out[4 * k..4 * k + 4].copy_from_slice(&lanes[j].to_be_bytes());
+    }
+}

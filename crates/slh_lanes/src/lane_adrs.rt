@@ -1,0 +1,66 @@
+//! The addresses of eight hash calls (FIPS 205, sections 4.2 and 11.2).
+ghost use Rattle.std.specs.Prelude.{◌≡◌, ℕ, ◌<◌, slice_index};
+ghost use Rattle.slh_params.specs.Address.{Address, compressed};
+ghost use Rattle.slh_lanes.specs.Lanes.{HasAddress};
+
+use crate::bytes::{load_all, store_lane};
+use crate::words::{Words, halves, high, low, tell_all};
+use slh_params::Adrs;
+
+/// The addresses of eight hash calls, one in each lane: the 22 bytes of the compressed form as six words, of which the
+/// last two bytes are not read.
+pub type LaneAdrs = [Words; 6];
+
+/// One address in all eight lanes.
+pub fn adrs_lanes(adrs: &Adrs) -> LaneAdrs
+    ensures { (j : ℕ) → j < 8 → HasAddress result j adrs.now }
+{
+    let mut bytes = [0; 24];
+    bytes[..22].copy_from_slice(adrs.compressed());
+    let mut lanes = [Words::splat(0); 6];
+    load_all(&mut lanes, &bytes);
+    lanes
+}
+
+/// setKeyPairAddress in each lane: the leaf of a tree.
+pub fn set_pairs(adrs: &mut LaneAdrs, pairs: Words)
+    ensures { (j : ℕ) → j < 8 → (a : Address) → HasAddress adrs.old j a
+        → HasAddress adrs.new j (record a { key_pair = slice_index pairs j }) }
+{
+    tell_all(adrs);
+    adrs[2] = halves(high(adrs[2]), pairs);
+    adrs[3] = halves(pairs, low(adrs[3]));
+}
+
+/// setChainAddress in each lane: the chain of a WOTS+ key, or the height of a node.
+pub fn set_chains(adrs: &mut LaneAdrs, chains: Words)
+    ensures { (j : ℕ) → j < 8 → (a : Address) → HasAddress adrs.old j a
+        → HasAddress adrs.new j (record a { chain = slice_index chains j }) }
+{
+    tell_all(adrs);
+    adrs[3] = halves(high(adrs[3]), chains);
+    adrs[4] = halves(chains, low(adrs[4]));
+}
+
+/// setHashAddress in each lane: the step of a chain, or the index of a node.
+#[inline(always)]
+pub fn set_hashes(adrs: &mut LaneAdrs, hashes: Words)
+    ensures { (j : ℕ) → j < 8 → (a : Address) → HasAddress adrs.old j a
+        → HasAddress adrs.new j (record a { hash = slice_index hashes j }) }
+{
+    tell_all(adrs);
+    adrs[4] = halves(high(adrs[4]), hashes);
+    adrs[5] = low(hashes);
+}
+
+/// The 22 bytes of the address in lane `j`.
+pub(crate) fn lane_compressed(adrs: &LaneAdrs, j: usize) -> [u8; 22]
+    requires { j < 8 }
+    ensures { (a : Address) → HasAddress adrs.now j a → result ≡ compressed a }
+{
+    let mut bytes = [0; 24];
+    store_lane(adrs, j, &mut bytes);
+    let mut out = [0; 22];
+    out.copy_from_slice(&bytes[..22]);
+    out
+}

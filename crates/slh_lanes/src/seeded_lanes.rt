@@ -1,0 +1,185 @@
+//! F, PRF and H of eight addresses under one PK.seed (FIPS 205, section 11.2), and steps of eight chains (section 5).
+ghost use Rattle.std.specs.Prelude.{◌≡◌, ℕ, ◌+◌, ◌*◌, ◌^◌, ◌<◌, ◌≤◌, ◌⊎◌, ◌++◌, List, length, slice_index, take};
+ghost use Rattle.sha2.specs.Sha256.{compress, digest_bytes, initial_hash_256, sha256};
+ghost use Rattle.slh_params.specs.Address.{Address};
+ghost use Rattle.slh_params.specs.Params.{Params};
+ghost use Rattle.slh_params.specs.ParamSet.{params};
+ghost use Rattle.slh_hash.specs.Hash.{F, H, PRF, tweaked, tweaked_hash};
+ghost use Rattle.slh_hash.specs.HashFunctions.{SHA_256};
+ghost use Rattle.slh_lanes.specs.Block.{first_block, marked, second_block};
+ghost use Rattle.slh_lanes.specs.Columns.{column, HasWords};
+ghost use Rattle.slh_lanes.specs.Lanes.{HasAddress, IsSeededLanes, value_at};
+ghost use Rattle.slh_lanes.specs.Steps.{steps};
+
+use crate::block::{first_lane, initial, second_block, splat_all};
+use crate::bytes::load_all;
+use crate::lane_adrs::{LaneAdrs, lane_compressed, set_hashes};
+use crate::lane_nodes::{LaneNodes, lane_node, node_lanes, pick_nodes, set_lane, two_short};
+use crate::sha256_lanes::compress;
+use crate::words::{Words, add, most};
+use sha2::{Digest, Sha256};
+use slh_params::ParamSet;
+
+/// F, PRF and H of eight addresses under one PK.seed: SHA-256 in eight lanes after its first block, which PK.seed and zeros
+/// fill.
+///
+/// It is made once within a call that hashes often. Contracts see it by the relation `IsSeededLanes`.
+#[derive(Clone, Copy)]
+pub struct SeededLanes<'a> {
+    pub(crate) set: ParamSet,
+    pub(crate) pk_seed: &'a [u8],
+    pub(crate) state: [u32; 8],
+}
+
+impl<'a> SeededLanes<'a> {
+    /// The lanes under this PK.seed of n bytes.
+    pub fn new(set: ParamSet, pk_seed: &'a [u8]) -> Self
+        ensures { IsSeededLanes result (params set) pk_seed.now }
+    {
+        let state = state_after(pk_seed);
+        SeededLanes {
+            set,
+            pk_seed,
+            state,
+        }
+    }
+
+    /// F (FIPS 205, section 11.2) in each lane: the hash of its value of n bytes at its address.
+    pub fn f(&self, adrs: &LaneAdrs, x: &LaneNodes) -> LaneNodes
+        ensures { (p : Params) (pk : List ℕ) → IsSeededLanes self.now p pk → (j : ℕ) → j < 8 → (a : Address) → HasAddress adrs.now j a
+            → value_at result j p.n ≡ F p pk a (value_at x.now j p.n) }
+    {
+        if self.pk_seed.len() == self.set.n() {
+            self.digests(adrs, x, self.set.n())
+        } else {
+            self.f_alone(adrs, x)
+        }
+    }
+
+    /// PRF (section 11.2) in each lane: the secret at its address, from SK.seed of n bytes.
+    pub fn prf(&self, sk_seed: &[u8], adrs: &LaneAdrs) -> LaneNodes
+        ensures { (p : Params) (pk : List ℕ) → IsSeededLanes self.now p pk → (j : ℕ) → j < 8 → (a : Address) → HasAddress adrs.now j a
+            → value_at result j p.n ≡ PRF p pk sk_seed.now a }
+    {
+        if self.pk_seed.len() == self.set.n() && sk_seed.len() == self.set.n() {
+            self.digests(adrs, &node_lanes(sk_seed), self.set.n())
+        } else {
+            self.prf_alone(sk_seed, adrs)
+        }
+    }
+
+    /// H (section 11.2) of two nodes of 16 bytes in each lane, the hash of both at its address. Of other nodes, or where
+    /// PK.seed has another length, nothing is said.
+    pub fn h(&self, adrs: &LaneAdrs, left: &LaneNodes, right: &LaneNodes) -> LaneNodes
+        ensures { (p : Params) (pk : List ℕ) → IsSeededLanes self.now p pk → p.n ≡ 16 → length pk ≡ 16
+            → (j : ℕ) → j < 8 → (a : Address) → HasAddress adrs.now j a
+            → value_at result j p.n ≡ H p pk a (value_at left.now j p.n) (value_at right.now j p.n) }
+    {
+        self.digests(adrs, &two_short(left, right), 32)
+    }
+
+    /// Runs eight chains on from their values after `from` steps, each by `count` steps (section 5, Algorithm 5).
+    pub fn chains(&self, adrs: &LaneAdrs, x: &LaneNodes, from: u32, count: u32) -> LaneNodes
+        requires { from + count ≤ 2 ^ 32 }
+        ensures { (p : Params) (pk : List ℕ) → IsSeededLanes self.now p pk → (j : ℕ) → j < 8 → (a : Address) → HasAddress adrs.now j a
+            → value_at result j p.n ≡ steps p pk a (value_at x.now j p.n) from count }
+    {
+        let mut nodes = *x;
+        for step in 0..count {
+            let mut here = *adrs;
+            set_hashes(&mut here, Words::splat(from + step));
+            nodes = self.f(&here, &nodes);
+        }
+        nodes
+    }
+
+    /// Runs eight chains on, that of each lane from its own step and by its own number of steps. A lane that has ended
+    /// keeps its value.
+    pub fn chains_each(
+        &self,
+        adrs: &LaneAdrs,
+        x: &LaneNodes,
+        from: Words,
+        counts: Words,
+    ) -> LaneNodes
+        requires { (j : ℕ) → j < 8 → slice_index from j + slice_index counts j ≤ 2 ^ 32 }
+        ensures { (p : Params) (pk : List ℕ) → IsSeededLanes self.now p pk → (j : ℕ) → j < 8 → (a : Address) → HasAddress adrs.now j a
+            → value_at result j p.n ≡ steps p pk a (value_at x.now j p.n) (slice_index from j) (slice_index counts j) }
+    {
+        let mut nodes = *x;
+        for step in 0..most(counts) {
+            let number = Words::splat(step);
+            let mut here = *adrs;
+            set_hashes(&mut here, add(from, number));
+            let next = self.f(&here, &nodes);
+            nodes = pick_nodes(number, counts, &next, &nodes);
+        }
+        nodes
+    }
+
+    /// In each lane the first n bytes of the digest of PK.seed, zeros, the address and the value of `len` bytes.
+    fn digests(&self, adrs: &LaneAdrs, x: &LaneNodes, len: usize) -> LaneNodes
+        requires { (len ≡ 16) ⊎ (len ≡ 24) ⊎ (len ≡ 32) }
+        ensures { (p : Params) (pk : List ℕ) → IsSeededLanes self.now p pk → length pk ≡ p.n → (j : ℕ) → j < 8 → (a : Address)
+            → HasAddress adrs.now j a → value_at result j p.n ≡ tweaked_hash SHA_256 p pk a (value_at x.now j len) }
+    {
+        let mut state = splat_all(&self.state);
+        compress(&mut state, &second_block(len, adrs, x));
+        state
+    }
+
+    /// F in one lane after the other, for a PK.seed of another length than n.
+    fn f_alone(&self, adrs: &LaneAdrs, x: &LaneNodes) -> LaneNodes
+        ensures { (p : Params) (pk : List ℕ) → IsSeededLanes self.now p pk → (j : ℕ) → j < 8 → (a : Address) → HasAddress adrs.now j a
+            → value_at result j p.n ≡ F p pk a (value_at x.now j p.n) }
+    {
+        let mut nodes = *x;
+        for j in 0..8 {
+            let digest = self.digest_alone(adrs, j, &lane_node(x, j, self.set.n()));
+            set_lane(&mut nodes, j, &digest);
+        }
+        nodes
+    }
+
+    /// PRF in one lane after the other, for a seed of another length than n.
+    fn prf_alone(&self, sk_seed: &[u8], adrs: &LaneAdrs) -> LaneNodes
+        ensures { (p : Params) (pk : List ℕ) → IsSeededLanes self.now p pk → (j : ℕ) → j < 8 → (a : Address) → HasAddress adrs.now j a
+            → value_at result j p.n ≡ PRF p pk sk_seed.now a }
+    {
+        let mut nodes = [Words::splat(0); 8];
+        for j in 0..8 {
+            let digest = self.digest_alone(adrs, j, sk_seed);
+            set_lane(&mut nodes, j, &digest);
+        }
+        nodes
+    }
+
+    /// The digest of PK.seed, zeros, the address in lane `j` and the bytes.
+    fn digest_alone(&self, adrs: &LaneAdrs, j: usize, x: &[u8]) -> [u8; 32]
+        requires { j < 8 }
+        ensures { (p : Params) (pk : List ℕ) → IsSeededLanes self.now p pk → (a : Address) → HasAddress adrs.now j a
+            → result ≡ sha256 (tweaked 64 p pk a x.now) }
+    {
+        let mut hasher = Sha256::new();
+        hasher.update(self.pk_seed);
+        hasher.update(&[0; 64][..64 - self.set.n()]);
+        hasher.update(&lane_compressed(adrs, j));
+        hasher.update(x);
+        hasher.finalize()
+    }
+}
+
+/// The hash value after the first block, which PK.seed and zeros fill.
+fn state_after(pk_seed: &[u8]) -> [u32; 8]
+    ensures { (p : Params) → length pk_seed.now ≡ p.n → p.n ≤ 32
+        → result ≡ compress initial_hash_256 (first_block p pk_seed.now) }
+{
+    let len = pk_seed.len().min(64);
+    let mut bytes = [0; 64];
+    bytes[..len].copy_from_slice(&pk_seed[..len]);
+    let mut block = [Words::splat(0); 16];
+    load_all(&mut block, &bytes);
+    let mut state = initial();
+    compress(&mut state, &block);
+    first_lane(&state)
+}

@@ -1,0 +1,164 @@
+//! Vectors of eight words, one in each lane, and SHA-256's functions on them (FIPS 180-4, section 4.1.2).
+ghost use Rattle.std.specs.Prelude.{◌≡◌, ◌≢◌, ℕ, ◌+◌, ◌*◌, ◌/◌, ◌%◌, ◌^◌, ◌<◌, ◌≤◌, slice_index};
+ghost use Rattle.sha2.specs.Sha256.{add32, big_sigma0, big_sigma1, ch, maj, small_sigma0, small_sigma1};
+ghost use Rattle.slh_lanes.specs.Block.{halves};
+ghost use Rattle.slh_lanes.specs.Columns.{column};
+
+use std::simd::prelude::*;
+
+/// Eight words of 32 bits, one in each lane.
+pub type Words = u32x8;
+
+#[inline(always)]
+pub(crate) fn big_sigma0(x: Words) -> Words
+    ensures { (j : ℕ) → j < 8 → slice_index result j ≡ big_sigma0 (slice_index x j) }
+{
+    ((x >> 2) | (x << 30)) ^ ((x >> 13) | (x << 19)) ^ ((x >> 22) | (x << 10))
+}
+
+#[inline(always)]
+pub(crate) fn big_sigma1(x: Words) -> Words
+    ensures { (j : ℕ) → j < 8 → slice_index result j ≡ big_sigma1 (slice_index x j) }
+{
+    ((x >> 6) | (x << 26)) ^ ((x >> 11) | (x << 21)) ^ ((x >> 25) | (x << 7))
+}
+
+#[inline(always)]
+pub(crate) fn small_sigma0(x: Words) -> Words
+    ensures { (j : ℕ) → j < 8 → slice_index result j ≡ small_sigma0 (slice_index x j) }
+{
+    ((x >> 7) | (x << 25)) ^ ((x >> 18) | (x << 14)) ^ (x >> 3)
+}
+
+#[inline(always)]
+pub(crate) fn small_sigma1(x: Words) -> Words
+    ensures { (j : ℕ) → j < 8 → slice_index result j ≡ small_sigma1 (slice_index x j) }
+{
+    ((x >> 17) | (x << 15)) ^ ((x >> 19) | (x << 13)) ^ (x >> 10)
+}
+
+// One operation fewer than the standard's form.
+#[inline(always)]
+pub(crate) fn ch(x: Words, y: Words, z: Words) -> Words
+    ensures { (j : ℕ) → j < 8 → slice_index result j ≡ ch (slice_index x j) (slice_index y j) (slice_index z j) }
+{
+    z ^ (x & (y ^ z))
+}
+
+// One round's `x ^ y` is the next round's `y ^ z`, so it is computed once.
+#[inline(always)]
+pub(crate) fn maj(x: Words, y: Words, z: Words) -> Words
+    ensures { (j : ℕ) → j < 8 → slice_index result j ≡ maj (slice_index x j) (slice_index y j) (slice_index z j) }
+{
+    y ^ ((x ^ y) & (y ^ z))
+}
+
+#[inline(always)]
+pub(crate) fn add(x: Words, y: Words) -> Words
+    ensures { (j : ℕ) → j < 8 → slice_index result j ≡ add32 (slice_index x j) (slice_index y j) }
+{
+    x + y
+}
+
+// The low half of each word of `p` above the high half of `q`'s.
+#[inline(always)]
+pub(crate) fn halves(p: Words, q: Words) -> Words
+    ensures { (j : ℕ) → j < 8 → slice_index result j ≡ halves (slice_index p j) (slice_index q j) }
+{
+    (p << 16) + (q >> 16)
+}
+
+#[inline(always)]
+pub(crate) fn high(p: Words) -> Words
+    ensures { (j : ℕ) → j < 8 → slice_index result j ≡ slice_index p j / 2 ^ 16 }
+{
+    p >> 16
+}
+
+#[inline(always)]
+pub(crate) fn low(p: Words) -> Words
+    ensures { (j : ℕ) → j < 8 → slice_index result j ≡ slice_index p j * 2 ^ 16 % 2 ^ 32 }
+{
+    p << 16
+}
+
+/// The numbers from `first` on, one in each lane.
+pub fn consecutive(first: u32) -> Words
+    requires { first + 8 ≤ 2 ^ 32 }
+    ensures { (j : ℕ) → j < 8 → slice_index result j ≡ first + j }
+{
+    add(
+        Words::splat(first),
+        Words::from_array([0, 1, 2, 3, 4, 5, 6, 7]),
+    )
+}
+
+// The vector with another word in lane `j`.
+#[inline(always)]
+pub(crate) fn with_lane(words: Words, j: usize, word: u32) -> Words
+    requires { j < 8 }
+    ensures set { slice_index result j ≡ word }
+    ensures others { (i : ℕ) → i ≢ j → slice_index result i ≡ slice_index words i }
+{
+    let mut lanes = words.to_array();
+    lanes[j] = word;
+    Words::from_array(lanes)
+}
+
+// Of the sixteen words of two vectors the first, the third and so on.
+#[inline(always)]
+pub(crate) fn evens(x: Words, y: Words) -> Words
+    ensures low { (j : ℕ) → j < 4 → slice_index result j ≡ slice_index x (2 * j) }
+    ensures high { (j : ℕ) → j < 4 → slice_index result (j + 4) ≡ slice_index y (2 * j) }
+{
+    let [a, _, b, _, c, _, d, _] = x.to_array();
+    let [e, _, f, _, g, _, h, _] = y.to_array();
+    Words::from_array([a, b, c, d, e, f, g, h])
+}
+
+// Of the sixteen words of two vectors the second, the fourth and so on.
+#[inline(always)]
+pub(crate) fn odds(x: Words, y: Words) -> Words
+    ensures low { (j : ℕ) → j < 4 → slice_index result j ≡ slice_index x (2 * j + 1) }
+    ensures high { (j : ℕ) → j < 4 → slice_index result (j + 4) ≡ slice_index y (2 * j + 1) }
+{
+    let [_, a, _, b, _, c, _, d] = x.to_array();
+    let [_, e, _, f, _, g, _, h] = y.to_array();
+    Words::from_array([a, b, c, d, e, f, g, h])
+}
+
+// In each lane the word of `x` where that of `a` is below that of `b`, else the word of `y`.
+#[inline(always)]
+pub(crate) fn pick(a: Words, b: Words, x: Words, y: Words) -> Words
+    ensures below { (j : ℕ) → j < 8 → slice_index a j < slice_index b j → slice_index result j ≡ slice_index x j }
+    ensures others { (j : ℕ) → j < 8 → slice_index b j ≤ slice_index a j → slice_index result j ≡ slice_index y j }
+{
+    a.simd_lt(b).select(x, y)
+}
+
+// The largest word of all lanes.
+pub(crate) fn most(words: Words) -> u32
+    ensures { (j : ℕ) → j < 8 → slice_index words j ≤ result }
+{
+    let mut most = 0;
+    for word in words.to_array() {
+        most = most.max(word);
+    }
+    most
+}
+
+// The type's own fact about a vector: each lane is a word.
+#[inline(always)]
+pub(crate) fn tell_words(_x: Words)
+    ensures { (j : ℕ) → j < 8 → slice_index _x j < 2 ^ 32 }
+{}
+
+// The same of each vector of a list. This runs no code.
+#[inline(always)]
+pub(crate) fn tell_all(vectors: &[Words])
+    ensures { (j : ℕ) → j < 8 → (k : ℕ) → slice_index (column j vectors.now) k < 2 ^ 32 }
+{
+    'told: for k in 0..vectors.len() {
+        tell_words(vectors[k]);
+    }
+}

@@ -1,0 +1,75 @@
+//! Tests of a vector file, run with the 1st growth of memory refused, then the 2nd, and so on until a run meets no
+//! refusal.
+use super::equal;
+use super::fixtures::THREE_TESTS;
+use refusing_allocator::Refusing;
+use slh_vectors::{VectorFault, read_vectors, run_test, run_vectors};
+use slh_workers::Workers;
+use std::alloc::Global;
+use std::process::Abort;
+use std::test::Fail;
+
+/// More growths than any run here asks for.
+const MANY: u64 = 1000;
+
+/// Whether the call was refused for the growth that the allocator refused. Where it refused none, the call was not
+/// refused.
+fn was_refused<T: Drop>(
+    rt: &impl Abort,
+    alloc: &Refusing<Global>,
+    outcome: Result<T, VectorFault>,
+) -> bool {
+    let refused = alloc.has_refused();
+    let expected = if refused {
+        Some(VectorFault::NoMemory)
+    } else {
+        None
+    };
+    equal(rt, &outcome.err(), &expected);
+    refused
+}
+
+#[test]
+fn run_test_refuses_at_each_growth(rt: HostRuntime) -> Result<(), Fail> {
+    let tests = read_vectors(rt.alloc(), THREE_TESTS)?;
+    equal(&rt, &tests.len(), &3);
+    // Signing alone takes memory, for the bytes that it compares.
+    for (test, growths) in tests.iter().zip([0u64, 1, 0]) {
+        let mut refusals = 0u64;
+        for nth in 1..MANY {
+            let alloc = Refusing::new(rt.alloc(), rt.alloc(), nth)?;
+            let outcome = run_test(alloc.clone()?, test);
+            if !was_refused(&rt, &alloc, outcome) {
+                break;
+            }
+            refusals = nth;
+        }
+        equal(&rt, &refusals, &growths);
+    }
+    Ok(())
+}
+
+#[test]
+fn run_vectors_refuses_at_each_growth(rt: HostRuntime) -> Result<(), Fail> {
+    let tests = read_vectors(rt.alloc(), THREE_TESTS)?;
+    // One more worker asks for growths of its own, so their count tells whether the number of workers is handed on.
+    let mut before = 0u64;
+    for number in [1u8, 2] {
+        let workers = Workers::new(number).ok_or("workers")?;
+        let mut refusals = 0u64;
+        for nth in 1..MANY {
+            let alloc = Refusing::new(rt.alloc(), rt.alloc(), nth)?;
+            let outcomes = run_vectors(&rt, alloc.clone()?, &tests, workers);
+            if !was_refused(&rt, &alloc, outcomes) {
+                break;
+            }
+            refusals = nth;
+        }
+        assert!(rt;
+            before < refusals && refusals.wrapping_add(1) < MANY,
+            "{refusals} refusals"
+        );
+        before = refusals;
+    }
+    Ok(())
+}

@@ -1,0 +1,115 @@
+#!/usr/bin/env bash
+# Writes the release of this version into dist/, or looks whether dist/ is what the sources give:
+#
+#   dist/x86-64-v2/, dist/x86-64-v3/   the program slh, libslh.a, libslh_verify.a and libslh.so.0
+#   dist/aarch64/                      libslh.a and libslh_verify.a
+#   dist/wasm64/                       slh.wasm
+#   dist/include/                      the headers
+#   dist/BUILD                         the version, the hash of the sources (tools/sources.sh), and the kit
+#   dist/SHA256SUMS                    the hashes of all these files
+#
+# usage: tools/release.sh [--after-ci] VERSION     VERSION is that of the file VERSION, and nothing is uncommitted
+#        tools/release.sh [--after-ci] --check [FOLDER]     builds all again and compares, bit for bit
+#
+# `rt check` proves what is not proved yet; under --after-ci nobody looks, since `rt ci` has just proved all. What --check
+# builds is left in FOLDER, where one is given. Its last line is 'N passed, M failed'. Where the sources or the kit are not
+# those of dist/BUILD, it says so and compares the hashes alone: the status is then 3, and 0 under --after-ci. It needs rt.
+set -euo pipefail
+here=$(cd "$(dirname "${BASH_SOURCE[0]}")/.." && pwd)
+source "$here/tools/counts.sh"
+source "$here/tools/released.sh"
+usage() {
+    echo "usage: tools/release.sh [--after-ci] VERSION, or --check [FOLDER]" >&2
+    exit 2
+}
+after_ci=no
+if [ "${1-}" = --after-ci ]; then
+    after_ci=yes
+    shift
+fi
+[ $# = 1 ] || [ "$#-${1-}" = 2---check ] || usage
+work=$(mktemp -d)
+trap 'rm -rf "$work"' EXIT
+
+# The kit: its name, the sum of its logic, and the hashes of what compiles.
+kit_lines() {
+    rt version | sed -n 's/^\([^ ]*\) logic \([^ ]*\).*/kit \1\nlogic \2/p'
+    (exec -a clang "$("$here/tools/kit.py" path toolchain/bin/clang)" --version) | sed -n '1s/^/compiler /p'
+    local file
+    for file in bin/rattle bin/rattle-link toolchain/bin/clang; do
+        echo "$file $(sha256sum <"$("$here/tools/kit.py" path "$file")" | cut -d ' ' -f 1)"
+    done
+}
+
+# Builds all into a folder.
+build() {
+    local target level
+    if [ "$after_ci" = no ]; then
+        (cd "$here/crates/slh" && rt check) >&2
+        (cd "$here/crates/slh_c" && rt check) >&2
+    fi
+    for target in x86-64-v2 x86-64-v3 aarch64 wasm64; do
+        "$here/tools/target.sh" "$target" "$1/$target"
+    done
+    for level in x86-64-v2 x86-64-v3; do
+        "$here/tools/program.sh" "$level" "$1/$level/slh"
+    done
+    install -D -m 644 -t "$1/include" "$here"/include/*.h
+    {
+        echo "version $(cat "$here/VERSION")"
+        echo "sources $("$here/tools/sources.sh")"
+        kit_lines
+    } >"$1/BUILD"
+    (cd "$1" && find . -type f -printf '%P\0' | LC_ALL=C sort -z | xargs -0 sha256sum >"$work/sums" && mv "$work/sums" SHA256SUMS)
+}
+
+write() {
+    if [ "$1" != "$(cat "$here/VERSION")" ]; then
+        echo "tools/release.sh: the file VERSION says $(cat "$here/VERSION")" >&2
+        exit 2
+    fi
+    if [ -n "$(git -C "$here" status --porcelain -- . ':!dist')" ]; then
+        echo "tools/release.sh: something is not committed" >&2
+        exit 2
+    fi
+    build "$work/dist"
+    rm -rf "$here/dist"
+    mv "$work/dist" "$here/dist"
+    echo "dist/ is the release $1"
+}
+
+# Says why nothing is compared, and ends.
+not_compared() {
+    echo "SKIPPED: $1, so nothing was compared"
+    [ "$made" = "$work/dist" ] || build "$made"
+    end_counts || exit 1
+    [ "$after_ci" = yes ] || exit 3
+    exit 0
+}
+
+check() {
+    local file made=${1:-$work/dist}
+    has_release || not_compared "there is no release in dist/"
+    mapfile -t files < <(cd "$here/dist" && find . -type f ! -name SHA256SUMS -printf '%P\n' | LC_ALL=C sort)
+    for file in "${files[@]}"; do
+        tell "dist/$file has the hash that SHA256SUMS lists" "$(are_whole "$file" && echo yes || echo no)"
+    done
+    tell "SHA256SUMS lists no other file" "$(diff <(printf '%s\n' "${files[@]}") \
+        <(awk '{ print $2 }' "$here/dist/SHA256SUMS") >&2 && echo yes || echo no)"
+    has_sources_of_release || not_compared "the sources are not those of dist/BUILD"
+    tell "dist/BUILD has the version of the file VERSION" \
+        "$([ "$(release_says version)" = "$(cat "$here/VERSION")" ] && echo yes || echo no)"
+    diff <(kit_lines | grep /) <(grep / "$here/dist/BUILD") >&2 || not_compared "the kit is not that of dist/BUILD"
+    build "$made"
+    for file in "${files[@]}"; do
+        [ "$file" = BUILD ] ||
+            tell "dist/$file is built again bit for bit" "$(cmp "$here/dist/$file" "$made/$file" >&2 && echo yes || echo no)"
+    done
+    end_counts
+}
+
+case "$1" in
+--check) check "${2-}" ;;
+-*) usage ;;
+*) write "$1" ;;
+esac

@@ -1,0 +1,290 @@
+#!/usr/bin/env python3
+"""Tries wrong bodies: edits of the sources, each of which the prover has to refuse.
+
+usage: tools/wrong_bodies.py [CRATE..]      all edits of these crates
+       tools/wrong_bodies.py --all          all edits
+       tools/wrong_bodies.py --changed      all edits of each crate that is not as the list says
+       tools/wrong_bodies.py --gate [SEED]  these, and all edits of some more crates, drawn by SEED or at random, until
+                                            they are an eighth of all
+       --write with any of these            writes the list anew for each crate whose edits were all refused
+
+An edit is a file crates/NAME/wrong/EDIT.edit with lines
+
+    refused: FUNCTION    the function whose proof has to be missing then, by the end of its path as a check prints it
+    file: src/FILE       the file that is changed
+    old: TEXT            a text that stands once in the file, on one line
+    new: TEXT            what stands in its place (more pairs may follow, each for the text that the earlier ones left)
+
+A copy of the crate is edited, and the function checked over the libraries that `rt ci`, or a check, has built. Refused
+is an edit whose check says that the proof of this function is missing: a name that is not there, a text that can't be
+read, or another function whose proof is missing without it, is an edit to mend. tools/wrong_bodies.txt lists for each
+crate the sum of what its edits' answers depend on, at which every edit was seen refused: its own files but comments, the
+contracts of the crates that it uses, the definitions that all these name, and the prover's logic. A crate that is not as
+listed makes the run fail, but under --write, and under --gate where all its edits are refused. The last line has the
+counts of edits and of listed crates, and the status is 0 where nothing failed.
+"""
+import argparse
+import concurrent.futures
+import hashlib
+import os
+import random
+import re
+import shutil
+import subprocess
+import sys
+import tempfile
+
+import kit
+from kit import ROOT, USES
+
+LIST = os.path.join(ROOT, "tools", "wrong_bodies.txt")
+PARTS = ("src", "specs", "proofs")
+SHARE = 8
+# What the prover says of a proof file that names what the edit took away.
+NAMES = re.compile(r"(\./)?proofs/.*(has no field|is not in scope|has no `|was not admitted|is no name)")
+# The declaration of a type or a trait.
+TYPE = re.compile(r"^(?:pub(?:\(\w+\))? )?(?:struct|enum|trait|type) [^\n;]*(?:;$|.*?^\})", re.M | re.S)
+# What it says of a text that it could not read, where the error is of no declaration or of a name.
+UNREAD = re.compile(r"is not in scope|has no field|is no name|operand is missing|expected the end|cannot continue")
+
+
+def files(crate, *parts):
+    """The files of parts of a crate, by their path in it."""
+    top = os.path.join(ROOT, "crates", crate)
+    for part in parts:
+        for folder, folders, names in os.walk(os.path.join(top, part)):
+            folders.sort()
+            for name in sorted(names):
+                yield os.path.relpath(os.path.join(folder, name), top)
+
+
+def text_of(crate, path):
+    with open(os.path.join(ROOT, "crates", crate, path), encoding="utf-8") as file:
+        return file.read()
+
+
+def without_comments(text):
+    return "\n".join(line for line in text.split("\n") if not re.match(r"\s*(//|--( |$))", line))
+
+
+def word_of(imported):
+    return imported.rpartition(" as ")[2].replace("◌", "")
+
+
+def contracts_of(text):
+    """What a source file, as `rt fmt` lays it out, tells other crates: its text without the bodies of functions and
+    without what is its own (functions that are not `pub` and belong to no trait, constants, modules, imports but for the
+    words of clauses that are left). Empty where nothing is `pub`."""
+    kept, indent, is_shown, in_body, owner = [], None, False, False, ""
+    for line in text.split("\n"):
+        if in_body:
+            in_body = line != indent + "}"
+            indent = indent if in_body else None
+            continue
+        owner = line if re.match(r"(pub )?(trait|impl)\b", line) else "" if line == "}" else owner
+        function = re.match(r"(\s*)(pub(?:\(\w+\))? )?(?:(?:final|const|unsafe|extern \"C\") )*fn \w", line)
+        if function and indent is None:
+            indent, is_shown = function[1], function[2] == "pub " or "trait " in owner or " for " in owner
+        is_own = re.match(r"\s*((ghost )?use |mod |(pub\(crate\) )?const |#\[tactic)", line)
+        if is_shown if indent is not None else not is_own:
+            kept.append(line)
+        if indent is not None and line.endswith("{") and re.match(r"\s*", line)[0] == indent:
+            in_body = True
+        elif indent is not None and line.endswith((";", "}")) and (function or line.endswith(";")):
+            indent = None
+    said = "\n".join(line for line in kept if line.strip())
+    imports = re.findall(r"ghost use ([^;{]*)\{([^}]*)\};", text)
+    names = [f"{path}{it}" for path, some in imports for it in map(str.strip, some.split(",")) if word_of(it) in said]
+    return "\n".join([*sorted(names), said]) if re.search(r"^\s*pub ", said, re.M) or " for " in said else ""
+
+
+def source_of(crate, module):
+    """The file of a crate that a module of its specs stands for: of specs/, or the one of src/ whose types it declares."""
+    names = module.strip(".").split(".")
+    for count in range(len(names), 0, -1):
+        folder, part, end = ("src", names[1:count], ".rt") if names[0] == "declared" else ("specs", names[:count], ".antt")
+        path = f"{folder}/{'/'.join(part)}{end}"
+        if os.path.isfile(os.path.join(ROOT, "crates", crate, path)):
+            return path
+    return None
+
+
+def shown(crate, path, is_used=False):
+    """What a file tells other crates: definitions, or the contracts and types of a source. Of a source that the other
+    crate does not use itself, but cites, types alone."""
+    text = without_comments(text_of(crate, path))
+    if path.endswith(".antt"):
+        return text
+    return contracts_of(text) if is_used else "\n".join(it[0] for it in TYPE.finditer(text))
+
+
+def cited(crate, texts):
+    """The definitions below a crate that texts name, and those that these name: (crate, file)."""
+    found, left, lower = set(), list(texts), set(kit.below(crate))
+    while left:
+        for name, module in re.findall(r"Rattle\.(\w+)\.specs\.([\w.]+)", left.pop()):
+            path = source_of(name, module) if name in lower else None
+            if path and (name, path) not in found:
+                found.add((name, path))
+                left.append(shown(name, path))
+    return found
+
+
+def sum_of(crate):
+    """The sum of what the answers to a crate's edits depend on."""
+    made = hashlib.sha256(kit.logic().encode())
+    own = [(path, text_of(crate, path)) for path in files(crate, *PARTS, "wrong")]
+    for path, text in own:
+        made.update(f"\0{path}\0{text if path.endswith('.edit') else without_comments(text)}".encode())
+    used = {(name, path) for name in USES[crate] if name in USES for path in files(name, "src")}
+    for name, path in sorted(used | cited(crate, [text for _, text in own] + [shown(*it, True) for it in used])):
+        text = shown(name, path, (name, path) in used)
+        made.update(f"\0{name}/{path}\0{text}".encode() if text else b"")
+    return made.hexdigest()
+
+
+def listed():
+    if not os.path.exists(LIST):
+        return {}
+    with open(LIST) as lines:
+        return {words[0]: words[1] for words in map(str.split, lines) if words}
+
+
+def edits(crate):
+    return [path for path in files(crate, "wrong") if path.endswith(".edit")]
+
+
+def read_edit(crate, path):
+    """The function that has to be refused and the texts of the changed files, or why the edit can't be applied."""
+    refused, file, old, texts = "", "", "", {}
+    for line in text_of(crate, path).split("\n"):
+        word, _, rest = line.partition(": ") if ": " in line else (line.rstrip(":"), "", "")
+        if word == "refused":
+            refused = rest.strip()
+        elif word == "file":
+            file = rest.strip()
+        elif word == "old":
+            old = rest
+        elif word == "new":
+            if file not in files(crate, "src"):
+                return refused, None, f"there is no file {file}"
+            text = texts.get(file) or text_of(crate, file)
+            if not old or text.count(old) != 1:
+                return refused, None, f"an 'old:' text stands in {file} {text.count(old) if old else 0} times, and not once"
+            texts[file], old = text.replace(old, rest), ""
+        elif line.strip():
+            return refused, None, f"a line begins neither with refused:, file:, old: nor new:: {line[:60]}"
+    if not refused or not texts:
+        return refused, None, "it names no function that has to be refused, or changes nothing"
+    return refused, texts, ""
+
+
+def is_unread(line, changed):
+    at = re.match(r"(?:\./)?(\S+?):\d+:\d+: error: (?:(`[^`]*`): )?(.*)", line)
+    said = at and re.sub(r"`[^`]*`", "", at[3])
+    return bool(at) and (at[1] in changed or at[1].startswith(("src/", "specs/"))) and (not at[2] or bool(UNREAD.search(said)))
+
+
+def verdict(status, said, refused, changed):
+    """Whether a check refused the function for want of a proof, and what it said."""
+    lines = said.rstrip("\n").split("\n")
+    unread = [it for it in lines if is_unread(it, changed)]
+    if unread or not re.fullmatch(r"only=\d+ proved=\d+", lines[-1]):
+        return False, f"BAD EDIT: it did not reach the prover: {(unread or lines[-3:])[0][:300]}"
+    if status == 0:
+        return False, "NOT REFUSED: the function is still proved"
+    is_asked = lambda name: f"::{name}".endswith(f"::{refused}")
+    missing = re.findall(r"^fn (\S+): (?:no proof|not proved)(?:: (it calls )?.*)?$", said, re.M)
+    others = [name for name, calls in missing if not calls and not is_asked(name)]
+    if others or not any(is_asked(name) for name, calls in missing if not calls):
+        return False, f"BAD EDIT: the proof of {', '.join(others) or 'no function'} is missing, and not that of {refused} alone"
+    told = [it for it in lines if re.match(r"(note: )?\S+:\d+:\d+:", it) and (": error" in it or it.startswith("note: "))]
+    proofs = [it for it in told + re.findall(r"^fn .*did not prove.*$", said, re.M) if not NAMES.match(it)]
+    if not proofs:
+        return False, f"BAD EDIT: only a proof file misses what the edit took away: {(told or lines)[0][:300]}"
+    return True, proofs[0][:160]
+
+
+def try_edits(crate, some):
+    """Tries edits of a crate in turn, each over what the checks of those before it kept."""
+    if kit.lacking(crate):
+        return [(crate, it, False, f"not tried: {kit.lacking(crate)[0]} is not built (rt ci builds it)") for it in some]
+    found = []
+    with tempfile.TemporaryDirectory(prefix="rt-edit-") as room:
+        kept, own = f"{room}/kept", os.path.join(ROOT, "crates", crate, "out", "incremental")
+        shutil.copytree(own, kept) if os.path.isdir(own) else os.mkdir(kept)
+        for path in some:
+            refused, texts, why = read_edit(crate, path)
+            if why:
+                found.append((crate, path, False, f"BAD EDIT: {why}"))
+                continue
+            copy = f"{room}/copy"
+            for part in PARTS:
+                if os.path.isdir(os.path.join(ROOT, "crates", crate, part)):
+                    shutil.copytree(os.path.join(ROOT, "crates", crate, part), f"{copy}/{part}")
+            for file, text in texts.items():
+                with open(f"{copy}/{file}", "w", encoding="utf-8") as it:
+                    it.write(text)
+            how = {"stdin": subprocess.DEVNULL, "stdout": subprocess.PIPE, "stderr": subprocess.STDOUT}
+            words = [kit.RATTLE, "check", *kit.words(crate), "--jobs", "1", "--only", refused, "--incremental", kept]
+            ran = subprocess.run(words, cwd=copy, text=True, errors="replace", **how)
+            found.append((crate, path, *verdict(ran.returncode, ran.stdout, refused, texts)))
+            print(f"{crate}/{os.path.basename(path)}: {'refused' if found[-1][2] else 'FAILED'}: {found[-1][3]}", flush=True)
+            shutil.rmtree(copy)
+    return found
+
+
+def drawn(some, seed):
+    """Crates drawn at random whose edits are an eighth of all."""
+    count = {name: len(edits(name)) for name in USES}
+    order, more = sorted(set(USES) - set(some)), []
+    random.Random(seed).shuffle(order)
+    while order and sum(count[name] for name in more) * SHARE < sum(count.values()):
+        more += [order.pop()]
+    return more
+
+
+def arguments():
+    parser = argparse.ArgumentParser(description="Tries wrong bodies, each of which the prover has to refuse.")
+    parser.add_argument("crate", nargs="*", choices=[*USES, []], help="crates whose edits are tried")
+    parser.add_argument("--all", action="store_true", help="all edits")
+    parser.add_argument("--changed", action="store_true", help="the edits of each crate that is not as listed")
+    parser.add_argument("--gate", nargs="?", const=random.randrange(1_000_000), type=int, metavar="SEED", help="these, and an eighth of the others")
+    parser.add_argument("--write", action="store_true", help="writes the list")
+    parser.add_argument("--jobs", type=int, default=len(os.sched_getaffinity(0)), help="how many checks run at once")
+    return parser.parse_args()
+
+
+def main():
+    asked, old = arguments(), listed()
+    sums = {name: sum_of(name) for name in USES if edits(name)}
+    stale = [it for it in {**sums, **old} if sums.get(it) != old.get(it) and (not asked.crate or it in asked.crate)]
+    some = list(asked.crate) or list(sums) if asked.all else list(asked.crate)
+    if asked.changed or asked.gate is not None:
+        some = [name for name in stale if name in sums]
+    if asked.gate is not None:
+        some += drawn(some, asked.gate)
+        print(f"seed {asked.gate}: {' '.join(some)}", flush=True)
+    with concurrent.futures.ThreadPoolExecutor(asked.jobs) as pool:
+        runs = sorted((name for name in some if edits(name)), key=lambda name: -len(edits(name)))
+        found = [it for ran in pool.map(lambda name: try_edits(name, edits(name)), runs) for it in ran]
+    failed = [it for it in found if not it[2]]
+    if asked.write:
+        well = {name: sums[name] for name in runs if not any(it[0] == name for it in failed)}
+        new = {name: it for name, it in sorted({**old, **well}.items()) if name in sums}
+        with open(LIST, "w") as file:
+            file.writelines(f"{name} {it}\n" for name, it in new.items())
+        stale = [name for name in stale if name in sums and new.get(name) != sums[name]]
+    for crate, path, _, why in failed:
+        print(f"{crate}/{os.path.basename(path)}: {why}")
+    for name in stale:
+        print(f"{name} is not as tools/wrong_bodies.txt lists it: run tools/wrong_bodies.py --write {name}")
+    if asked.gate is not None:
+        # all edits of these crates were tried just now
+        stale = [name for name in stale if name not in sums]
+    count = len(found) + len(set(asked.crate) or set(sums) | set(old))
+    print(f"{count - len(failed) - len(stale)} passed, {len(failed) + len(stale)} failed")
+    sys.exit(1 if failed or stale else 0)
+
+
+main()
