@@ -194,15 +194,16 @@ uint32_t slh_refusal_name(uint32_t refusal, char *name, size_t name_len);
  * - The root of the top tree is PK.root.
  *
  * A tag is HMAC with the hash function of the set (FIPS 205, section 11.2) under SK.prf || SK.seed || PK.seed, cut to n
- * bytes. Its text has the numbers of the set and, for a start, PK.root, R and the digest; for a node the start, the
- * levels and the job. No two different things have one text. So a start or an answer that was made under another key or
- * set, of another R or digest, or for another cutting or job has another tag, unless two values of HMAC are the same.
+ * bytes. Its text has the number of the encoding, those of the set and, for a start, PK.root, R and the digest; for a
+ * node the start, the levels and the job. No two different things have one text. So a start or an answer that was made
+ * under another key or set, of another R or digest, or for another cutting or job has another tag, unless two values of
+ * HMAC are the same.
  * That none are is not proved: tests try it.
  *
  * Bytes of an answer that the signature doesn't need are not looked at.
  *
- * What stands where in an answer is no promise: it may be otherwise in the next version of this library. Join answers
- * by the version that wrote them.
+ * What stands where in an answer is no promise: it may be otherwise in the next version of this library. The number of
+ * the encoding is in the text of every tag, so a version with another one refuses these starts and answers.
  *
  *
  * Faults

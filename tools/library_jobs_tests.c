@@ -324,8 +324,8 @@ static void oracle(const struct work *w) {
                                          w->start_len);
         expect(result == SLH_DONE && !is_tag(w, made), "R is a tag", w->set, i);
     }
-    const uint8_t six[] = {(uint8_t)n, 4, (uint8_t)sets[w->set - 1].hp, (uint8_t)sets[w->set - 1].d,
-                           (uint8_t)sets[w->set - 1].a, (uint8_t)sets[w->set - 1].k};
+    const uint8_t numbers[] = {1, (uint8_t)n, 4, (uint8_t)sets[w->set - 1].hp, (uint8_t)sets[w->set - 1].d,
+                               (uint8_t)sets[w->set - 1].a, (uint8_t)sets[w->set - 1].k};
     const uint8_t cut[] = {(uint8_t)w->xmss, (uint8_t)w->fors};
     for (uint32_t kind = 0; kind < 3; kind++)
         for (uint32_t job = 0; job < w->jobs; job += w->jobs - 1) {
@@ -335,8 +335,8 @@ static void oracle(const struct work *w) {
                 size_t len;
             } node = {place(w, job, &len), n},
               parts[3][6] = {{{w->start, body}, {cut, 2}, {number, 4}, node},
-                             {{&first, 1}, {six, 6}, {w->sk + 3 * n, n}, {w->start, body}},
-                             {{&first, 1}, {six, 6}, {w->start, w->start_len}, {cut, 2}, {number, 4}, node}};
+                             {{&first, 1}, {numbers, 7}, {w->sk + 3 * n, n}, {w->start, body}},
+                             {{&first, 1}, {numbers, 7}, {w->start, w->start_len}, {cut, 2}, {number, 4}, node}};
             uint8_t text[MOST_TEXT];
             size_t at = 0;
             for (size_t i = 0; i < 6; at += parts[kind][i].len, i++)

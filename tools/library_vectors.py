@@ -24,7 +24,7 @@ Of each test the calls must do what the file states:
 
 Of one sign test of each set whose name ends in f, each answer in turn has a wrong node with its tag, as a fault inside
 a job would write it. Where the node is one above the leaf that signs, or of the top tree, it is not joined; elsewhere
-the signature is another one, and valid.
+the signature is another one, and valid. A start, and answers, with the tags of another encoding are refused.
 
 Four tests at a time are run, each in a thread. The last line has the counts, and the status is 0 where no test failed.
 """
@@ -39,7 +39,9 @@ import subprocess
 import sys
 import threading
 
-DONE, INVALID, CONTEXT_TOO_LONG, ANSWERS_DISAGREE = 0, 30, 2, 25
+DONE, INVALID, CONTEXT_TOO_LONG, ANSWERS_DISAGREE, BAD_START = 0, 30, 2, 25, 28
+# The number of the encoding of starts and answers.
+ENCODING = 1
 SETS = [f"SLH-DSA-SHA2-{it}" for it in ("128s", "128f", "192s", "192f", "256s", "256f")]
 FUNCTIONS = ["SHA2-224", "SHA2-256", "SHA2-384", "SHA2-512", "SHA2-512/224", "SHA2-512/256"]
 # n, lg_w, h', d, a and k of each set (FIPS 205, Table 2)
@@ -153,11 +155,11 @@ def keygen_passes(test):
     return (made, written, checked) == (DONE,) * 3 and (secret.raw.hex(), public.raw.hex()) == (test["sk"], test["pk"])
 
 
-def tag(sk, kind, *parts):
+def tag(sk, kind, record, *parts, encoding=ENCODING):
     """The tag of a start (1: PK.root, R and the digest) or of an answer (2: the start, levels, job and node)."""
     n, function = len(sk) // 4, "sha256" if len(sk) == 64 else "sha512"
     sk_seed, sk_prf, pk_seed = sk[:n], sk[n : 2 * n], sk[2 * n : 3 * n]
-    return hmac.digest(sk_prf + sk_seed + pk_seed, bytes([kind]) + b"".join(parts), function)[:n]
+    return hmac.digest(sk_prf + sk_seed + pk_seed, bytes([kind, encoding, *record]) + b"".join(parts), function)[:n]
 
 
 class Jobs:
@@ -165,7 +167,7 @@ class Jobs:
 
     def __init__(self, test, xmss, fors):
         self.number, self.sk = SETS.index(test["set"]) + 1, bytes.fromhex(test["sk"])
-        self.cut, self.record = (self.number, xmss, fors), bytes(RECORDS[self.number - 1])
+        self.cut, self.record = (self.number, xmss, fors), RECORDS[self.number - 1]
         jobs, lens = ctypes.c_uint32(), [ctypes.c_size_t() for _ in range(2)]
         asked = library.slh_sign_jobs(*self.cut, ctypes.byref(jobs), *map(ctypes.byref, lens))
         if asked != DONE:
@@ -180,7 +182,7 @@ class Jobs:
     def answer_all(self):
         """Writes the answers, the last one first. Whether each is done, and has its tag, as the start has."""
         n, start = self.record[0], self.start.raw
-        well = start[-n:] == tag(self.sk, 1, self.record, self.sk[-n:], start[:-n])
+        well = start[-n:] == self.start_tag()
         for job in reversed(range(self.jobs)):
             at, length = self.place(job)
             answer = painted(length)
@@ -198,8 +200,12 @@ class Jobs:
     def put(self, at, some):
         ctypes.memmove(ctypes.byref(self.answers, at), some, len(some))
 
-    def tag(self, job, node):
-        return tag(self.sk, 2, self.record, self.start.raw, bytes(self.cut[1:]), job.to_bytes(4, "big"), node)
+    def start_tag(self, encoding=ENCODING):
+        return tag(self.sk, 1, self.record, self.sk[-self.record[0] :], self.start.raw[: -self.record[0]], encoding=encoding)
+
+    def tag(self, job, node, encoding=ENCODING):
+        parts = self.start.raw, bytes(self.cut[1:]), job.to_bytes(4, "big"), node
+        return tag(self.sk, 2, self.record, *parts, encoding=encoding)
 
     def join(self):
         out = painted(lengths(self.number)[2])
@@ -246,7 +252,24 @@ def faults_pass(test):
             well &= result == DONE and out != wanted
             well &= all(call(*it) == DONE for it in calls(test, "verify", jobs.sk[2 * n :], out))
         jobs.put(at, own)
-    return well and jobs.join() == (DONE, wanted)
+    return well and jobs.join() == (DONE, wanted) and other_encodings_are_refused(jobs)
+
+
+def other_encodings_are_refused(jobs):
+    """Whether a start with the tag of another encoding is refused by jobs and join, and an answer with such a tag by join."""
+    n, start = jobs.record[0], jobs.start.raw
+    well = True
+    for encoding in (ENCODING - 1, ENCODING + 1):
+        at, length = jobs.place(0)
+        own, answer = jobs.answers.raw[at : at + 2 * n], painted(length)
+        jobs.put(at + n, jobs.tag(0, own[:n], encoding))
+        well &= jobs.join()[0] == ANSWERS_DISAGREE
+        jobs.put(at, own)
+        jobs.start.raw = start[:-n] + jobs.start_tag(encoding)
+        well &= call("slh_sign_job", *jobs.cut, jobs.sk, jobs.start.raw, 0, answer) == BAD_START
+        well &= jobs.join()[0] == BAD_START
+        jobs.start.raw = start
+    return well and jobs.join()[0] == DONE
 
 
 def verify_passes(test):

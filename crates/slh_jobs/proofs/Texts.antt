@@ -5,7 +5,7 @@ use Rattle.std.proofs.lemmas.List.{append_assoc, drop_at, take_at}
 use Rattle.slh_params.specs.Bits.{to_byte, to_int}
 use Rattle.slh_params.specs.Params.{Params, numbers}
 use Rattle.slh_params.proofs.Bytes.{to_int-to_byte}
-use Rattle.slh_jobs.specs.Tags.{Tagged, OfStart, OfAnswer, OfKeyAnswer, IsSized, six, start_len, text}
+use Rattle.slh_jobs.specs.Tags.{Tagged, OfStart, OfAnswer, OfKeyAnswer, IsSized, head, start_len, text}
 
 -- two texts of which the fronts have one length
 pub fronts : (n : ℕ) (a b c d : List ℕ) → length a ≡ n → length c ≡ n → a ++ b ≡ c ++ d → a ≡ c
@@ -14,7 +14,7 @@ fronts n a b c d la lc e = sym (take_at a b n la) ∙ ap (λ (x : List ℕ). tak
 pub backs : (n : ℕ) (a b c d : List ℕ) → length a ≡ n → length c ≡ n → a ++ b ≡ c ++ d → b ≡ d
 backs n a b c d la lc e = sym (drop_at a b n la) ∙ ap (λ (x : List ℕ). drop n x) e ∙ drop_at c d n lc
 
--- a text is its first seven bytes, and the rest
+-- a text is its first eight bytes, and the rest
 abbrev kind : Tagged → ℕ
 kind (OfStart pk_root begun) = 1
 kind (OfAnswer start xmss fors job node) = 2
@@ -25,25 +25,25 @@ rest (OfStart pk_root begun) = pk_root ++ begun
 rest (OfAnswer start xmss fors job node) = start ++ ((xmss ∷ fors ∷ []) ++ (to_byte job 4 ++ node))
 rest (OfKeyAnswer xmss job node) = (xmss ∷ []) ++ (to_byte job 4 ++ node)
 
-parts : (p : Params) (x : Tagged) → text p x ≡ (kind x ∷ six p) ++ rest x
-parts p (OfStart pk_root begun) = append_assoc (1 ∷ six p) pk_root begun
+parts : (p : Params) (x : Tagged) → text p x ≡ head (kind x) p ++ rest x
+parts p (OfStart pk_root begun) = append_assoc (head 1 p) pk_root begun
 parts p (OfAnswer start xmss fors job node) =
-    let front = (2 ∷ six p) ++ start in
+    let front = (head 2 p) ++ start in
     let cut = xmss ∷ fors ∷ [] in
     append_assoc (front ++ cut) (to_byte job 4) node
     ∙ append_assoc front cut (to_byte job 4 ++ node)
-    ∙ append_assoc (2 ∷ six p) start (cut ++ (to_byte job 4 ++ node))
+    ∙ append_assoc (head 2 p) start (cut ++ (to_byte job 4 ++ node))
 parts p (OfKeyAnswer xmss job node) =
     let cut = xmss ∷ [] in
-    append_assoc ((3 ∷ six p) ++ cut) (to_byte job 4) node
-    ∙ append_assoc (3 ∷ six p) cut (to_byte job 4 ++ node)
+    append_assoc ((head 3 p) ++ cut) (to_byte job 4) node
+    ∙ append_assoc (head 3 p) cut (to_byte job 4 ++ node)
 
--- the seven bytes tell the kind and the record
-kind_of : (p q : Params) (x y : Tagged) → (kind x ∷ six p) ≡ (kind y ∷ six q) → kind x ≡ kind y
+-- the eight bytes tell the kind and the record
+kind_of : (p q : Params) (x y : Tagged) → head (kind x) p ≡ head (kind y) q → kind x ≡ kind y
 kind_of p q x y e = ap (λ (bytes : List ℕ). get_or bytes 0 0) e
 
-record_of : (p q : Params) (j k : ℕ) → (j ∷ six p) ≡ (k ∷ six q) → p ≡ q
-record_of p q j k e = ap (λ (bytes : List ℕ). numbers (get_or bytes 1 0) (get_or bytes 2 0) (get_or bytes 3 0) (get_or bytes 4 0) (get_or bytes 5 0) (get_or bytes 6 0)) e
+record_of : (p q : Params) (j k : ℕ) → head j p ≡ head k q → p ≡ q
+record_of p q j k e = ap (λ (bytes : List ℕ). numbers (get_or bytes 2 0) (get_or bytes 3 0) (get_or bytes 4 0) (get_or bytes 5 0) (get_or bytes 6 0) (get_or bytes 7 0)) e
 
 -- the number of a job
 job_of : (i j : ℕ) → i < 2 ^ 32 → j < 2 ^ 32 → to_byte i 4 ≡ to_byte j 4 → i ≡ j
@@ -93,8 +93,8 @@ one_of_rest p (OfKeyAnswer x i a) (OfKeyAnswer y j b) hx hy k e = key_same x y i
 -- one text, one record and one thing
 pub one_text : (p q : Params) (x y : Tagged) → IsSized p x → IsSized q y → text p x ≡ text q y → (p ≡ q) × (x ≡ y)
 one_text p q x y hx hy e =
-    let both : (kind x ∷ six p) ++ rest x ≡ (kind y ∷ six q) ++ rest y = sym (parts p x) ∙ e ∙ parts q y in
-    let heads : (kind x ∷ six p) ≡ (kind y ∷ six q) = fronts 7 (kind x ∷ six p) (rest x) (kind y ∷ six q) (rest y) refl refl both in
+    let both : head (kind x) p ++ rest x ≡ head (kind y) q ++ rest y = sym (parts p x) ∙ e ∙ parts q y in
+    let heads : head (kind x) p ≡ head (kind y) q = fronts 8 (head (kind x) p) (rest x) (head (kind y) q) (rest y) refl refl both in
     let same : p ≡ q = record_of p q (kind x) (kind y) heads in
     let sized : IsSized p y = subst (λ (r : Params). IsSized r y) (sym same) hy in
-    (same, one_of_rest p x y hx sized (kind_of p q x y heads) (backs 7 (kind x ∷ six p) (rest x) (kind y ∷ six q) (rest y) refl refl both))
+    (same, one_of_rest p x y hx sized (kind_of p q x y heads) (backs 8 (head (kind x) p) (rest x) (head (kind y) q) (rest y) refl refl both))

@@ -13,7 +13,7 @@ use Rattle.slh_few.specs.declared.place.Place.{Place}
 use Rattle.slh_core.specs.Cut.{md, idx_tree, idx_leaf}
 use Rattle.slh_core.specs.Keys.{Key, sk_seed, sk_prf, public_of, pk_seed}
 use Rattle.slh_jobs.specs.Ranges.{answer_len, range_answer}
-use Rattle.slh_jobs.specs.Tags.{OfAnswer, six, tag}
+use Rattle.slh_jobs.specs.Tags.{OfAnswer, head, tag}
 use Rattle.slh_jobs.specs.declared.levels.Levels.{Levels}
 use Rattle.slh_jobs.specs.declared.shape.Shape.{Shape}
 
@@ -72,7 +72,7 @@ tag_of c sk start n node =
 abbrev pub HoldsFront : CategoryHmac → Levels → Key → List ℕ → Type 0
 HoldsFront hmac c sk start =
     IsKeyed hmac (params_of c) (sk_prf sk ++ sk_seed sk ++ pk_seed (public_of sk))
-    ((2 ∷ six (params_of c)) ++ start ++ (c.xmss ∷ c.fors ∷ []))
+    (head 2 (params_of c) ++ start ++ (c.xmss ∷ c.fors ∷ []))
 
 -- the place that signs on layer l, the XMSS tree there, and what is kept of that key's chains
 abbrev pub place_in : Levels → List ℕ → ℕ → Place

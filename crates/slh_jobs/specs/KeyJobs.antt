@@ -6,7 +6,7 @@ use Rattle.slh_tree.specs.Tree.{MerkleTree, node, root}
 use Rattle.slh_few.specs.Xmss.{xmss_tree}
 use Rattle.slh_jobs.specs.Ranges.{below, given, node_given, tag_given, top_given}
 use Rattle.slh_jobs.specs.Jobs.{params_of}
-use Rattle.slh_jobs.specs.Tags.{OfKeyAnswer, six, tag}
+use Rattle.slh_jobs.specs.Tags.{OfKeyAnswer, head, tag}
 use Rattle.slh_jobs.specs.declared.levels.Levels.{Levels}
 use Rattle.slh_jobs.specs.declared.shape.Shape.{Shape}
 
@@ -27,7 +27,7 @@ key_tag c sk prf pk n node = tag (params_of c) sk prf pk (OfKeyAnswer c.xmss n n
 
 -- the HMAC has the key of the tags, and of the text of an answer's tag what stands before the number
 abbrev pub HoldsKeyFront : CategoryHmac → Levels → List ℕ → List ℕ → List ℕ → Type 0
-HoldsKeyFront hmac c sk prf pk = IsKeyed hmac (params_of c) (prf ++ sk ++ pk) ((3 ∷ six (params_of c)) ++ (c.xmss ∷ []))
+HoldsKeyFront hmac c sk prf pk = IsKeyed hmac (params_of c) (prf ++ sk ++ pk) (head 3 (params_of c) ++ (c.xmss ∷ []))
 
 -- the answer of job n
 abbrev pub key_answer : Levels → List ℕ → List ℕ → List ℕ → ℕ → List ℕ

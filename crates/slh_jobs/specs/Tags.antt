@@ -12,15 +12,23 @@ pub data Tagged : Type 0 where
   OfAnswer : (start : List ℕ) (xmss fors job : ℕ) (node : List ℕ) → Tagged
   OfKeyAnswer : (xmss job : ℕ) (node : List ℕ) → Tagged
 
+-- the number of the encoding: another where the bytes of a start or of an answer mean something else
+abbrev pub encoding : ℕ
+encoding = 1
+
 -- the six numbers of the record, a byte each
 abbrev pub six : Params → List ℕ
 six p = p.n ∷ p.lg_w ∷ p.hp ∷ p.d ∷ p.a ∷ p.k ∷ []
 
--- The text: a byte for the kind, the six numbers, and the parts.
+-- what a text begins with: a byte for the kind, the number of the encoding, and the six numbers
+abbrev pub head : ℕ → Params → List ℕ
+head kind p = kind ∷ encoding ∷ six p
+
+-- The text: what it begins with, and the parts.
 abbrev pub text : Params → Tagged → List ℕ
-text p (OfStart pk_root begun) = (1 ∷ six p) ++ pk_root ++ begun
-text p (OfAnswer start xmss fors job node) = (2 ∷ six p) ++ start ++ (xmss ∷ fors ∷ []) ++ to_byte job 4 ++ node
-text p (OfKeyAnswer xmss job node) = (3 ∷ six p) ++ (xmss ∷ []) ++ to_byte job 4 ++ node
+text p (OfStart pk_root begun) = head 1 p ++ pk_root ++ begun
+text p (OfAnswer start xmss fors job node) = head 2 p ++ start ++ (xmss ∷ fors ∷ []) ++ to_byte job 4 ++ node
+text p (OfKeyAnswer xmss job node) = head 3 p ++ (xmss ∷ []) ++ to_byte job 4 ++ node
 
 -- The tag: Trunc_n(HMAC(SK.prf ‖ SK.seed ‖ PK.seed, text)).
 abbrev pub tag : Params → List ℕ → List ℕ → List ℕ → Tagged → List ℕ

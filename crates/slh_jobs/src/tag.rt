@@ -10,7 +10,7 @@ ghost use Rattle.slh_hash.specs.Stream.{IsKeyed};
 ghost use Rattle.slh_jobs.specs.Jobs.{HoldsFront};
 ghost use Rattle.slh_jobs.specs.KeyJobs.{HoldsKeyFront};
 ghost use Rattle.slh_jobs.specs.Starts.{start_tag};
-ghost use Rattle.slh_jobs.specs.Tags.{Tagged, IsSized, six, text};
+ghost use Rattle.slh_jobs.specs.Tags.{Tagged, IsSized, head, text};
 
 use crate::levels::Levels;
 use arrayvec::ArrayVec;
@@ -25,18 +25,21 @@ const ANSWER: u8 = 2;
 
 const KEY_ANSWER: u8 = 3;
 
+/// The number of the encoding of starts and answers. Another version refuses them where theirs is another.
+const ENCODING: u8 = 1;
+
 /// A law: no two different things have one text, where their parts have the lengths that the kind and the record fix.
 pub fn texts_differ()
     ensures { (p q : Params) (this other : Tagged) → IsSized p this → IsSized q other → text p this ≡ text q other
         → (p ≡ q) × (this ≡ other) }
 {}
 
-/// HMAC under SK.prf ‖ SK.seed ‖ PK.seed, after the kind of what is tagged and the numbers of the set.
+/// HMAC under SK.prf ‖ SK.seed ‖ PK.seed, after the kind of what is tagged, the encoding and the numbers of the set.
 fn keyed_for(set: ParamSet, sk_seed: &[u8], sk_prf: &[u8], pk_seed: &[u8], kind: u8) -> CategoryHmac
     requires sk_seed { length sk_seed.now ≡ (params set).n }
     requires sk_prf { length sk_prf.now ≡ (params set).n }
     requires pk_seed { length pk_seed.now ≡ (params set).n }
-    ensures { IsKeyed result (params set) (sk_prf.now ++ sk_seed.now ++ pk_seed.now) (kind ∷ six (params set)) }
+    ensures { IsKeyed result (params set) (sk_prf.now ++ sk_seed.now ++ pk_seed.now) (head kind (params set)) }
 {
     let mut key = ArrayVec::<u8, 96>::new();
     let _ = key.try_extend_from_slice(sk_prf);
@@ -45,6 +48,7 @@ fn keyed_for(set: ParamSet, sk_seed: &[u8], sk_prf: &[u8], pk_seed: &[u8], kind:
     let mut keyed = CategoryHmac::new(set, key.as_slice());
     keyed.update(&[
         kind,
+        ENCODING,
         set.n() as u8,
         set.lg_w() as u8,
         set.hp() as u8,
