@@ -1,11 +1,11 @@
-//! F, PRF, chains and SHA-256's compression in eight lanes.
+//! F, PRF, H, chains and SHA-256's compression in eight lanes.
 ghost use Rattle.std.specs.Prelude.{◌<◌};
 
 use crate::params::adrs_of;
 use crate::row::Row;
 use slh_lanes::{
-    LaneAdrs, LaneNodes, SeededLanes, Words, adrs_lanes, compress, consecutive, lane_node,
-    node_lanes, set_chains, set_hashes, set_lane,
+    LaneAdrs, LaneNodes, SeededLanes, SeededTreeLanes, Words, adrs_lanes, compress, consecutive,
+    lane_node, node_lanes, set_chains, set_hashes, set_lane,
 };
 use slh_params::ParamSet;
 
@@ -55,6 +55,16 @@ pub fn lanes_prf(row: &mut Row) {
     let adrs = adrs_of_lanes(row);
     let secrets = SeededLanes::new(set, &pk_seed).prf(&sk_seed, &adrs);
     are_nodes(row, &secrets, set);
+}
+
+/// A set, PK.seed, eight addresses, eight left nodes, eight right ones; H in each lane.
+pub fn lanes_h(row: &mut Row) {
+    let set = row.set();
+    let pk_seed = row.bytes();
+    let adrs = adrs_of_lanes(row);
+    let (left, right) = (nodes_of(row, set), nodes_of(row, set));
+    let lanes = SeededTreeLanes::new(&SeededLanes::new(set, &pk_seed));
+    are_nodes(row, &lanes.h(&adrs, &left, &right), set);
 }
 
 /// A set, PK.seed, eight addresses, eight nodes; the chains run on from the nodes after 2 steps, for 13 steps, and after

@@ -3,6 +3,7 @@ ghost use Rattle.std.specs.Prelude.{[], take, drop, ◌≡◌, ℕ, List, ◌+�
 ghost use Rattle.slh_params.specs.Params.{md_len};
 ghost use Rattle.slh_params.specs.ParamSet.{params};
 ghost use Rattle.slh_hash.specs.Seeded.{IsSeeded};
+ghost use Rattle.slh_lanes.specs.TreeLanes.{IsSeededTreeLanes};
 ghost use Rattle.slh_tree.specs.Tree.{root as root_of};
 ghost use Rattle.slh_tree.specs.Climb.{path as path_of, climb as climb_of};
 ghost use Rattle.slh_few.specs.Fors.{fors_tree, fors_leaf, fors_secret, fors_part_len, fors_sig, fors_pk_from_sig, compressed_roots};
@@ -12,7 +13,7 @@ use crate::fors_parts::{fors_indices, fors_roots};
 use crate::fors_tree::{ForsTree, SeededForsTree, fors_adrs, index_in_forest};
 use crate::place::{Public, Seeds};
 use slh_hash::{SeededHash, SeededTreeHash};
-use slh_lanes::SeededLanes;
+use slh_lanes::{SeededLanes, SeededTreeLanes};
 use slh_params::{AdrsType, Node, ParamSet, node_of};
 use slh_tree::climb;
 
@@ -26,7 +27,8 @@ pub fn fors_part_len(set: ParamSet) -> usize
 
 /// Writes the secret of leaf `i`, then the leaf's path.
 #[tactic(auto, unfolding(crate::specs::Trees::fors_tree_of))]
-fn sign_tree(seeded_tree: &SeededForsTree, i: u32, out: &mut [u8])
+fn sign_tree(seeded_tree: &SeededForsTree, lanes: &SeededTreeLanes, i: u32, out: &mut [u8])
+    requires lanes { let seeds = seeded_tree.now.tree.seeds in IsSeededTreeLanes lanes.now (params seeds.set) seeds.pk_seed.now }
     requires leaf { i < 2 ^ (params seeded_tree.now.tree.seeds.set).a }
     requires out { length out.old ≡ fors_part_len (params seeded_tree.now.tree.seeds.set) }
     ensures { let t = seeded_tree.now.tree in let p = params t.seeds.set in
@@ -38,12 +40,19 @@ fn sign_tree(seeded_tree: &SeededForsTree, i: u32, out: &mut [u8])
     let tree = &seeded_tree.tree;
     let (secret, auth) = out.split_at_mut(tree.seeds.set.n());
     secret.copy_from_slice(&tree.secret(seeded_tree.seeded, i));
-    seeded_tree.put_path(i, auth);
+    seeded_tree.put_path(lanes, i, auth);
 }
 
 /// Writes the secret of leaf `i`, then the leaf's path, from `start` on.
 #[tactic(auto)]
-fn put_tree(seeded_tree: &SeededForsTree, i: u32, out: &mut [u8], start: usize)
+fn put_tree(
+    seeded_tree: &SeededForsTree,
+    lanes: &SeededTreeLanes,
+    i: u32,
+    out: &mut [u8],
+    start: usize,
+)
+    requires lanes { let seeds = seeded_tree.now.tree.seeds in IsSeededTreeLanes lanes.now (params seeds.set) seeds.pk_seed.now }
     requires leaf { i < 2 ^ (params seeded_tree.now.tree.seeds.set).a }
     requires out { start + fors_part_len (params seeded_tree.now.tree.seeds.set) ≤ length out.old }
     ensures { let t = seeded_tree.now.tree in let p = params t.seeds.set in
@@ -54,7 +63,7 @@ fn put_tree(seeded_tree: &SeededForsTree, i: u32, out: &mut [u8], start: usize)
         ++ path_of (fors_tree p sk pk t.idx_tree t.idx_leaf t.tree_no) i) }
 {
     let end = start + fors_part_len(seeded_tree.tree.seeds.set);
-    sign_tree(seeded_tree, i, &mut out[start..end]);
+    sign_tree(seeded_tree, lanes, i, &mut out[start..end]);
 }
 
 /// Writes the signature of a digest of md_len bytes by the key at leaf `idx_leaf` of tree `idx_tree`:
@@ -78,9 +87,16 @@ pub fn fors_sign(seeds: &Seeds, idx_tree: u64, idx_leaf: u32, md: &[u8], out: &m
     let seeded = SeededHash::new(seeds.set, seeds.pk_seed);
     let lanes = SeededLanes::new(seeds.set, seeds.pk_seed);
     let joins = SeededTreeHash::new(seeds.set, seeds.pk_seed);
+    let join_lanes = SeededTreeLanes::new(&lanes);
     for j in 0..seeds.set.k() {
         let tree = SeededForsTree::new(&seeded, &lanes, &joins, seeds, idx_tree, idx_leaf, j);
-        put_tree(&tree, indices[j as usize], out, j as usize * size);
+        put_tree(
+            &tree,
+            &join_lanes,
+            indices[j as usize],
+            out,
+            j as usize * size,
+        );
     }
 }
 

@@ -1,7 +1,8 @@
-//! Nodes of a FORS tree eight at a time, one in each lane, of sets whose nodes have 16 bytes (FIPS 205, section 8.2).
+//! Nodes of a FORS tree eight at a time, one in each lane (FIPS 205, section 8.2).
 ghost use Rattle.std.specs.Prelude.{◌≡◌, ℕ, List, ◌+◌, ◌-◌, ◌*◌, ◌^◌, ◌≤◌, ◌<◌, length};
 ghost use Rattle.slh_params.specs.ParamSet.{params};
-ghost use Rattle.slh_lanes.specs.Lanes.{IsSeededLanes, value_at};
+ghost use Rattle.slh_lanes.specs.Lanes.{value_at};
+ghost use Rattle.slh_lanes.specs.TreeLanes.{IsSeededTreeLanes};
 ghost use Rattle.slh_tree.specs.Climb.{path};
 ghost use Rattle.slh_tree.specs.Cover.{past_leaf};
 ghost use Rattle.slh_tree.specs.Tree.{node};
@@ -9,7 +10,7 @@ ghost use Rattle.slh_few.specs.Fors.{fors_tree};
 ghost use Rattle.slh_few.specs.Trees.{fors_tree_of};
 
 use crate::fors_tree::{ForsTree, SeededForsTree};
-use slh_lanes::{LaneNodes, SeededLanes, even_lanes, lane_node, odd_lanes};
+use slh_lanes::{LaneNodes, SeededTreeLanes, even_lanes, lane_node, odd_lanes};
 use slh_params::{AdrsType, Node, put_node};
 use slh_tree::node_over;
 
@@ -17,7 +18,7 @@ impl<'a> ForsTree<'a> {
     /// The nodes of height `z` from index `i` on: H of their children, which are the sixteen nodes of the two.
     fn join_lanes(
         &self,
-        lanes: &SeededLanes,
+        lanes: &SeededTreeLanes,
         z: u32,
         i: u32,
         left: &LaneNodes,
@@ -26,11 +27,11 @@ impl<'a> ForsTree<'a> {
         requires height { z ≤ (params self.now.seeds.set).a }
         requires index { i < 2 ^ ((params self.now.seeds.set).a - z) }
         ensures low { let p = params self.now.seeds.set in let sk = self.now.seeds.sk_seed.now in
-            (pk : List ℕ) → IsSeededLanes lanes.now p pk → p.n ≡ 16 → length pk ≡ 16 → (j : ℕ) → j < 4 → value_at result j p.n
+            (pk : List ℕ) → IsSeededTreeLanes lanes.now p pk → length pk ≡ p.n → (j : ℕ) → j < 4 → value_at result j p.n
             ≡ (fors_tree p sk pk self.now.idx_tree self.now.idx_leaf self.now.tree_no).join z (i + j)
             (value_at left.now (2 * j) p.n) (value_at left.now (2 * j + 1) p.n) }
         ensures high { let p = params self.now.seeds.set in let sk = self.now.seeds.sk_seed.now in
-            (pk : List ℕ) → IsSeededLanes lanes.now p pk → p.n ≡ 16 → length pk ≡ 16 → (j : ℕ) → j < 4 → value_at result (j + 4) p.n
+            (pk : List ℕ) → IsSeededTreeLanes lanes.now p pk → length pk ≡ p.n → (j : ℕ) → j < 4 → value_at result (j + 4) p.n
             ≡ (fors_tree p sk pk self.now.idx_tree self.now.idx_leaf self.now.tree_no).join z (i + (j + 4))
             (value_at right.now (2 * j) p.n) (value_at right.now (2 * j + 1) p.n) }
     {
@@ -42,15 +43,15 @@ impl<'a> ForsTree<'a> {
     }
 
     /// The eight nodes of height `z` from index `i` on (Algorithm 15).
-    fn eight_nodes(&self, lanes: &SeededLanes, z: u32, i: u32) -> LaneNodes
+    fn eight_nodes(&self, lanes: &SeededTreeLanes, z: u32, i: u32) -> LaneNodes
         requires height { z ≤ (params self.now.seeds.set).a }
         requires within { i + 8 ≤ 2 ^ ((params self.now.seeds.set).a - z) }
         ensures { let p = params self.now.seeds.set in let sk = self.now.seeds.sk_seed.now in
-            (pk : List ℕ) → IsSeededLanes lanes.now p pk → p.n ≡ 16 → length pk ≡ 16 → (j : ℕ) → j < 8 → value_at result j p.n
+            (pk : List ℕ) → IsSeededTreeLanes lanes.now p pk → length pk ≡ p.n → (j : ℕ) → j < 8 → value_at result j p.n
             ≡ node (fors_tree p sk pk self.now.idx_tree self.now.idx_leaf self.now.tree_no) z (i + j) }
     {
         if z == 0 {
-            self.leaf_lanes(lanes, i)
+            self.leaf_lanes(lanes.lanes(), i)
         } else {
             let left = self.eight_nodes(lanes, z - 1, 2 * i);
             let right = self.eight_nodes(lanes, z - 1, 2 * i + 8);
@@ -59,12 +60,12 @@ impl<'a> ForsTree<'a> {
     }
 
     /// The node of height `z` at index `i`.
-    pub(crate) fn node_from_lanes(&self, lanes: &SeededLanes, z: u32, i: u32) -> Node
+    pub(crate) fn node_from_lanes(&self, lanes: &SeededTreeLanes, z: u32, i: u32) -> Node
         requires low { 3 ≤ z }
         requires height { z ≤ (params self.now.seeds.set).a }
         requires index { i < 2 ^ ((params self.now.seeds.set).a - z) }
         ensures { let p = params self.now.seeds.set in let sk = self.now.seeds.sk_seed.now in
-            (pk : List ℕ) → IsSeededLanes lanes.now p pk → p.n ≡ 16 → length pk ≡ 16 → result.items
+            (pk : List ℕ) → IsSeededTreeLanes lanes.now p pk → length pk ≡ p.n → result.items
             ≡ node (fors_tree p sk pk self.now.idx_tree self.now.idx_leaf self.now.tree_no) z i }
     {
         let eight = self.eight_nodes(lanes, z - 3, 8 * i);
@@ -79,16 +80,17 @@ impl<'a> ForsTree<'a> {
 const EIGHT_NODES: u32 = 3;
 
 impl<'s, 'h> SeededForsTree<'s, 'h> {
-    /// The node of height `z` at index `i`, made from its own leaves alone: where nodes have 16 bytes, in lanes.
+    /// The node of height `z` at index `i`, made from its own leaves alone: where PK.seed has n bytes, in lanes.
     #[tactic(auto, unfolding(crate::specs::Trees::fors_tree_of))]
-    pub(crate) fn node(&self, z: u32, i: u32) -> Node
+    pub(crate) fn node(&self, lanes: &SeededTreeLanes, z: u32, i: u32) -> Node
+        requires lanes { IsSeededTreeLanes lanes.now (params self.now.tree.seeds.set) self.now.tree.seeds.pk_seed.now }
         requires height { z < (params self.now.tree.seeds.set).a }
         requires within { past_leaf z i ≤ 2 ^ (params self.now.tree.seeds.set).a }
         ensures { result.items ≡ node (fors_tree_of self.now.tree) z i }
     {
         let seeds = &self.tree.seeds;
-        if EIGHT_NODES <= z && seeds.set.n() == 16 && seeds.pk_seed.len() == 16 {
-            self.tree.node_from_lanes(self.lanes, z, i)
+        if EIGHT_NODES <= z && seeds.pk_seed.len() == seeds.set.n() {
+            self.tree.node_from_lanes(lanes, z, i)
         } else {
             node_over(self, z, i)
         }
@@ -96,13 +98,14 @@ impl<'s, 'h> SeededForsTree<'s, 'h> {
 
     /// Writes the path of leaf `i`, as `path` of `slh_tree` does.
     #[tactic(auto, unfolding(crate::specs::Trees::fors_tree_of))]
-    pub(crate) fn put_path(&self, i: u32, out: &mut [u8])
+    pub(crate) fn put_path(&self, lanes: &SeededTreeLanes, i: u32, out: &mut [u8])
+        requires lanes { IsSeededTreeLanes lanes.now (params self.now.tree.seeds.set) self.now.tree.seeds.pk_seed.now }
         requires index { i < 2 ^ (params self.now.tree.seeds.set).a }
         requires length { length out.old ≡ (params self.now.tree.seeds.set).a * (params self.now.tree.seeds.set).n }
         ensures { out.new ≡ path (fors_tree_of self.now.tree) i }
     {
         for level in 0..self.tree.seeds.set.a() {
-            let node = self.node(level, (i >> level) ^ 1);
+            let node = self.node(lanes, level, (i >> level) ^ 1);
             put_node(out, level as usize * node.len(), &node);
         }
     }

@@ -1,13 +1,17 @@
 pub mod Lanes8
 mod ChMaj
 mod WordLanes
+mod LongWordLanes
 pub mod Columns
 mod WordBytes
 mod Halves
 mod Addresses
 mod Values
 mod SecondBlock
+mod LongBlock
+mod LongDigest
 mod Tweaked
+mod LongTweaked
 mod Cut
 mod Picks
 pub mod NodeLengths

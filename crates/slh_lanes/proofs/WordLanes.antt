@@ -42,7 +42,7 @@ pub both_lanes : (f : ℕ → ℕ → ℕ) (x y : List ℕ) → length x ≡ 8 �
     → slice_index (zip2 f x y) j ≡ f (slice_index x j) (slice_index y j)
 both_lanes f x y lx ly j h = get_or-zip2 f x y j 0 0 0 (omega arith) (omega arith)
 
-length_both : (f : ℕ → ℕ → ℕ) (x y : List ℕ) → length x ≡ 8 → length y ≡ 8 → length (zip2 f x y) ≡ 8
+pub length_both : (f : ℕ → ℕ → ℕ) (x y : List ℕ) → length x ≡ 8 → length y ≡ 8 → length (zip2 f x y) ≡ 8
 length_both f x y lx ly = length-zip2 f x y (lx ∙ sym ly) ∙ lx
 
 -- the lanes of a vector of words

@@ -1,4 +1,6 @@
 pub mod Columns
 pub mod Block
+pub mod LongBlock
 pub mod Lanes
+pub mod TreeLanes
 pub mod Steps

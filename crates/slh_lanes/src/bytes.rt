@@ -2,8 +2,10 @@
 ghost use Rattle.std.specs.Prelude.{◌≡◌, ℕ, ◌+◌, ◌*◌, ◌^◌, ◌<◌, ◌≤◌, length, slice_index};
 ghost use Rattle.std.specs.Int.{w32, to_be_bytes};
 ghost use Rattle.sha2.specs.Sha256.{digest_bytes, word_at};
+ghost use Rattle.sha2.specs.Sha512.{word_at as long_word_at};
 ghost use Rattle.slh_lanes.specs.Columns.{column};
 
+use crate::long_words::LongWords;
 use crate::words::Words;
 
 /// The word at byte `i`.
@@ -26,6 +28,37 @@ pub(crate) fn load_all(words: &mut [Words], bytes: &[u8])
 {
     'words: for k in 0..words.len() {
         words[k] = Words::splat(load_be(bytes, 4 * k));
+    }
+}
+
+/// The word of 64 bits at byte `i`.
+#[inline(always)]
+pub(crate) fn load_be_long(bytes: &[u8], i: usize) -> u64
+    requires { i + 8 ≤ length bytes.now }
+    ensures { result ≡ long_word_at bytes.now i }
+{
+    u64::from_be_bytes([
+        bytes[i],
+        bytes[i + 1],
+        bytes[i + 2],
+        bytes[i + 3],
+        bytes[i + 4],
+        bytes[i + 5],
+        bytes[i + 6],
+        bytes[i + 7],
+    ])
+}
+
+/// The words of 64 bits of the bytes, each in all eight lanes.
+#[inline(always)]
+pub(crate) fn load_all_long(words: &mut [LongWords], bytes: &[u8])
+    requires { 8 * length words.old ≤ length bytes.now }
+    ensures len { length words.new ≡ length words.old }
+    ensures words { (j : ℕ) → j < 8 → (k : ℕ) → k < length words.old
+        → slice_index (column j words.new) k ≡ long_word_at bytes.now (8 * k) }
+{
+    'words: for k in 0..words.len() {
+        words[k] = LongWords::splat(load_be_long(bytes, 8 * k));
     }
 }
 

@@ -31,14 +31,14 @@ eight_nodes-right-requires t c =
 
 pub returns-then-z-eq0 : goal.returns-then-z-eq0
 unfolding node
-returns-then-z-eq0 t c = λ pk s n long j lane.
+returns-then-z-eq0 t c = λ pk s long j lane.
     let own = c.args.self.now in
     let p = params own.seeds.set in
     let tree = fors_tree p own.seeds.sk_seed.now pk own.idx_tree own.idx_leaf own.tree_no in
-    c.leaf_lanes.ensures pk s j lane ∙ ap (λ (z : ℕ). node tree z (c.args.i + j)) (sym c.if-z-eq0.true)
+    c.leaf_lanes.ensures pk (c.lanes.ensures p pk s) j lane ∙ ap (λ (z : ℕ). node tree z (c.args.i + j)) (sym c.if-z-eq0.true)
 
 pub returns-else-z-eq0 : goal.returns-else-z-eq0
-returns-else-z-eq0 t c = λ pk s n long j lane.
+returns-else-z-eq0 t c = λ pk s long j lane.
     let own = c.args.self.now in
     let p = params own.seeds.set in
     let tree = fors_tree p own.seeds.sk_seed.now pk own.idx_tree own.idx_leaf own.tree_no in
@@ -51,10 +51,10 @@ returns-else-z-eq0 t c = λ pk s n long j lane.
           let odd : 2 * j + 1 < 8 = omega arith in
           let at : 2 * i + 2 * j ≡ 2 * (i + j) = omega arith in
           let next : 2 * i + (2 * j + 1) ≡ 2 * i + 2 * j + 1 = omega arith in
-          c.join_lanes.ensures.low pk s n long j first
+          c.join_lanes.ensures.low pk s long j first
           ∙ joined tree z (z - 1) (i + j) (2 * i + 2 * j) _ _ low refl at
-          (c.eight_nodes-left.ensures pk s n long (2 * j) even)
-          (c.eight_nodes-left.ensures pk s n long (2 * j + 1) odd ∙ ap (node tree (z - 1)) next)
+          (c.eight_nodes-left.ensures pk s long (2 * j) even)
+          (c.eight_nodes-left.ensures pk s long (2 * j + 1) odd ∙ ap (node tree (z - 1)) next)
       | inr ge ↦
           let k : ℕ = j - 4 in
           let back : k + 4 ≡ j = omega arith in
@@ -65,8 +65,8 @@ returns-else-z-eq0 t c = λ pk s n long j lane.
           let next : 2 * i + 8 + (2 * k + 1) ≡ 2 * i + 8 + 2 * k + 1 = omega arith in
           let Made : ℕ → Type 0 = λ q. value_at c.join_lanes.result q p.n ≡ node tree z (i + q) in
           subst Made back
-          (c.join_lanes.ensures.high pk s n long k first
+          (c.join_lanes.ensures.high pk s long k first
           ∙ joined tree z (z - 1) (i + (k + 4)) (2 * i + 8 + 2 * k) _ _ low refl at
-          (c.eight_nodes-right.ensures pk s n long (2 * k) even)
-          (c.eight_nodes-right.ensures pk s n long (2 * k + 1) odd ∙ ap (node tree (z - 1)) next))
+          (c.eight_nodes-right.ensures pk s long (2 * k) even)
+          (c.eight_nodes-right.ensures pk s long (2 * k + 1) odd ∙ ap (node tree (z - 1)) next))
     ]

@@ -9,14 +9,14 @@ returns c =
     let t = c.args.self.now in
     let p = params t.seeds.set in
     record {
-      low = λ pk s n long j lane.
+      low = λ pk s long j lane.
           let all : j < 8 = omega arith in
-          c.h.ensures p pk s n long j all _ (c.lane_adrs.ensures j all)
+          c.h.ensures p pk s long j all _ (c.lane_adrs.ensures j all)
           ∙ ap₂ (H p pk (address 0 t.idx_tree FORS_TREE t.idx_leaf c.args.z (t.tree_no * 2 ^ (p.a - c.args.z) + (c.args.i + j))))
           (c.even_lanes.ensures.low j p.n lane) (c.odd_lanes.ensures.low j p.n lane);
-      high = λ pk s n long j lane.
+      high = λ pk s long j lane.
           let all : j + 4 < 8 = omega arith in
-          c.h.ensures p pk s n long (j + 4) all _ (c.lane_adrs.ensures (j + 4) all)
+          c.h.ensures p pk s long (j + 4) all _ (c.lane_adrs.ensures (j + 4) all)
           ∙ ap₂ (H p pk (address 0 t.idx_tree FORS_TREE t.idx_leaf c.args.z (t.tree_no * 2 ^ (p.a - c.args.z) + (c.args.i + (j + 4)))))
           (c.even_lanes.ensures.high j p.n lane) (c.odd_lanes.ensures.high j p.n lane);
     }

@@ -44,31 +44,31 @@ join_lanes-two-requires-clause-index c =
     omega (arith, twice (params c.args.self.now.seeds.set).a c.args.z low c.requires.height, c.requires.index)
 
 pub returns : goal.returns
-returns c = λ pk s n long.
+returns c = λ pk s long.
     let own = c.args.self.now in
     let p = params own.seeds.set in
     let tree = fors_tree p own.seeds.sk_seed.now pk own.idx_tree own.idx_leaf own.tree_no in
     let z : ℕ = c.args.z in
     let i : ℕ = c.args.i in
-    let eight = c.eight_nodes-eight.ensures pk s n long in
+    let eight = c.eight_nodes-eight.ensures pk s long in
     let four : (j : ℕ) → j < 4 → value_at c.join_lanes-four.result j p.n ≡ node tree (z - 2) (4 * i + j) = λ j low.
     let below : z - 3 ≡ z - 2 - 1 = omega (arith, c.requires.low) in
     let at : 8 * i + 2 * j ≡ 2 * (4 * i + j) = omega arith in
     let next : 8 * i + (2 * j + 1) ≡ 8 * i + 2 * j + 1 = omega arith in
-    c.join_lanes-four.ensures.low pk s n long j low
+    c.join_lanes-four.ensures.low pk s long j low
     ∙ joined tree (z - 2) (z - 3) (4 * i + j) (8 * i + 2 * j) _ _ (omega (arith, c.requires.low)) below at
     (eight (2 * j) (omega arith)) (eight (2 * j + 1) (omega arith) ∙ ap (node tree (z - 3)) next) in
     let two : (j : ℕ) → j < 2 → value_at c.join_lanes-two.result j p.n ≡ node tree (z - 1) (2 * i + j) = λ j low.
     let below : z - 2 ≡ z - 1 - 1 = omega (arith, c.requires.low) in
     let at : 4 * i + 2 * j ≡ 2 * (2 * i + j) = omega arith in
     let next : 4 * i + (2 * j + 1) ≡ 4 * i + 2 * j + 1 = omega arith in
-    c.join_lanes-two.ensures.low pk s n long j (omega arith)
+    c.join_lanes-two.ensures.low pk s long j (omega arith)
     ∙ joined tree (z - 1) (z - 2) (2 * i + j) (4 * i + 2 * j) _ _ (omega (arith, c.requires.low)) below at
     (four (2 * j) (omega arith)) (four (2 * j + 1) (omega arith) ∙ ap (node tree (z - 2)) next) in
     let at : 2 * i + 0 ≡ 2 * i = omega arith in
     let here : i + 0 ≡ i = omega arith in
     let left : value_at c.join_lanes-two.result (2 * 0) p.n ≡ node tree (z - 1) (2 * i) = two 0 (omega arith) ∙ ap (node tree (z - 1)) at in
     c.lane_node.ensures.value ∙ ap (value_at c.join_lanes-one.result 0) c.n.ensures
-    ∙ c.join_lanes-one.ensures.low pk s n long 0 (omega arith)
+    ∙ c.join_lanes-one.ensures.low pk s long 0 (omega arith)
     ∙ ap (λ (k : ℕ). tree.join z k (value_at c.join_lanes-two.result 0 p.n) (value_at c.join_lanes-two.result 1 p.n)) here
     ∙ joined tree z (z - 1) i (2 * i) _ _ (omega (arith, c.requires.low)) refl refl left (two 1 (omega arith))

@@ -1,7 +1,5 @@
 use Rattle.std.proofs.Common.{◌≡◌, ℕ, ◌+◌, ◌-◌, ◌*◌, ◌^◌, ◌<◌, ◌≤◌, inl, inr, arith, sym, ◌∙◌}
-use Rattle.std.proofs.Math.Logic.{∥∥₁_elim}
 use Rattle.std.proofs.Math.Nat.{mul-le-mul_right}
-use Rattle.std.proofs.Props.{props}
 use Rattle.std.proofs.lemmas.Bool.{cases_lt}
 use Rattle.std.proofs.lemmas.Nat.{pow-add, pow_pos}
 use Rattle.slh_params.specs.ParamSet.{params}
@@ -25,8 +23,6 @@ node_from_lanes-requires-clause-index c =
     let high : c.args.z ≤ (params c.args.self.now.tree.seeds.set).a = omega (arith, c.requires.height) in
     is_below (params c.args.self.now.tree.seeds.set).a c.args.z c.args.i high c.requires.within
 
-pub returns-then-seeds-eq16 : goal.returns-then-seeds-eq16
+pub returns-then-seeds-n : goal.returns-then-seeds-n
 unfolding fors_tree_of
-returns-then-seeds-eq16 c =
-    let n = sym c.n.ensures ∙ c.if-n-eq16.true in
-    ∥∥₁_elim c.args.self.now.lane_state (hlevel props) (λ h. c.node_from_lanes.ensures _ h n c.if-seeds-eq16.true)
+returns-then-seeds-n c = c.node_from_lanes.ensures _ c.requires.lanes (c.if-seeds-n.true ∙ c.n.ensures)

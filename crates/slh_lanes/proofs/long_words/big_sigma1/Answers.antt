@@ -1,0 +1,5 @@
+use Rattle.slh_lanes.proofs.LongWordLanes.{big_sigma1_lanes}
+use Rattle.slh_lanes.proofs.long_words.big_sigma1.Goals as goal
+
+pub returns : goal.returns
+returns c = big_sigma1_lanes c.args.x c.fits-x.0

@@ -1,0 +1,135 @@
+//! The block after PK.seed's that H hashes where n is 24 or 32, in eight lanes (FIPS 205, section 11.2.2).
+ghost use Rattle.std.specs.Prelude.{◌≡◌, ℕ, ◌<◌, ◌≤◌, ◌⊎◌, ◌++◌, take};
+ghost use Rattle.sha2.specs.Sha256.{digest_bytes};
+ghost use Rattle.sha2.specs.Sha512.{digest_bytes as long_digest_bytes, initial_hash_512};
+ghost use Rattle.slh_lanes.specs.Columns.{column};
+ghost use Rattle.slh_lanes.specs.Lanes.{value_at};
+ghost use Rattle.slh_lanes.specs.LongBlock.{HasLongWords, long_second_block, marked_pair};
+
+use crate::lane_adrs::LaneAdrs;
+use crate::lane_nodes::LaneNodes;
+use crate::long_words::{LongWords, high_words, joined, joined_halves, low_words};
+use crate::words::{Words, halves, high, tell_all};
+
+/// The initial hash value of SHA-512 (FIPS 180-4, section 5.3.5) in each lane.
+pub(crate) fn initial() -> [LongWords; 8]
+    ensures { (j : ℕ) → j < 8 → column j result ≡ initial_hash_512 }
+{
+    [
+        LongWords::splat(0x6a09_e667_f3bc_c908),
+        LongWords::splat(0xbb67_ae85_84ca_a73b),
+        LongWords::splat(0x3c6e_f372_fe94_f82b),
+        LongWords::splat(0xa54f_f53a_5f1d_36f1),
+        LongWords::splat(0x510e_527f_ade6_82d1),
+        LongWords::splat(0x9b05_688c_2b3e_6c1f),
+        LongWords::splat(0x1f83_d9ab_fb41_bd6b),
+        LongWords::splat(0x5be0_cd19_137e_2179),
+    ]
+}
+
+/// The words in lane 0.
+pub(crate) fn first_lane(words: &[LongWords; 8]) -> [u64; 8]
+    ensures { result ≡ column 0 words.now }
+{
+    let [a, b, c, d, e, f, g, h] = *words;
+    [
+        a.to_array()[0],
+        b.to_array()[0],
+        c.to_array()[0],
+        d.to_array()[0],
+        e.to_array()[0],
+        f.to_array()[0],
+        g.to_array()[0],
+        h.to_array()[0],
+    ]
+}
+
+/// Eight words, each in all eight lanes.
+#[inline(always)]
+pub(crate) fn splat_all(words: &[u64; 8]) -> [LongWords; 8]
+    ensures { (j : ℕ) → j < 8 → column j result ≡ words.now }
+{
+    let [a, b, c, d, e, f, g, h] = *words;
+    [
+        LongWords::splat(a),
+        LongWords::splat(b),
+        LongWords::splat(c),
+        LongWords::splat(d),
+        LongWords::splat(e),
+        LongWords::splat(f),
+        LongWords::splat(g),
+        LongWords::splat(h),
+    ]
+}
+
+/// The words of two nodes of n bytes, the word that begins the padding, and zeros.
+#[inline(always)]
+fn marked_pair(left: &LaneNodes, right: &LaneNodes, n: usize) -> [Words; 17]
+    ensures { (j : ℕ) → j < 8 → column j result ≡ marked_pair n (column j left.now) (column j right.now) }
+{
+    let [a, b, c, d, e, f, g, h] = *left;
+    let [k, l, m, o, p, q, r, s] = *right;
+    let mark = Words::splat(0x8000_0000);
+    let zero = Words::splat(0);
+    if n == 24 {
+        [
+            a, b, c, d, e, f, k, l, m, o, p, q, mark, zero, zero, zero, zero,
+        ]
+    } else {
+        [a, b, c, d, e, f, g, h, k, l, m, o, p, q, r, s, mark]
+    }
+}
+
+/// The 22 bytes of the address, the two nodes of n bytes, and the padding.
+#[inline(always)]
+pub(crate) fn second_block(
+    n: usize,
+    adrs: &LaneAdrs,
+    left: &LaneNodes,
+    right: &LaneNodes,
+) -> [LongWords; 16]
+    requires { (n ≡ 24) ⊎ (n ≡ 32) }
+    ensures { (j : ℕ) → j < 8 → HasLongWords (long_second_block (take 22 (digest_bytes (column j adrs.now) 6))
+        (value_at left.now j n ++ value_at right.now j n)) (column j result) }
+{
+    tell_all(adrs);
+    tell_all(left);
+    tell_all(right);
+    let m = marked_pair(left, right, n);
+    let zero = LongWords::splat(0);
+    [
+        joined(adrs[0], adrs[1]),
+        joined(adrs[2], adrs[3]),
+        joined(adrs[4], halves(high(adrs[5]), m[0])),
+        joined_halves(m[0], m[1], m[2]),
+        joined_halves(m[2], m[3], m[4]),
+        joined_halves(m[4], m[5], m[6]),
+        joined_halves(m[6], m[7], m[8]),
+        joined_halves(m[8], m[9], m[10]),
+        joined_halves(m[10], m[11], m[12]),
+        joined_halves(m[12], m[13], m[14]),
+        joined_halves(m[14], m[15], m[16]),
+        zero,
+        zero,
+        zero,
+        zero,
+        LongWords::splat((150 + 2 * n as u64) * 8),
+    ]
+}
+
+/// The first 32 bytes of eight digests.
+#[inline(always)]
+pub(crate) fn truncated(state: &[LongWords; 8]) -> LaneNodes
+    ensures { (j n : ℕ) → j < 8 → n ≤ 32 → value_at result j n ≡ take n (long_digest_bytes (column j state.now) 8) }
+{
+    [
+        high_words(state[0]),
+        low_words(state[0]),
+        high_words(state[1]),
+        low_words(state[1]),
+        high_words(state[2]),
+        low_words(state[2]),
+        high_words(state[3]),
+        low_words(state[3]),
+    ]
+}
