@@ -4,8 +4,8 @@
 usage: tools/wrong_bodies.py [CRATE..]      all edits of these crates
        tools/wrong_bodies.py --all          all edits
        tools/wrong_bodies.py --changed      all edits of each crate that is not as the list says
-       tools/wrong_bodies.py --gate [SEED]  these, and all edits of some more crates, drawn by SEED or at random, until
-                                            they are an eighth of all
+       tools/wrong_bodies.py --gate [SEED]  these, and edits of some more crates, drawn by SEED or at random, until they
+                                            are an eighth of all
        --write with any of these            writes the list anew for each crate whose edits were all refused
 
 An edit is a file crates/NAME/wrong/EDIT.edit with lines
@@ -205,20 +205,17 @@ def verdict(status, said, refused, changed):
     return True, proofs[0][:160]
 
 
-def try_edits(crate, some):
-    """Tries edits of a crate in turn, each over what the checks of those before it kept."""
+def try_edits(crate, some, kept):
+    """Tries edits of a crate in turn, each over what the checks of those before it left in the folder `kept`."""
     if kit.lacking(crate):
         return [(crate, it, False, f"not tried: {kit.lacking(crate)[0]} is not built (rt ci builds it)") for it in some]
     found = []
-    with tempfile.TemporaryDirectory(prefix="rt-edit-") as room:
-        kept, own = f"{room}/kept", os.path.join(ROOT, "crates", crate, "out", "incremental")
-        shutil.copytree(own, kept) if os.path.isdir(own) else os.mkdir(kept)
-        for path in some:
-            refused, texts, why = read_edit(crate, path)
-            if why:
-                found.append((crate, path, False, f"BAD EDIT: {why}"))
-                continue
-            copy = f"{room}/copy"
+    for path in some:
+        refused, texts, why = read_edit(crate, path)
+        if why:
+            found.append((crate, path, False, f"BAD EDIT: {why}"))
+            continue
+        with tempfile.TemporaryDirectory(prefix="rt-edit-") as copy:
             for part in PARTS:
                 if os.path.isdir(os.path.join(ROOT, "crates", crate, part)):
                     shutil.copytree(os.path.join(ROOT, "crates", crate, part), f"{copy}/{part}")
@@ -230,18 +227,38 @@ def try_edits(crate, some):
             ran = subprocess.run(words, cwd=copy, text=True, errors="replace", **how)
             found.append((crate, path, *verdict(ran.returncode, ran.stdout, refused, texts)))
             print(f"{crate}/{os.path.basename(path)}: {'refused' if found[-1][2] else 'FAILED'}: {found[-1][3]}", flush=True)
-            shutil.rmtree(copy)
     return found
 
 
-def drawn(some, seed):
-    """Crates drawn at random whose edits are an eighth of all."""
-    count = {name: len(edits(name)) for name in USES}
-    order, more = sorted(set(USES) - set(some)), []
-    random.Random(seed).shuffle(order)
-    while order and sum(count[name] for name in more) * SHARE < sum(count.values()):
-        more += [order.pop()]
-    return more
+def try_all(runs, jobs):
+    """Tries the edits of each crate, so many at once: its first one, and over what that one kept the others."""
+    with tempfile.TemporaryDirectory(prefix="rt-edits-") as room, concurrent.futures.ThreadPoolExecutor(jobs) as pool:
+
+        def first(crate):
+            kept, own = f"{room}/{crate}", os.path.join(ROOT, "crates", crate, "out", "incremental")
+            shutil.copytree(own, kept) if os.path.isdir(own) else os.mkdir(kept)
+            return try_edits(crate, runs[crate][:1], kept)
+
+        def others(crate, part):
+            kept = f"{room}/{crate} {part}"
+            shutil.copytree(f"{room}/{crate}", kept)
+            return try_edits(crate, runs[crate][1 + part :: jobs], kept)
+
+        parts = [(crate, part) for crate, some in runs.items() for part in range(min(jobs, len(some) - 1))]
+        found = [it for ran in pool.map(first, runs) for it in ran]
+        return found + [it for ran in pool.map(lambda it: others(*it), parts) for it in ran]
+
+
+def drawn(runs, seed):
+    """Edits by crate: those of runs, and of crates drawn at random as many as make them an eighth of all. A crate's first
+    edit costs the most, so crates are drawn, and not edits; of the last crate only the edits that are wanted still."""
+    left = -(-sum(len(edits(name)) for name in USES) // SHARE) - sum(map(len, runs.values()))
+    draw, others = random.Random(seed), [name for name in USES if name not in runs and edits(name)]
+    for name in draw.sample(others, len(others)):
+        if left > 0:
+            runs[name] = draw.sample(edits(name), min(left, len(edits(name))))
+            left -= len(runs[name])
+    return runs
 
 
 def arguments():
@@ -262,15 +279,14 @@ def main():
     some = list(asked.crate) or list(sums) if asked.all else list(asked.crate)
     if asked.changed or asked.gate is not None:
         some = [name for name in stale if name in sums]
+    runs = {name: edits(name) for name in some if name in sums}
     if asked.gate is not None:
-        some += drawn(some, asked.gate)
-        print(f"seed {asked.gate}: {' '.join(some)}", flush=True)
-    with concurrent.futures.ThreadPoolExecutor(asked.jobs) as pool:
-        runs = sorted((name for name in some if edits(name)), key=lambda name: -len(edits(name)))
-        found = [it for ran in pool.map(lambda name: try_edits(name, edits(name)), runs) for it in ran]
+        runs = drawn(runs, asked.gate)
+        print(f"seed {asked.gate}: {', '.join(f'{len(it)} of {name}' for name, it in runs.items())}", flush=True)
+    found = try_all(runs, asked.jobs)
     failed = [it for it in found if not it[2]]
     if asked.write:
-        well = {name: sums[name] for name in runs if not any(it[0] == name for it in failed)}
+        well = {name: sums[name] for name in some if name in sums and not any(it[0] == name for it in failed)}
         new = {name: it for name, it in sorted({**old, **well}.items()) if name in sums}
         with open(LIST, "w") as file:
             file.writelines(f"{name} {it}\n" for name, it in new.items())

@@ -23,6 +23,8 @@ fn main(rt: HostRuntime) -> ExitCode {
 }
 
 /// The limit of the stack in bytes, where the system tells it: in the list of limits that Linux keeps for each process.
+/// It is kept out of `main`, whose stack lies under each command's.
+#[inline(never)]
 fn stack_limit<R: Files>(rt: &R) -> Option<u64> {
     let mut list = [0; 512];
     let n = File::open(rt, "/proc/self/limits")
