@@ -203,7 +203,8 @@ uint32_t slh_refusal_name(uint32_t refusal, char *name, size_t name_len);
  * Bytes of an answer that the signature doesn't need are not looked at.
  *
  * What stands where in an answer is no promise: it may be otherwise in the next version of this library. The number of
- * the encoding is in the text of every tag, so a version with another one refuses these starts and answers.
+ * the encoding is in the text of every tag, so a version with another one refuses these starts and answers as it
+ * refuses those of another key.
  *
  *
  * Faults

@@ -1,4 +1,4 @@
-//! The block after PK.seed's that F and PRF hash, in eight lanes (FIPS 205, section 11.2).
+//! The block after PK.seed's that F and PRF hash, and H where n is 16, in eight lanes (FIPS 205, section 11.2).
 ghost use Rattle.std.specs.Prelude.{◌≡◌, ℕ, ◌<◌, ◌⊎◌, take};
 ghost use Rattle.sha2.specs.Sha256.{digest_bytes, initial_hash_256};
 ghost use Rattle.slh_lanes.specs.Block.{marked, second_block};
