@@ -36,6 +36,19 @@ chain-split p pk at c x f s (suc u) =
     rw n (ap (λ k. F p pk (wots_address at WOTS_HASH c k) (chain p pk at c (chain p pk at c x f s) (f + s) u)) e
     ∙ ap (λ y. F p pk (wots_address at WOTS_HASH c (f + (s + u))) y) (chain-split p pk at c x f s u))
 
+-- a chain run on from its start is the chain, and so it is to its last step
+pub chain-on : (p : Params) (pk : List ℕ) (at : Place) (c : ℕ) (x : List ℕ) (f s : ℕ)
+    → chain p pk at c (chain p pk at c x 0 f) f s ≡ chain p pk at c x 0 (f + s)
+chain-on p pk at c x f s =
+    let from : f ≡ 0 + f = omega arith in
+    ap (λ k. chain p pk at c (chain p pk at c x 0 f) k s) from ∙ chain-split p pk at c x 0 f s
+
+pub chain-rest : (p : Params) (pk : List ℕ) (at : Place) (c : ℕ) (x : List ℕ) (d last : ℕ) → d ≤ last
+    → chain p pk at c (chain p pk at c x 0 d) d (last - d) ≡ chain p pk at c x 0 last
+chain-rest p pk at c x d last le =
+    let total : d + (last - d) ≡ last = omega (arith, le) in
+    chain-on p pk at c x d (last - d) ∙ ap (λ s. chain p pk at c x 0 s) total
+
 -- the chain that a program runs on from a signature's value
 pub finished_as : (p : Params) (pk : List ℕ) (at : Place) (m sig : List ℕ) (c n d last : ℕ) (x : List ℕ) → last ≡ w p - 1
     → x ≡ part n sig c → n ≡ p.n → d ≡ digit p m c → chain p pk at c x d (last - d) ≡ finished_chain p pk at m sig c

@@ -10,7 +10,7 @@ use Rattle.slh_few.specs.Parts.{part}
 use Rattle.slh_few.specs.Wots.{chain, digit, secret, signed_chain, wots_sig}
 use Rattle.slh_few.specs.KeptChains.{spacing, kept_count, kept_value, kept_chain, kept_chains, kept_chain_len, kept_chains_len, chain_from_kept, wots_sig_from}
 use Rattle.slh_few.specs.declared.place.Place.{Place}
-use Rattle.slh_few.proofs.Chains.{length-chain, chain-split}
+use Rattle.slh_few.proofs.Chains.{length-chain, chain-on}
 use Rattle.slh_few.proofs.DigitBounds.{digit-small}
 use Rattle.slh_few.proofs.Ends.{part-end_to_end, length-end_to_end, end_to_end-same}
 use Rattle.slh_few.proofs.WotsLaw.{length-secret}
@@ -35,13 +35,6 @@ kept_low s = elim (lg_w_cases s) [ inl e ↦ rw e (lit≤ tt) | inr (inl e) ↦ 
 pub kept_high : (s : ParamSet) → kept_count (params s) ≤ 16
 unfolding kept_count spacing
 kept_high s = elim (lg_w_cases s) [ inl e ↦ rw e (lit≤ tt) | inr (inl e) ↦ rw e (lit≤ tt) | inr (inr e) ↦ rw e (lit≤ tt) ]
-
--- a chain run on is the chain
-pub chain-on : (p : Params) (pk : List ℕ) (at : Place) (c : ℕ) (x : List ℕ) (f s : ℕ)
-    → chain p pk at c (chain p pk at c x 0 f) f s ≡ chain p pk at c x 0 (f + s)
-chain-on p pk at c x f s =
-    let from : f ≡ 0 + f = omega arith in
-    ap (λ k. chain p pk at c (chain p pk at c x 0 f) k s) from ∙ chain-split p pk at c x 0 f s
 
 -- the next kept value
 pub kept_value-more : (p : Params) (sk pk : List ℕ) (at : Place) (c j : ℕ)

@@ -1,12 +1,12 @@
 -- The key that a WOTS+ signature gives is the public key.
-use Rattle.std.proofs.Common.{◌≡◌, ℕ, ◌+◌, ◌-◌, ◌*◌, ◌<◌, ◌≤◌, List, length, ap, ◌∙◌, arith}
+use Rattle.std.proofs.Common.{◌≡◌, ℕ, ◌-◌, ◌*◌, ◌<◌, ◌≤◌, List, length, ap, ◌∙◌, arith}
 use Rattle.slh_params.specs.Params.{Params, w, len}
 use Rattle.slh_hash.specs.Hash.{T}
 use Rattle.slh_few.specs.Parts.{end_to_end, part}
 use Rattle.slh_few.specs.Wots.{chain, digit, secret, wots_address, whole_chain, signed_chain, finished_chain, wots_pk, wots_sig, wots_pk_from_sig}
 use Rattle.slh_few.specs.declared.place.Place.{Place}
 use Rattle.slh_hash.proofs.Lengths.{length-PRF}
-use Rattle.slh_few.proofs.Chains.{length-chain, chain-split}
+use Rattle.slh_few.proofs.Chains.{length-chain, chain-rest}
 use Rattle.slh_few.proofs.DigitBounds.{digit-small}
 use Rattle.slh_few.proofs.Ends.{end_to_end-same, part-end_to_end, length-end_to_end}
 
@@ -33,12 +33,8 @@ finished p sk pk at m h c l =
     let x = secret p sk pk at c in
     let here : part p.n (end_to_end (signed_chain p sk pk at m) (len p)) c ≡ chain p pk at c x 0 d =
     part-end_to_end (signed_chain p sk pk at m) p.n (len p) c l (λ j i. length-signed_chain p sk pk at m j h) in
-    let from : d ≡ 0 + d = omega arith in
-    let total : d + (w p - 1 - d) ≡ w p - 1 = omega (arith, digit-small p m c) in
     ap (λ y. chain p pk at c y d (w p - 1 - d)) here
-    ∙ ap (λ f. chain p pk at c (chain p pk at c x 0 d) f (w p - 1 - d)) from
-    ∙ chain-split p pk at c x 0 d (w p - 1 - d)
-    ∙ ap (λ s. chain p pk at c x 0 s) total
+    ∙ chain-rest p pk at c x d (w p - 1) (omega (arith, digit-small p m c))
 
 -- the signature's key is the public key
 pub wots_pk_from_sig-wots_sig : (p : Params) (sk pk : List ℕ) (at : Place) (m : List ℕ) → p.n ≤ 32

@@ -30,20 +30,32 @@ length-xmss_sig s sk pk at m =
       length-path_below (xmss_tree p sk pk at.layer at.tree) (xmss_tree-lawful s sk pk at.layer at.tree) at.pair p.hp,
     )
 
+-- its parts are the WOTS+ signature and the path
+pub xmss_sig-wots : (s : ParamSet) (sk pk : List ℕ) (at : Place) (m : List ℕ)
+    → take (wots_sig_len (params s)) (xmss_sig (params s) sk pk at m) ≡ wots_sig (params s) sk pk at m
+unfolding xmss_sig
+xmss_sig-wots s sk pk at m =
+    let p = params s in
+    take_front (wots_sig p sk pk at m) (path (xmss_tree p sk pk at.layer at.tree) at.pair) (wots_sig_len p) (length-wots_sig p sk pk at m (n_high s))
+
+pub xmss_sig-path : (s : ParamSet) (sk pk : List ℕ) (at : Place) (m : List ℕ)
+    → drop (wots_sig_len (params s)) (xmss_sig (params s) sk pk at m) ≡ path (xmss_tree (params s) sk pk at.layer at.tree) at.pair
+unfolding xmss_sig
+xmss_sig-path s sk pk at m =
+    let p = params s in
+    drop_at (wots_sig p sk pk at m) (path (xmss_tree p sk pk at.layer at.tree) at.pair) (wots_sig_len p) (length-wots_sig p sk pk at m (n_high s))
+
 -- the signature's root is the tree's
 pub xmss_pk_from_sig-xmss_sig : (s : ParamSet) (sk pk : List ℕ) (at : Place) (m : List ℕ) → at.pair < 2 ^ (params s).hp
     → xmss_pk_from_sig (params s) pk at m (xmss_sig (params s) sk pk at m) ≡ root (xmss_tree (params s) sk pk at.layer at.tree)
-unfolding xmss_pk_from_sig xmss_sig
+unfolding xmss_pk_from_sig
 xmss_pk_from_sig-xmss_sig s sk pk at m h =
     let p = params s in
-    let W = wots_sig p sk pk at m in
+    let sig = xmss_sig p sk pk at m in
     let t = xmss_tree p sk pk at.layer at.tree in
     let u = xmss_tree p [] pk at.layer at.tree in
-    let l = length-wots_sig p sk pk at m (n_high s) in
-    let front : take (wots_sig_len p) (W ++ path t at.pair) ≡ W = take_front W (path t at.pair) (wots_sig_len p) l in
-    let back : drop (wots_sig_len p) (W ++ path t at.pair) ≡ path t at.pair = drop_at W (path t at.pair) (wots_sig_len p) l in
-    ap (λ xs. climb u at.pair (wots_pk_from_sig p pk at m xs) (drop (wots_sig_len p) (W ++ path t at.pair))) front
-    ∙ ap (λ ys. climb u at.pair (wots_pk_from_sig p pk at m W) ys) back
+    ap (λ xs. climb u at.pair (wots_pk_from_sig p pk at m xs) (drop (wots_sig_len p) sig)) (xmss_sig-wots s sk pk at m)
+    ∙ ap (λ ys. climb u at.pair (wots_pk_from_sig p pk at m (wots_sig p sk pk at m)) ys) (xmss_sig-path s sk pk at m)
     ∙ ap (λ x. climb u at.pair x (path t at.pair)) (wots_pk_from_sig-wots_sig p sk pk at m (n_high s))
     ∙ climb_to-join u t at.pair (wots_pk p sk pk at) (path_node p.n (path t at.pair)) p.hp refl
     ∙ climb-path t (xmss_tree-lawful s sk pk at.layer at.tree) at.pair h

@@ -9,8 +9,9 @@ ghost use Rattle.slh_few.specs.Hypertree.{place_above, layer_place, ht_sig, ht_r
 ghost use Rattle.slh_few.specs.Parts.{part};
 
 use crate::place::{Place, Public, Seeds};
-use crate::xmss::{xmss_pk_from_sig, xmss_sign};
+use crate::xmss::{SeededXmssTree, sign_tree, xmss_pk_from_sig, xmss_sign};
 use slh_params::{Node, ParamSet, copy_of};
+use slh_tree::climb;
 
 /// The place one layer up, whose key signs the root of this place's tree.
 fn place_above(set: ParamSet, at: Place, layer: u8) -> Place
@@ -105,13 +106,11 @@ fn sign_layer(seeds: &Seeds, at: Place, msg: &Node, out: &mut [u8], start: usize
     ensures len { length result.items ≡ (params seeds.now.set).n }
 {
     let end = start + xmss_sig_len(seeds.set);
-    let public = Public {
-        set: seeds.set,
-        pk_seed: seeds.pk_seed,
-    };
     let sig = &mut out[start..end];
-    xmss_sign(seeds, at, msg, sig);
-    xmss_pk_from_sig(&public, at, msg, sig)
+    let leaf = sign_tree(seeds, at, msg, sig);
+    let (_wots, auth) = sig.split_at(seeds.set.len() * seeds.set.n());
+    let tree = SeededXmssTree::new(seeds, at.layer, at.tree);
+    climb(&tree, at.pair, &leaf, auth)
 }
 
 /// Writes the signature of a message of n bytes by leaf `idx_leaf` of tree `idx_tree`: the XMSS

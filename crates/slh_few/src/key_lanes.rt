@@ -1,22 +1,25 @@
 //! Eight WOTS+ keys at once, one in each lane (FIPS 205, section 5).
-ghost use Rattle.std.specs.Prelude.{◌≡◌, ℕ, List, [], ◌+◌, ◌^◌, ◌≤◌, ◌<◌, ◌++◌, length, slice_index_or};
+ghost use Rattle.std.specs.Prelude.{◌≡◌, ◌≢◌, ℕ, List, [], ◌+◌, ◌-◌, ◌*◌, ◌%◌, ◌^◌, ◌≤◌, ◌<◌, ◌++◌, length, slice_index_or};
 ghost use Rattle.arrayvec.specs.ArrayVec.{ArrayVec};
 ghost use Rattle.slh_params.specs.Address.{Address, WOTS_PK};
 ghost use Rattle.slh_params.specs.AdrsType.{type_number};
-ghost use Rattle.slh_params.specs.Params.{Params};
+ghost use Rattle.slh_params.specs.Params.{Params, len, w};
 ghost use Rattle.slh_params.specs.ParamSet.{params};
 ghost use Rattle.slh_hash.specs.Hash.{T};
 ghost use Rattle.slh_hash.specs.Stream.{HasAbsorbed, IsSeededTree};
 ghost use Rattle.slh_hash.specs.declared.t_stream.TStream.{TStream};
 ghost use Rattle.slh_lanes.specs.Lanes.{HasAddress, IsSeededLanes, value_at};
-ghost use Rattle.slh_few.specs.Wots.{wots_address, whole_chain};
+ghost use Rattle.slh_few.specs.Parts.{part};
+ghost use Rattle.slh_few.specs.Wots.{wots_address, chain as chain_of, secret, whole_chain, wots_sig};
 ghost use Rattle.slh_few.specs.Xmss.{AreKeysFrom, place};
 
+use crate::base_w::digits_of;
+use crate::nodes::put_part;
 use crate::place::{Place, Seeds};
 use crate::wots::{wots_adrs, wots_pk};
 use slh_hash::{SeededTreeHash, TStream};
 use slh_lanes::{LaneAdrs, LaneNodes, SeededLanes, adrs_lanes, consecutive, lane_node, set_pairs};
-use slh_params::AdrsType;
+use slh_params::{AdrsType, Node};
 use slh_tree::Leaves;
 
 /// T over the ends of the chains of each of eight keys, as far as they were absorbed.
@@ -121,6 +124,76 @@ fn eight_pks(seeds: &Seeds, at: Place) -> Leaves
     let mut streams = key_streams(seeds, at);
     for c in 0..seeds.set.len() as u32 {
         let ends = chain_ends(&lanes, seeds, at, c);
+        absorb_lanes(&mut streams, &ends, seeds.set.n());
+    }
+    finished(streams)
+}
+
+/// The ends of chain `c` of eight keys, of which the first is at this place. The value that the chain has after `steps`
+/// steps for the key in lane `lane` is written as part `c` of `out`.
+fn chain_ends_signing(
+    lanes: &SeededLanes,
+    seeds: &Seeds,
+    at: Place,
+    c: u32,
+    steps: u32,
+    lane: usize,
+    out: &mut [u8],
+) -> LaneNodes
+    requires lanes { IsSeededLanes lanes.now (params seeds.now.set) seeds.now.pk_seed.now }
+    requires pairs { at.pair + 8 ≤ 2 ^ 32 }
+    requires steps { steps ≤ w (params seeds.now.set) - 1 }
+    requires lane { lane < 8 }
+    requires out { c * (params seeds.now.set).n + (params seeds.now.set).n ≤ length out.old }
+    ensures ends { let p = params seeds.now.set in (j : ℕ) → j < 8 → value_at result j p.n
+        ≡ whole_chain p seeds.now.sk_seed.now seeds.now.pk_seed.now (place at.layer at.tree (at.pair + j)) c }
+    ensures set { let p = params seeds.now.set in let sk = seeds.now.sk_seed.now in let pk = seeds.now.pk_seed.now in
+        let key = place at.layer at.tree (at.pair + lane) in
+        part p.n out.new c ≡ chain_of p pk key c (secret p sk pk key c) 0 steps }
+    ensures others { (i : ℕ) → i ≢ c → part (params seeds.now.set).n out.new i
+        ≡ part (params seeds.now.set).n out.old i }
+{
+    let secrets = lanes.prf(seeds.sk_seed, &key_adrs(at, AdrsType::WotsPrf, c));
+    let adrs = key_adrs(at, AdrsType::WotsHash, c);
+    let values = lanes.chains(&adrs, &secrets, 0, steps);
+    let n = seeds.set.n();
+    put_part(out, n, c as usize, &lane_node(&values, lane, n));
+    lanes.chains(&adrs, &values, steps, seeds.set.w() - 1 - steps)
+}
+
+/// The place of the first of the eight keys that stand below the same node of height 3 as the key at this place.
+pub(crate) fn first_of_eight(at: Place) -> Place
+    ensures { result ≡ place at.layer at.tree (at.pair - at.pair % 8) }
+{
+    Place {
+        layer: at.layer,
+        tree: at.tree,
+        pair: at.pair - at.pair % 8,
+    }
+}
+
+/// Writes the signature of a message of n bytes by the key at this place, len * n bytes (Algorithm 7), and gives the
+/// public keys of the eight places from `first_of_eight` on, n bytes each (Algorithm 6).
+///
+/// The chains of all eight keys are run to the message's digits, where the signature's values are, and then to their
+/// ends. So the lanes take the same steps, and no chain is computed twice.
+pub(crate) fn sign_among_eight(seeds: &Seeds, at: Place, msg: &Node, out: &mut [u8]) -> Leaves
+    requires msg { length msg.now.items ≡ (params seeds.now.set).n }
+    requires out { length out.old ≡ len (params seeds.now.set) * (params seeds.now.set).n }
+    ensures signature { let p = params seeds.now.set in let sk = seeds.now.sk_seed.now in
+        let pk = seeds.now.pk_seed.now in
+        out.new ≡ wots_sig p sk pk at msg.now.items }
+    ensures len { length result.items ≡ 8 }
+    ensures keys { AreKeysFrom (params seeds.now.set) seeds.now.sk_seed.now seeds.now.pk_seed.now
+        (place at.layer at.tree (at.pair - at.pair % 8)) result.items }
+{
+    let first = first_of_eight(at);
+    let lane = (at.pair % 8) as usize;
+    let digits = digits_of(seeds.set, msg);
+    let lanes = SeededLanes::new(seeds.set, seeds.pk_seed);
+    let mut streams = key_streams(seeds, first);
+    for c in 0..seeds.set.len() as u32 {
+        let ends = chain_ends_signing(&lanes, seeds, first, c, digits[c as usize], lane, out);
         absorb_lanes(&mut streams, &ends, seeds.set.n());
     }
     finished(streams)

@@ -11,10 +11,10 @@ ghost use Rattle.slh_few.specs.Fors.{fors_tree};
 use crate::fors_tree::SeededForsTree;
 use crate::kept_chains::wots_pk_keeping;
 use crate::place::{Place, Seeds};
-use crate::xmss::{KnownLeafTree, SeededXmssTree};
+use crate::xmss::{KnownLeavesTree, SeededXmssTree};
 use slh_hash::{SeededHash, SeededTreeHash};
 use slh_lanes::SeededLanes;
-use slh_tree::{Cover, PathRec, hash_range};
+use slh_tree::{Cover, Leaves, PathRec, hash_range};
 
 /// The cover of the leaves from `lo` to `hi`, `hi` left out, of tree `tree` of layer `layer`. The record, of a leaf of
 /// that tree, gains exactly those nodes of its path whose leaves all lie in the range.
@@ -66,8 +66,9 @@ pub fn xmss_range_keeping(
         let pk = seeds.now.pk_seed.now in
         kept.new ≡ kept_chains p sk pk at }
 {
-    let leaf = wots_pk_keeping(seeds, at, kept);
-    hash_range(&KnownLeafTree::new(seeds, at, leaf), lo, hi, rec)
+    let mut known = Leaves::new();
+    known.push(wots_pk_keeping(seeds, at, kept));
+    hash_range(&KnownLeavesTree::new(seeds, at, known), lo, hi, rec)
 }
 
 /// The cover of the leaves from `lo` to `hi`, `hi` left out, of FORS tree `tree_no` of the key at leaf `idx_leaf` of

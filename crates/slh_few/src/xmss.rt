@@ -1,20 +1,21 @@
 //! XMSS: a tree of WOTS+ keys (FIPS 205, section 6).
-ghost use Rattle.std.specs.Prelude.{◌≡◌, ℕ, List, ◌+◌, ◌*◌, ◌^◌, ◌≤◌, ◌<◌, length};
+ghost use Rattle.std.specs.Prelude.{◌≡◌, ℕ, List, ◌+◌, ◌*◌, ◌^◌, ◌≤◌, ◌<◌, ◌↔◌, IsTrue, length};
 ghost use Rattle.slh_params.specs.AdrsType.{type_number};
 ghost use Rattle.slh_params.specs.Address.{address};
 ghost use Rattle.slh_params.specs.Params.{len};
 ghost use Rattle.slh_params.specs.ParamSet.{params};
 ghost use Rattle.slh_hash.specs.Stream.{IsSeededTree};
+ghost use Rattle.slh_tree.specs.Leaves.{AreLeavesFrom};
 ghost use Rattle.slh_tree.specs.Tree.{root as root_of};
 ghost use Rattle.slh_few.specs.Trees.{xmss_tree_of};
 ghost use Rattle.slh_few.specs.Wots.{wots_pk};
-ghost use Rattle.slh_few.specs.Xmss.{xmss_tree, xmss_sig, xmss_pk_from_sig, xmss_sig_len};
+ghost use Rattle.slh_few.specs.Xmss.{AreKeysFrom, xmss_tree, xmss_sig, xmss_pk_from_sig, xmss_sig_len};
 
-use crate::key_lanes::wots_pks;
+use crate::key_lanes::{first_of_eight, sign_among_eight, wots_pks};
 use crate::place::{Place, Public, Seeds};
 use crate::wots::{wots_pk, wots_pk_from_sig, wots_sign};
 use slh_hash::SeededTreeHash;
-use slh_params::{Adrs, AdrsType, Node, copy_of};
+use slh_params::{Adrs, AdrsType, Node, ParamSet, copy_of};
 use slh_tree::{Leaves, Tree, climb, path};
 
 /// One tree of a layer of the hypertree. Its leaves are WOTS+ public keys (Algorithm 9).
@@ -162,33 +163,47 @@ impl<'a> Tree for SeededXmssTree<'a> {
     }
 }
 
-/// An XMSS tree of which one leaf was made before.
+/// An XMSS tree of which some leaves, one after another, were made before.
 #[derive(Drop)]
-pub(crate) struct KnownLeafTree<'a> {
+pub(crate) struct KnownLeavesTree<'a> {
     tree: SeededXmssTree<'a>,
-    pair: u32,
-    leaf: Node,
-    ghost own: { leaf.items ≡ (xmss_tree_of tree.tree).leaf pair },
+    first: u32,
+    known: Leaves,
+    ghost own: { AreLeavesFrom (xmss_tree_of tree.tree) first known.items },
 }
 
-impl<'a> KnownLeafTree<'a> {
-    /// The tree over a place, whose leaf there is `leaf`.
+impl<'a> KnownLeavesTree<'a> {
+    /// The tree over a place, whose leaves from there on are `known`.
     #[tactic(auto, unfolding(crate::specs::Trees::xmss_tree_of))]
-    pub(crate) fn new(seeds: &Seeds<'a>, at: Place, leaf: Node) -> Self
-        requires { let p = params seeds.now.set in let sk = seeds.now.sk_seed.now in
-            let pk = seeds.now.pk_seed.now in
-            leaf.items ≡ wots_pk p sk pk at }
+    pub(crate) fn new(seeds: &Seeds<'a>, at: Place, known: Leaves) -> Self
+        requires { AreKeysFrom (params seeds.now.set) seeds.now.sk_seed.now seeds.now.pk_seed.now at known.items }
         ensures { let p = params seeds.now.set in let sk = seeds.now.sk_seed.now in
             let pk = seeds.now.pk_seed.now in
             xmss_tree_of result.tree.tree ≡ xmss_tree p sk pk at.layer at.tree }
     {
         let tree = SeededXmssTree::new(seeds, at.layer, at.tree);
-        let pair = at.pair;
-        KnownLeafTree { tree, pair, leaf }
+        let first = at.pair;
+        KnownLeavesTree { tree, first, known }
+    }
+
+    /// Whether leaf `i` was made before.
+    fn knows(&self, i: u32) -> bool
+        ensures { IsTrue result ↔ (self.now.first ≤ i) × (i < self.now.first + length self.now.known.items) }
+    {
+        self.first <= i && i - self.first < self.known.len() as u32
+    }
+
+    /// Whether none of the leaves from `first` on, as many as `count`, was made before.
+    fn knows_none(&self, first: u32, count: u32) -> bool {
+        if self.first < first {
+            self.known.len() as u32 <= first - self.first
+        } else {
+            count <= self.first - first
+        }
     }
 }
 
-impl<'a> Tree for KnownLeafTree<'a> {
+impl<'a> Tree for KnownLeavesTree<'a> {
     ghost use Rattle.slh_few.specs.Trees.{xmss_tree_of, xmss-lawful};
 
     ghost tree = { λ t. xmss_tree_of t.tree.tree };
@@ -200,15 +215,15 @@ impl<'a> Tree for KnownLeafTree<'a> {
     }
 
     fn leaf(&self, i: u32) -> Node {
-        if i == self.pair {
-            copy_of(&self.leaf)
+        if self.knows(i) {
+            copy_of(&self.known[(i - self.first) as usize])
         } else {
             self.tree.leaf(i)
         }
     }
 
     fn leaves(&self, first: u32, count: u32) -> Leaves {
-        if self.pair < first || count <= self.pair - first {
+        if self.knows_none(first, count) {
             return self.tree.leaves(first, count);
         }
         // For the prover: a tree has a height of at most 14.
@@ -225,9 +240,77 @@ impl<'a> Tree for KnownLeafTree<'a> {
     }
 }
 
+/// Whether the trees of a set have eight leaves or more.
+fn has_eight_leaves(set: ParamSet) -> bool {
+    set.hp() >= 3
+}
+
+/// Writes the signature as `xmss_sign` does, and gives the leaf that signs. That leaf is made together with the seven
+/// others below its node of height 3, and the path's nodes of heights 0 to 2 are made from those. It is for trees of
+/// eight leaves or more.
+fn sign_in_group(seeds: &Seeds, at: Place, msg: &Node, out: &mut [u8]) -> Node
+    requires pair { at.pair < 2 ^ (params seeds.now.set).hp }
+    requires msg { length msg.now.items ≡ (params seeds.now.set).n }
+    requires out { length out.old ≡ xmss_sig_len (params seeds.now.set) }
+    ensures signature { let p = params seeds.now.set in let sk = seeds.now.sk_seed.now in
+        let pk = seeds.now.pk_seed.now in
+        out.new ≡ xmss_sig p sk pk at msg.now.items }
+    ensures leaf { let p = params seeds.now.set in let sk = seeds.now.sk_seed.now in
+        let pk = seeds.now.pk_seed.now in
+        result.items ≡ wots_pk p sk pk at }
+{
+    let (wots, auth) = out.split_at_mut(seeds.set.len() * seeds.set.n());
+    let group = sign_among_eight(seeds, at, msg, wots);
+    let tree = KnownLeavesTree::new(seeds, first_of_eight(at), group);
+    path(&tree, at.pair, auth);
+    tree.leaf(at.pair)
+}
+
+/// Writes the signature as `xmss_sign` does. The leaf that signs is not made. It is for trees of fewer than eight
+/// leaves, where a group of eight would have leaves that nobody uses.
+fn sign_alone(seeds: &Seeds, at: Place, msg: &Node, out: &mut [u8])
+    requires pair { at.pair < 2 ^ (params seeds.now.set).hp }
+    requires msg { length msg.now.items ≡ (params seeds.now.set).n }
+    requires out { length out.old ≡ xmss_sig_len (params seeds.now.set) }
+    ensures { let p = params seeds.now.set in let sk = seeds.now.sk_seed.now in
+        let pk = seeds.now.pk_seed.now in
+        out.new ≡ xmss_sig p sk pk at msg.now.items }
+{
+    let (wots, auth) = out.split_at_mut(seeds.set.len() * seeds.set.n());
+    wots_sign(seeds, at, msg, wots);
+    path(
+        &SeededXmssTree::new(seeds, at.layer, at.tree),
+        at.pair,
+        auth,
+    );
+}
+
+/// Writes the signature as `xmss_sign` does, and gives the leaf that signs. None of its chains is computed twice.
+pub(crate) fn sign_tree(seeds: &Seeds, at: Place, msg: &Node, out: &mut [u8]) -> Node
+    requires pair { at.pair < 2 ^ (params seeds.now.set).hp }
+    requires msg { length msg.now.items ≡ (params seeds.now.set).n }
+    requires out { length out.old ≡ xmss_sig_len (params seeds.now.set) }
+    ensures signature { let p = params seeds.now.set in let sk = seeds.now.sk_seed.now in
+        let pk = seeds.now.pk_seed.now in
+        out.new ≡ xmss_sig p sk pk at msg.now.items }
+    ensures leaf { let p = params seeds.now.set in let sk = seeds.now.sk_seed.now in
+        let pk = seeds.now.pk_seed.now in
+        result.items ≡ wots_pk p sk pk at }
+{
+    if has_eight_leaves(seeds.set) {
+        return sign_in_group(seeds, at, msg, out);
+    }
+    sign_alone(seeds, at, msg, out);
+    let public = Public {
+        set: seeds.set,
+        pk_seed: seeds.pk_seed,
+    };
+    let (wots, _auth) = out.split_at(seeds.set.len() * seeds.set.n());
+    wots_pk_from_sig(&public, at, msg, wots)
+}
+
 /// Writes the signature of a message of n bytes: that of the leaf's WOTS+ key, then the leaf's path,
-/// (len + h') * n bytes (Algorithm 10). The leaf itself is not made. The root that the signature
-/// gives is the tree's.
+/// (len + h') * n bytes (Algorithm 10). The root that the signature gives is the tree's.
 pub fn xmss_sign(seeds: &Seeds, at: Place, msg: &Node, out: &mut [u8])
     requires pair { at.pair < 2 ^ (params seeds.now.set).hp }
     requires msg { length msg.now.items ≡ (params seeds.now.set).n }
@@ -239,13 +322,11 @@ pub fn xmss_sign(seeds: &Seeds, at: Place, msg: &Node, out: &mut [u8])
         let pk = seeds.now.pk_seed.now in
         xmss_pk_from_sig p pk at msg.now.items out.new ≡ root_of (xmss_tree p sk pk at.layer at.tree) }
 {
-    let (wots, auth) = out.split_at_mut(seeds.set.len() * seeds.set.n());
-    wots_sign(seeds, at, msg, wots);
-    path(
-        &SeededXmssTree::new(seeds, at.layer, at.tree),
-        at.pair,
-        auth,
-    );
+    if has_eight_leaves(seeds.set) {
+        sign_in_group(seeds, at, msg, out);
+    } else {
+        sign_alone(seeds, at, msg, out);
+    }
 }
 
 /// The root that a signature of a message of n bytes gives: n bytes (Algorithm 11).

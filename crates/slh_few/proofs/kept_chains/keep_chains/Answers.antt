@@ -6,8 +6,8 @@ use Rattle.slh_lanes.proofs.Columns.{splat_lane}
 use Rattle.slh_few.specs.Wots.{chain, secret}
 use Rattle.slh_few.specs.KeptChains.{spacing, kept_count, kept_chain_len, kept_value}
 use Rattle.slh_few.specs.Parts.{part}
-use Rattle.slh_few.proofs.Chains.{chain-start}
-use Rattle.slh_few.proofs.KeptChains.{kept_value-more, kept_end, chain-on}
+use Rattle.slh_few.proofs.Chains.{chain-start, chain-on}
+use Rattle.slh_few.proofs.KeptChains.{kept_value-more, kept_end}
 use Rattle.slh_few.proofs.kept_chains.keep_chains.Goals as goal
 
 pub loop-j-init : goal.loop-j-init

@@ -1,25 +1,19 @@
--- The two parts of the output are the WOTS+ signature and the path, and the tree's root follows from them.
-use Rattle.std.proofs.Common.{◌≡◌, ◌++◌, ap, ◌∙◌}
+-- The tree's root follows from the signature, however it was made.
+use Rattle.std.proofs.Common.{◌≡◌, ℕ, ◌^◌, ◌<◌, List, ap, ◌∙◌}
 use Rattle.slh_params.specs.ParamSet.{params}
-use Rattle.slh_tree.specs.Climb.{path}
-use Rattle.slh_few.specs.Wots.{wots_sig}
+use Rattle.slh_params.specs.declared.param_set.ParamSet.{ParamSet}
+use Rattle.slh_tree.specs.Tree.{root}
 use Rattle.slh_few.specs.Xmss.{xmss_tree, xmss_sig, xmss_pk_from_sig}
+use Rattle.slh_few.specs.declared.place.Place.{Place}
 use Rattle.slh_few.proofs.XmssLaw.{xmss_pk_from_sig-xmss_sig}
 use Rattle.slh_few.proofs.xmss.xmss_sign.Goals as goal
 
-pub returns-clause-signature : goal.returns-clause-signature
-unfolding xmss_sig
-returns-clause-signature c =
-    let p = params c.args.seeds.now.set in
-    let sk = c.args.seeds.now.sk_seed.now in
-    let pk = c.args.seeds.now.pk_seed.now in
-    let at = c.args.at in
-    let b : c.path.new.out ≡ path (xmss_tree p sk pk at.layer at.tree) at.pair = rw c.new.ensures at c.path.ensures in
-    ap (λ xs. xs ++ c.path.new.out) c.wots_sign.ensures.signature ∙ ap (λ ys. wots_sig p sk pk at c.args.msg.now.items ++ ys) b
+root_from : (s : ParamSet) (sk pk : List ℕ) (at : Place) (m sig : List ℕ) → at.pair < 2 ^ (params s).hp → sig ≡ xmss_sig (params s) sk pk at m
+    → xmss_pk_from_sig (params s) pk at m sig ≡ root (xmss_tree (params s) sk pk at.layer at.tree)
+root_from s sk pk at m sig low e = ap (xmss_pk_from_sig (params s) pk at m) e ∙ xmss_pk_from_sig-xmss_sig s sk pk at m low
 
-pub returns-clause-key : goal.returns-clause-key
-returns-clause-key c =
-    let at = c.args.at in
-    let pk = c.args.seeds.now.pk_seed.now in
-    ap (xmss_pk_from_sig (params c.args.seeds.now.set) pk at c.args.msg.now.items) (returns-clause-signature c)
-    ∙ xmss_pk_from_sig-xmss_sig c.args.seeds.now.set c.args.seeds.now.sk_seed.now pk at c.args.msg.now.items c.requires.pair
+pub returns-then-has_eight_leaves-clause-key : goal.returns-then-has_eight_leaves-clause-key
+returns-then-has_eight_leaves-clause-key c = root_from _ _ _ _ _ _ c.requires.pair c.sign_in_group.ensures.signature
+
+pub returns-else-has_eight_leaves-clause-key : goal.returns-else-has_eight_leaves-clause-key
+returns-else-has_eight_leaves-clause-key c = root_from _ _ _ _ _ _ c.requires.pair c.sign_alone.ensures

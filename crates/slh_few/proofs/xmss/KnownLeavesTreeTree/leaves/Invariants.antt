@@ -1,7 +1,7 @@
 use Rattle.std.proofs.Common.{◌≡◌, length}
 use Rattle.slh_tree.specs.Leaves.{AreLeavesFrom}
 use Rattle.slh_few.specs.Trees.{xmss_tree_of}
-use Rattle.slh_few.proofs.xmss.KnownLeafTreeTree.leaves.Given as goal
+use Rattle.slh_few.proofs.xmss.KnownLeavesTreeTree.leaves.Given as goal
 
 abbrev pub invariant-loop-j : goal.invariant-loop-j
 invariant-loop-j l = record {
