@@ -4,6 +4,7 @@ use Rattle.std.specs.Int.{to_be_bytes}
 use Rattle.sha2.specs.Sha256.{digest_bytes}
 use Rattle.slh_params.specs.Address.{Address, compressed}
 use Rattle.slh_lanes.specs.Block.{halves}
+use Rattle.slh_lanes.specs.Streams.{half_on}
 use Rattle.slh_lanes.proofs.Halves.{Fit, byte, halves_0, halves_1, halves_2, halves_3, high_2, high_3, high_fits, low_0, low_1, low_fits}
 
 module _ (ws vs : List ℕ) (n : ℕ) (fit : Fit ws) (fn : n < 2 ^ 32) where
@@ -84,3 +85,24 @@ module _ (ws vs : List ℕ) (n : ℕ) (fit : Fit ws) (fn : n < 2 ^ 32) where
 
     pub chain_set : (a : Address) → take 22 (digest_bytes ws 6) ≡ compressed a → take 22 (digest_bytes vs 6) ≡ compressed (record a { chain = n })
     chain_set a held = chain_bytes ∙ ap (λ l. take 14 l ++ (to_be_bytes w32 n ++ drop 18 l)) held
+
+-- the words of an address, each half a word on
+pub half_address : (ws vs : List ℕ) → Fit ws → slice_index vs 0 ≡ slice_index ws 0 / 2 ^ 16
+    → slice_index vs 1 ≡ halves (slice_index ws 0) (slice_index ws 1) → slice_index vs 2 ≡ halves (slice_index ws 1) (slice_index ws 2)
+    → slice_index vs 3 ≡ halves (slice_index ws 2) (slice_index ws 3) → slice_index vs 4 ≡ halves (slice_index ws 3) (slice_index ws 4)
+    → slice_index vs 5 ≡ halves (slice_index ws 4) (slice_index ws 5) → half_on vs 6 ≡ take 22 (digest_bytes ws 6)
+unfolding digest_bytes
+half_address ws vs fit e0 e1 e2 e3 e4 e5 =
+    let w : ℕ → ℕ = λ k. slice_index ws k in
+    let two : (v k l : ℕ) → v ≡ halves (w k) (w l) → to_be_bytes w32 v ≡ byte (w k) 2 ∷ byte (w k) 3 ∷ byte (w l) 0 ∷ byte (w l) 1 ∷ [] = λ v k l e.
+    ap (to_be_bytes w32) e
+    ∙ (λ i. halves_0 (w k) (w l) (fit k) (fit l) i ∷ halves_1 (w k) (w l) (fit k) (fit l) i
+    ∷ halves_2 (w k) (w l) (fit k) (fit l) i ∷ halves_3 (w k) (w l) (fit k) (fit l) i ∷ []) in
+    let b2 = ap (λ (v : ℕ). byte v 2) e0 ∙ high_2 (w 0) (fit 0) in
+    let b3 = ap (λ (v : ℕ). byte v 3) e0 ∙ high_3 (w 0) (fit 0) in
+    let p1 = two _ 0 1 e1 in
+    let p2 = two _ 1 2 e2 in
+    let p3 = two _ 2 3 e3 in
+    let p4 = two _ 3 4 e4 in
+    let p5 = two _ 4 5 e5 in
+    λ i. b2 i ∷ b3 i ∷ (p1 i ++ (p2 i ++ (p3 i ++ (p4 i ++ p5 i))))

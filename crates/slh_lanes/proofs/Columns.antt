@@ -1,9 +1,11 @@
 -- The columns of lists of vectors.
-use Rattle.std.proofs.Common.{◌≡◌, ℕ, ◌<◌, List, [], ◌∷◌, slice_index, slice_index_or, slice_set, set, refl}
+use Rattle.std.proofs.Common.{◌≡◌, ℕ, ◌<◌, List, [], ◌∷◌, slice_index, slice_index_or, slice_set, set, refl, ap, ◌∙◌}
 use Rattle.std.proofs.Math.ListN.{get_or-map}
 use Rattle.std.proofs.lemmas.List.{map-set}
 use Rattle.slh_lanes.proofs.Lanes8.{below_eight}
 use Rattle.slh_lanes.specs.Columns.{column}
+use Rattle.slh_lanes.specs.Streams.{vectors}
+use Rattle.slh_lanes.specs.declared.words.Vector.{Vector}
 
 -- word k of column j
 pub column_at : (j : ℕ) (x : List (List ℕ)) (k : ℕ) → slice_index (column j x) k ≡ slice_index (slice_index_or x k []) j
@@ -15,3 +17,12 @@ column_set j x k v = map-set (λ (v : List ℕ). slice_index v j) x k v
 
 pub splat_lane : (k j : ℕ) → j < 8 → slice_index (k ∷ k ∷ k ∷ k ∷ k ∷ k ∷ k ∷ k ∷ []) j ≡ k
 splat_lane k = below_eight (λ j. slice_index (k ∷ k ∷ k ∷ k ∷ k ∷ k ∷ k ∷ k ∷ []) j ≡ k) refl refl refl refl refl refl refl refl
+
+-- word k of column j of vectors in structs
+pub vector_at : (j : ℕ) (vs : List Vector) (k : ℕ) → slice_index (column j (vectors vs)) k ≡ slice_index ((slice_index_or vs k (record { words = [] })).words) j
+vector_at j vs k =
+    column_at j (vectors vs) k ∙ ap (λ (v : List ℕ). slice_index v j) (get_or-map (λ (v : Vector). v.words) vs k (record { words = [] }))
+
+-- one of them written
+pub vector_set : (j : ℕ) (vs : List Vector) (k : ℕ) (v : Vector) → column j (vectors (set vs k v)) ≡ slice_set (column j (vectors vs)) k (slice_index v.words j)
+vector_set j vs k v = ap (column j) (map-set (λ (v : Vector). v.words) vs k v) ∙ column_set j (vectors vs) k v.words

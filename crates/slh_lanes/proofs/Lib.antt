@@ -11,6 +11,9 @@ mod SecondBlock
 mod LongBlock
 mod LongDigest
 mod Tweaked
+mod Streams
+mod LongStreams
+mod LaneStreams
 mod LongTweaked
 mod Cut
 mod Picks

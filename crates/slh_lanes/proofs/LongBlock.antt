@@ -19,7 +19,7 @@ joined_bytes : (a b c d e f g h : ℕ) → from_be_bytes w64 (a ∷ b ∷ c ∷ 
 joined_bytes a b c d e f g h = omega arith
 
 -- a word of 64 bits is two of 32
-joined_words : (b : List ℕ) (i : ℕ) → long_word_at b i ≡ joined (word_at b i) (word_at b (i + 4))
+pub joined_words : (b : List ℕ) (i : ℕ) → long_word_at b i ≡ joined (word_at b i) (word_at b (i + 4))
 joined_words b i =
     let e5 : i + 5 ≡ i + 4 + 1 = omega arith in
     let e6 : i + 6 ≡ i + 4 + 2 = omega arith in

@@ -38,10 +38,13 @@ sha512_two s a x ls la few =
     let n : length (s ++ t) / 128 ≡ 2 = omega (arith, length-append s t) in
     ap (λ h. digest_bytes h 8) (ap (λ q. hash_after initial_hash_512 q (length q / 128)) p ∙ rw n (blocks s t ls lt))
 
+pub length-long_first_block : (p : Params) (pk : List ℕ) → length pk ≡ p.n → p.n ≤ 32 → length (long_first_block p pk) ≡ 128
+length-long_first_block p pk lp high =
+    let zeros : length (to_byte 0 (128 - p.n)) ≡ 128 - p.n = rw (to_byte-zero (128 - p.n)) (length-replicate (128 - p.n) 0) in
+    omega (arith, length-append pk (to_byte 0 (128 - p.n)), zeros)
+
 pub long_tweaked_is : (p : Params) (pk : List ℕ) (a : Address) (x : List ℕ) → length pk ≡ p.n → p.n ≤ 32 → length x ≤ 64
     → tweaked_hash SHA_512 p pk a x
     ≡ take p.n (digest_bytes (compress (compress initial_hash_512 (long_first_block p pk)) (long_second_block (compressed a) x)) 8)
 long_tweaked_is p pk a x lp high lx =
-    let zeros : length (to_byte 0 (128 - p.n)) ≡ 128 - p.n = rw (to_byte-zero (128 - p.n)) (length-replicate (128 - p.n) 0) in
-    let ls : length (long_first_block p pk) ≡ 128 = omega (arith, length-append pk (to_byte 0 (128 - p.n)), zeros) in
-    ap (take p.n) (sha512_two (long_first_block p pk) (compressed a) x ls refl (omega arith))
+    ap (take p.n) (sha512_two (long_first_block p pk) (compressed a) x (length-long_first_block p pk lp high) refl (omega arith))

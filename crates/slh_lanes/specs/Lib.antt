@@ -4,3 +4,5 @@ pub mod LongBlock
 pub mod Lanes
 pub mod TreeLanes
 pub mod Steps
+pub mod Streams
+pub mod LaneStreams

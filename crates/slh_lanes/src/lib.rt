@@ -1,4 +1,4 @@
-//! F, PRF, H and the chains of WOTS+ eight at a time (FIPS 205, sections 5 and 11.2), over SHA-256 and SHA-512 of eight
+//! F, PRF, H, T and the chains of WOTS+ eight at a time (FIPS 205, sections 5 and 11.2), over SHA-256 and SHA-512 of eight
 //! blocks side by side. Nothing here takes memory, refuses or keeps state between calls.
 #![tactic(auto, using(slh_params::proofs::Bounds::n_high))]
 
@@ -6,16 +6,20 @@ mod block;
 mod bytes;
 mod lane_adrs;
 mod lane_nodes;
+mod lane_stream;
 mod long_block;
+mod long_stream;
 mod long_words;
 mod seeded_lanes;
 mod seeded_tree_lanes;
 mod sha256_lanes;
 mod sha512_lanes;
+mod short_stream;
 mod words;
 
 pub use lane_adrs::{LaneAdrs, adrs_lanes, set_chains, set_hashes, set_pairs};
 pub use lane_nodes::{LaneNodes, even_lanes, lane_node, node_lanes, odd_lanes, set_lane};
+pub use lane_stream::LaneStream;
 pub use seeded_lanes::SeededLanes;
 pub use seeded_tree_lanes::SeededTreeLanes;
 pub use sha256_lanes::compress;

@@ -9,6 +9,12 @@ use std::simd::prelude::*;
 /// Eight words of 64 bits, one in each lane.
 pub(crate) type LongWords = u64x8;
 
+/// A vector in a struct, as `Vector` is.
+#[derive(Clone, Copy)]
+pub(crate) struct LongVector {
+    pub(crate) words: LongWords,
+}
+
 #[inline(always)]
 pub(crate) fn big_sigma0(x: LongWords) -> LongWords
     ensures { (j : ℕ) → j < 8 → slice_index result j ≡ big_sigma0 (slice_index x j) }

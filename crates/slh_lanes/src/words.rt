@@ -9,6 +9,12 @@ use std::simd::prelude::*;
 /// Eight words of 32 bits, one in each lane.
 pub type Words = u32x8;
 
+/// A vector in a struct: the borrow checker covers no struct with an array of bare vectors.
+#[derive(Clone, Copy)]
+pub(crate) struct Vector {
+    pub(crate) words: Words,
+}
+
 #[inline(always)]
 pub(crate) fn big_sigma0(x: Words) -> Words
     ensures { (j : ℕ) → j < 8 → slice_index result j ≡ big_sigma0 (slice_index x j) }

@@ -1,0 +1,10 @@
+use Rattle.std.proofs.Common.{◌≡◌, ℕ, ◌<◌, ◌*◌, length, slice_index, take}
+use Rattle.sha2.specs.Sha512.{word_at}
+use Rattle.slh_lanes.specs.Columns.{column}
+use Rattle.slh_lanes.specs.Streams.{half_on, vectors}
+use Rattle.slh_lanes.proofs.long_stream.shifted.Given as goal
+
+abbrev pub invariant-words : goal.invariant-words
+invariant-words l = (length l.block ≡ 16)
+    × ((j : ℕ) → j < 8 → (i : ℕ) → i < l.k
+    → word_at (take 128 (half_on (column j (vectors l.words)) 33)) (8 * i) ≡ slice_index (column j l.block) i)

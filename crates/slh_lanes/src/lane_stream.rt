@@ -1,0 +1,80 @@
+//! T of eight messages, one in each lane, under one PK.seed (FIPS 205, section 11.2).
+ghost use Rattle.std.specs.Prelude.{◌≡◌, ℕ, ◌^◌, ◌<◌, ◌++◌, List, [], length};
+ghost use Rattle.slh_params.specs.Address.{Address};
+ghost use Rattle.slh_params.specs.Params.{Params};
+ghost use Rattle.slh_params.specs.ParamSet.{params};
+ghost use Rattle.slh_hash.specs.Hash.{T};
+ghost use Rattle.slh_lanes.specs.Lanes.{HasAddress, value_at};
+ghost use Rattle.slh_lanes.specs.LaneStreams.{HasAbsorbedAt};
+ghost use Rattle.slh_lanes.specs.TreeLanes.{IsSeededTreeLanes};
+
+use crate::block::splat_all;
+use crate::lane_adrs::LaneAdrs;
+use crate::lane_nodes::LaneNodes;
+use crate::long_block::{splat_all as splat_all_long, truncated};
+use crate::long_stream::LongStream;
+use crate::seeded_tree_lanes::SeededTreeLanes;
+use crate::short_stream::ShortStream;
+use slh_params::ParamSet;
+
+/// The hash function of T in eight lanes: SHA-256 where n is 16, else SHA-512.
+#[derive(Clone, Copy)]
+pub(crate) enum CategoryStream {
+    Short(ShortStream),
+    Long(LongStream),
+}
+
+/// T_l (FIPS 205, section 11.2) in eight lanes, over nodes that come one after another, l of them in the end.
+///
+/// Contracts see it by the relation `HasAbsorbedAt`.
+#[derive(Clone, Copy)]
+pub struct LaneStream {
+    pub(crate) set: ParamSet,
+    pub(crate) stream: CategoryStream,
+}
+
+impl LaneStream {
+    /// T at the address in each lane, before any node. Where PK.seed has another length than n, nothing is said.
+    pub fn new(lanes: &SeededTreeLanes, adrs: &LaneAdrs) -> Self
+        ensures { (p : Params) (pk : List ℕ) → IsSeededTreeLanes lanes.now p pk → length pk ≡ p.n
+            → (j : ℕ) → j < 8 → (a : Address) → HasAddress adrs.now j a → HasAbsorbedAt result j p pk a [] }
+    {
+        let set = lanes.lanes.set;
+        let stream = if set.n() == 16 {
+            CategoryStream::Short(ShortStream::new(&splat_all(&lanes.lanes.state), adrs))
+        } else {
+            CategoryStream::Long(LongStream::new(&splat_all_long(&lanes.long), adrs))
+        };
+        LaneStream { set, stream }
+    }
+
+    /// The parameter set.
+    pub fn set(&self) -> ParamSet
+        ensures { (p : Params) (pk : List ℕ) (j : ℕ) (a : Address) (x : List ℕ) → HasAbsorbedAt self.now j p pk a x → params result ≡ p }
+    {
+        self.set
+    }
+
+    /// Adds the node of n bytes in each lane.
+    pub fn absorb(&mut self, nodes: &LaneNodes)
+        ensures { (p : Params) (pk : List ℕ) (j : ℕ) (a : Address) (x : List ℕ) → j < 8
+            → HasAbsorbedAt self.old j p pk a x → HasAbsorbedAt self.new j p pk a (x ++ value_at nodes.now j p.n) }
+    {
+        let count = self.set.n() / 4;
+        match &mut self.stream {
+            CategoryStream::Short(stream) => stream.absorb(nodes, count),
+            CategoryStream::Long(stream) => stream.absorb(nodes, count),
+        }
+    }
+
+    /// T of the nodes absorbed, in their order, in each lane. Of 2^28 bytes or more nothing is said.
+    pub fn finish(self) -> LaneNodes
+        ensures { (p : Params) (pk : List ℕ) (j : ℕ) (a : Address) (x : List ℕ) → j < 8
+            → HasAbsorbedAt self j p pk a x → length x < 2 ^ 28 → value_at result j p.n ≡ T p pk a x }
+    {
+        match self.stream {
+            CategoryStream::Short(stream) => stream.finish(),
+            CategoryStream::Long(stream) => truncated(&stream.finish()),
+        }
+    }
+}
