@@ -1,5 +1,9 @@
 -- The key that a WOTS+ signature gives is the public key.
-use Rattle.std.proofs.Common.{◌≡◌, ℕ, ◌-◌, ◌*◌, ◌<◌, ◌≤◌, List, length, ap, ◌∙◌, arith}
+use Rattle.std.proofs.Common.{◌≡◌, ℕ, ◌+◌, ◌-◌, ◌*◌, ◌^◌, ◌<◌, ◌≤◌, List, length, ap, ◌∙◌, arith}
+use Rattle.std.proofs.Math.Nat.{mul-le-mul}
+use Rattle.slh_params.specs.declared.param_set.ParamSet.{ParamSet}
+use Rattle.slh_params.specs.ParamSet.{params}
+use Rattle.slh_params.proofs.Bounds.{len_high, n_high}
 use Rattle.slh_params.specs.Params.{Params, w, len}
 use Rattle.slh_hash.specs.Hash.{T}
 use Rattle.slh_few.specs.Parts.{end_to_end, part}
@@ -14,6 +18,16 @@ use Rattle.slh_few.proofs.Ends.{end_to_end-same, part-end_to_end, length-end_to_
 pub length-secret : (p : Params) (sk pk : List ℕ) (at : Place) (c : ℕ) → p.n ≤ 32 → length (secret p sk pk at c) ≡ p.n
 unfolding secret
 length-secret p sk pk at c h = length-PRF p pk sk _ h
+
+-- the ends of all chains are short
+pub ends_few : (s : ParamSet) (sk pk : List ℕ) (at : Place) → length (end_to_end (whole_chain (params s) sk pk at) (len (params s))) < 2 ^ 28
+ends_few s sk pk at =
+    let p = params s in
+    let all : length (end_to_end (whole_chain p sk pk at) (len p)) ≡ len p * p.n =
+    length-end_to_end (whole_chain p sk pk at) p.n (len p) (λ c l.
+    length-chain p pk at c (secret p sk pk at c) 0 (w p - 1) (n_high s) (length-secret p sk pk at c (n_high s))) in
+    let most : len p * p.n ≤ 133 * 32 = mul-le-mul (len_high s) (n_high s) in
+    omega (arith, all, most)
 
 -- a part of the signature has n bytes
 pub length-signed_chain : (p : Params) (sk pk : List ℕ) (at : Place) (m : List ℕ) (c : ℕ) → p.n ≤ 32 → length (signed_chain p sk pk at m c) ≡ p.n

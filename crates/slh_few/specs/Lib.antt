@@ -4,6 +4,7 @@ pub mod ChainOrder
 pub mod Wots
 pub mod KeptChains
 pub mod Xmss
+pub mod KeyStreams
 pub mod Hypertree
 pub mod Fors
 pub mod Trees

@@ -9,21 +9,31 @@ ghost use Rattle.slh_hash.specs.Hash.{T};
 ghost use Rattle.slh_hash.specs.Stream.{HasAbsorbed, IsSeededTree};
 ghost use Rattle.slh_hash.specs.declared.t_stream.TStream.{TStream};
 ghost use Rattle.slh_lanes.specs.Lanes.{HasAddress, IsSeededLanes, value_at};
+ghost use Rattle.slh_lanes.specs.LaneStreams.{HasAbsorbedAt};
+ghost use Rattle.slh_few.specs.KeyStreams.{HasAbsorbedKey};
 ghost use Rattle.slh_few.specs.Parts.{part};
 ghost use Rattle.slh_few.specs.Wots.{wots_address, chain as chain_of, secret, whole_chain, wots_sig};
 ghost use Rattle.slh_few.specs.Xmss.{AreKeysFrom, place};
 
 use crate::base_w::digits_of;
-use crate::nodes::put_part;
+use crate::nodes::{first_nodes, put_part};
 use crate::place::{Place, Seeds};
 use crate::wots::{wots_adrs, wots_pk};
 use slh_hash::{SeededTreeHash, TStream};
-use slh_lanes::{LaneAdrs, LaneNodes, SeededLanes, adrs_lanes, consecutive, lane_node, set_pairs};
+use slh_lanes::{
+    LaneAdrs, LaneNodes, LaneStream, SeededLanes, SeededTreeLanes, adrs_lanes, consecutive,
+    lane_node, set_pairs,
+};
 use slh_params::{AdrsType, Node};
 use slh_tree::Leaves;
 
-/// T over the ends of the chains of each of eight keys, as far as they were absorbed.
-type KeyStreams = [TStream; 8];
+/// T over the ends of the chains of each of eight keys, as far as they were absorbed: in lanes, or where PK.seed has
+/// another length than n, one after the other.
+#[derive(Drop)]
+enum KeyStreams {
+    Lanes(LaneStream),
+    Alone([TStream; 8]),
+}
 
 /// The addresses of chain `c` of eight keys, of which the first is at this place.
 fn key_adrs(at: Place, kind: AdrsType, c: u32) -> LaneAdrs
@@ -65,8 +75,19 @@ fn key_stream(seeded: &SeededTreeHash, at: Place, j: u32) -> TStream
     seeded.stream(&wots_adrs(key, AdrsType::WotsPk, 0, 0))
 }
 
-/// T at the addresses of eight keys, of which the first is at this place, before any end.
-fn key_streams(seeds: &Seeds, at: Place) -> KeyStreams
+/// T at the addresses of eight keys in lanes, of which the first is at this place, before any end.
+fn lane_stream(seeds: &Seeds, at: Place) -> LaneStream
+    requires pairs { at.pair + 8 ≤ 2 ^ 32 }
+    requires len { length seeds.now.pk_seed.now ≡ (params seeds.now.set).n }
+    ensures { (j : ℕ) → j < 8 → HasAbsorbedAt result j (params seeds.now.set) seeds.now.pk_seed.now
+        (wots_address (place at.layer at.tree (at.pair + j)) WOTS_PK 0 0) [] }
+{
+    let lanes = SeededTreeLanes::new(&SeededLanes::new(seeds.set, seeds.pk_seed));
+    LaneStream::new(&lanes, &key_adrs(at, AdrsType::WotsPk, 0))
+}
+
+/// T at the addresses of eight keys one after the other, of which the first is at this place, before any end.
+fn streams_alone(seeds: &Seeds, at: Place) -> [TStream; 8]
     requires { at.pair + 8 ≤ 2 ^ 32 }
     ensures { (j : ℕ) (d : TStream) → j < 8 → HasAbsorbed (slice_index_or result j d) (params seeds.now.set) seeds.now.pk_seed.now
         (wots_address (place at.layer at.tree (at.pair + j)) WOTS_PK 0 0) [] }
@@ -84,8 +105,21 @@ fn key_streams(seeds: &Seeds, at: Place) -> KeyStreams
     ]
 }
 
-/// Adds to each key's T the value of n bytes in its lane.
-fn absorb_lanes(streams: &mut KeyStreams, nodes: &LaneNodes, n: usize)
+/// T at the addresses of eight keys, of which the first is at this place, before any end.
+fn key_streams(seeds: &Seeds, at: Place) -> KeyStreams
+    requires { at.pair + 8 ≤ 2 ^ 32 }
+    ensures { (j : ℕ) → j < 8 → HasAbsorbedKey result j (params seeds.now.set) seeds.now.pk_seed.now
+        (wots_address (place at.layer at.tree (at.pair + j)) WOTS_PK 0 0) [] }
+{
+    if seeds.pk_seed.len() == seeds.set.n() {
+        KeyStreams::Lanes(lane_stream(seeds, at))
+    } else {
+        KeyStreams::Alone(streams_alone(seeds, at))
+    }
+}
+
+/// Adds to each T of eight the value of n bytes in its lane.
+fn absorb_alone(streams: &mut [TStream; 8], nodes: &LaneNodes, n: usize)
     requires { n ≤ 32 }
     ensures { (p : Params) (pk : List ℕ) (a : Address) (x : List ℕ) (j : ℕ) (d : TStream) → j < 8 → HasAbsorbed (slice_index_or streams.old j d) p pk a x
         → HasAbsorbed (slice_index_or streams.new j d) p pk a (x ++ value_at nodes.now j n) }
@@ -95,8 +129,20 @@ fn absorb_lanes(streams: &mut KeyStreams, nodes: &LaneNodes, n: usize)
     }
 }
 
-/// T of what each key's absorbed.
-fn finished(streams: KeyStreams) -> Leaves
+/// Adds to each key's T the value of n bytes in its lane.
+fn absorb_lanes(streams: &mut KeyStreams, nodes: &LaneNodes, n: usize)
+    requires { n ≤ 32 }
+    ensures { (p : Params) (pk : List ℕ) (a : Address) (x : List ℕ) (j : ℕ) → j < 8 → p.n ≡ n → HasAbsorbedKey streams.old j p pk a x
+        → HasAbsorbedKey streams.new j p pk a (x ++ value_at nodes.now j n) }
+{
+    match streams {
+        KeyStreams::Lanes(stream) => stream.absorb(nodes),
+        KeyStreams::Alone(streams) => absorb_alone(streams, nodes, n),
+    }
+}
+
+/// T of what each of eight absorbed.
+fn finished_alone(streams: [TStream; 8]) -> Leaves
     ensures len { length result.items ≡ 8 }
     ensures values { (p : Params) (pk : List ℕ) (a : Address) (x : List ℕ) (j : ℕ) (e : ArrayVec ℕ) → j < 8
         → ((d : TStream) → HasAbsorbed (slice_index_or streams j d) p pk a x) → (slice_index_or result.items j e).items ≡ T p pk a x }
@@ -112,6 +158,18 @@ fn finished(streams: KeyStreams) -> Leaves
         g.finish(),
         h.finish(),
     ])
+}
+
+/// T of what each key's absorbed, of less than 2^28 bytes.
+fn finished(streams: KeyStreams) -> Leaves
+    ensures len { length result.items ≡ 8 }
+    ensures values { (p : Params) (pk : List ℕ) (a : Address) (x : List ℕ) (j : ℕ) (e : ArrayVec ℕ) → j < 8
+        → HasAbsorbedKey streams j p pk a x → length x < 2 ^ 28 → (slice_index_or result.items j e).items ≡ T p pk a x }
+{
+    match streams {
+        KeyStreams::Lanes(stream) => first_nodes(&stream.finish(), stream.set().n(), 8),
+        KeyStreams::Alone(streams) => finished_alone(streams),
+    }
 }
 
 /// The public keys at eight places, of which this is the first: n bytes each (Algorithm 6).

@@ -1,5 +1,5 @@
 -- After each turn the keys' streams have absorbed the ends so far.
-use Rattle.std.proofs.Common.{◌≡◌, ℕ, ◌+◌, ◌<◌, ap, sym, ◌∙◌, arith}
+use Rattle.std.proofs.Common.{◌≡◌, ℕ, ◌+◌, ◌^◌, ◌<◌, length, ap, subst, sym, ◌∙◌, arith}
 use Rattle.slh_params.specs.Address.{Address, WOTS_PK}
 use Rattle.slh_params.specs.Params.{len}
 use Rattle.slh_params.specs.ParamSet.{params}
@@ -9,15 +9,16 @@ use Rattle.slh_few.specs.Parts.{end_to_end}
 use Rattle.slh_few.specs.Wots.{wots_address, whole_chain, wots_pk}
 use Rattle.slh_few.specs.Xmss.{place}
 use Rattle.slh_few.proofs.Ends.{end_to_end-more, end_to_end-none}
+use Rattle.slh_few.proofs.WotsLaw.{ends_few}
 use Rattle.slh_few.proofs.key_lanes.eight_pks.Goals as goal
 
 pub loop-c-init : goal.loop-c-init
-loop-c-init c = λ j d lane.
+loop-c-init c = λ j lane.
     rw (end_to_end-none (whole_chain (params c.args.seeds.now.set) c.args.seeds.now.sk_seed.now c.args.seeds.now.pk_seed.now (place c.args.at.layer c.args.at.tree (c.args.at.pair + j))))
-    (c.key_streams-streams.ensures j d lane)
+    (c.key_streams-streams.ensures j lane)
 
 pub loop-c-preserved : goal.loop-c-preserved
-loop-c-preserved c = λ j d lane.
+loop-c-preserved c = λ j lane.
     let p = params c.args.seeds.now.set in
     let pk = c.args.seeds.now.pk_seed.now in
     let at = place c.args.at.layer c.args.at.tree (c.args.at.pair + j) in
@@ -25,7 +26,8 @@ loop-c-preserved c = λ j d lane.
     let a : Address = wots_address at WOTS_PK 0 0 in
     let end : value_at c.chain_ends-ends.result j c.n.result ≡ ends c.loop-c.c =
     ap (value_at c.chain_ends-ends.result j) c.n.ensures ∙ c.chain_ends-ends.ensures j lane in
-    rw (end_to_end-more ends c.loop-c.c, sym end) (c.absorb_lanes.ensures p pk a (end_to_end ends c.loop-c.c) j d lane (c.loop-c.invariant j d lane))
+    rw (end_to_end-more ends c.loop-c.c, sym end)
+    (c.absorb_lanes.ensures p pk a (end_to_end ends c.loop-c.c) j lane (sym c.n.ensures) (c.loop-c.invariant j lane))
 
 pub returns-clause-keys : goal.returns-clause-keys
 unfolding wots_pk
@@ -35,5 +37,7 @@ returns-clause-keys c = λ j d below.
     let pk = c.args.seeds.now.pk_seed.now in
     let at = place c.args.at.layer c.args.at.tree (c.args.at.pair + j) in
     let all : c.loop-c.c ≡ len p = omega (arith, c.len-c-end.ensures) in
-    c.finished.ensures.values p pk _ _ j d lane (λ s. c.loop-c.invariant j s lane)
+    let few = subst (λ (k : ℕ). length (end_to_end (whole_chain p c.args.seeds.now.sk_seed.now pk at) k) < 2 ^ 28) (sym all)
+    (ends_few c.args.seeds.now.set c.args.seeds.now.sk_seed.now pk at) in
+    c.finished.ensures.values p pk _ _ j d lane (c.loop-c.invariant j lane) few
     ∙ ap (λ (k : ℕ). T p pk (wots_address at WOTS_PK 0 0) (end_to_end (whole_chain p c.args.seeds.now.sk_seed.now pk at) k)) all

@@ -1,5 +1,5 @@
 -- After each turn the keys' streams have absorbed the ends so far, and as many values of the signature are written.
-use Rattle.std.proofs.Common.{◌≡◌, ℕ, ◌+◌, ◌-◌, ◌*◌, ◌%◌, ◌<◌, length, inl, inr, ap, sym, ◌∙◌, arith}
+use Rattle.std.proofs.Common.{◌≡◌, ℕ, ◌+◌, ◌-◌, ◌*◌, ◌%◌, ◌^◌, ◌<◌, length, inl, inr, ap, subst, sym, ◌∙◌, arith}
 use Rattle.std.proofs.lemmas.Bool.{cases_lt}
 use Rattle.slh_params.specs.Address.{Address, WOTS_PK}
 use Rattle.slh_params.specs.Params.{len}
@@ -12,13 +12,14 @@ use Rattle.slh_few.specs.Xmss.{place}
 use Rattle.slh_few.specs.declared.place.Place.{Place}
 use Rattle.slh_few.proofs.Ends.{end_to_end-more, end_to_end-none, part_fits}
 use Rattle.slh_few.proofs.PartWrites.{all_parts}
+use Rattle.slh_few.proofs.WotsLaw.{ends_few}
 use Rattle.slh_few.proofs.key_lanes.sign_among_eight.Goals as goal
 
 pub loop-c-init : goal.loop-c-init
 loop-c-init c = record {
-  absorbed = λ j d lane.
+  absorbed = λ j lane.
       rw (end_to_end-none (whole_chain (params c.args.seeds.now.set) c.args.seeds.now.sk_seed.now c.args.seeds.now.pk_seed.now (place c.first_of_eight-first.result.layer c.first_of_eight-first.result.tree (c.first_of_eight-first.result.pair + j))))
-      (c.key_streams-streams.ensures j d lane);
+      (c.key_streams-streams.ensures j lane);
   written = λ i none. absurd (omega (arith, none));
 }
 
@@ -44,13 +45,13 @@ loop-c-preserved c =
     ap (λ (a : Place). place a.layer a.tree (a.pair + c.args.at.pair % 8)) c.first_of_eight-first.ensures
     ∙ ap (place c.args.at.layer c.args.at.tree) e in
     record {
-      absorbed = λ j d lane.
+      absorbed = λ j lane.
           let at = place first.layer first.tree (first.pair + j) in
           let ends = whole_chain p sk pk at in
           let a : Address = wots_address at WOTS_PK 0 0 in
           let end : value_at c.chain_ends_signing-ends.result j c.n.result ≡ ends now =
           ap (value_at c.chain_ends_signing-ends.result j) c.n.ensures ∙ c.chain_ends_signing-ends.ensures.ends j lane in
-          rw (end_to_end-more ends now, sym end) (c.absorb_lanes.ensures p pk a (end_to_end ends now) j d lane (old.absorbed j d lane));
+          rw (end_to_end-more ends now, sym end) (c.absorb_lanes.ensures p pk a (end_to_end ends now) j lane (sym c.n.ensures) (old.absorbed j lane));
       written = λ i lt. elim (cases_lt i now) [
         | inl low ↦ c.chain_ends_signing-ends.ensures.others i (omega (arith, low)) ∙ old.written i low
         | inr ge ↦
@@ -78,6 +79,7 @@ returns-clause-keys c = λ j d below.
     let first = c.first_of_eight-first.result in
     let at = place first.layer first.tree (first.pair + j) in
     let all : c.loop-c.c ≡ len p = omega (arith, c.len-c-end.ensures) in
-    c.finished.ensures.values p pk _ _ j d lane (λ s. c.loop-c.invariant.absorbed j s lane)
+    let few = subst (λ (k : ℕ). length (end_to_end (whole_chain p sk pk at) k) < 2 ^ 28) (sym all) (ends_few c.args.seeds.now.set sk pk at) in
+    c.finished.ensures.values p pk _ _ j d lane (c.loop-c.invariant.absorbed j lane) few
     ∙ ap (λ (k : ℕ). T p pk (wots_address at WOTS_PK 0 0) (end_to_end (whole_chain p sk pk at) k)) all
     ∙ ap (λ (a : Place). wots_pk p sk pk (place a.layer a.tree (a.pair + j))) c.first_of_eight-first.ensures

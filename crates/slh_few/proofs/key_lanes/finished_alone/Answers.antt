@@ -4,7 +4,7 @@ use Rattle.slh_hash.specs.Hash.{T}
 use Rattle.slh_hash.specs.Stream.{HasAbsorbed}
 use Rattle.slh_hash.specs.declared.t_stream.TStream.{TStream}
 use Rattle.slh_lanes.proofs.Lanes8.{below_eight}
-use Rattle.slh_few.proofs.key_lanes.finished.Goals as goal
+use Rattle.slh_few.proofs.key_lanes.finished_alone.Goals as goal
 
 pub returns-clause-values : goal.returns-clause-values
 returns-clause-values c = λ p pk a x j e lane held.

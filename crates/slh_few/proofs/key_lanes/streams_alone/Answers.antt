@@ -6,7 +6,7 @@ use Rattle.slh_hash.specs.declared.t_stream.TStream.{TStream}
 use Rattle.slh_lanes.proofs.Lanes8.{below_eight}
 use Rattle.slh_few.specs.Wots.{wots_address}
 use Rattle.slh_few.specs.Xmss.{place}
-use Rattle.slh_few.proofs.key_lanes.key_streams.Goals as goal
+use Rattle.slh_few.proofs.key_lanes.streams_alone.Goals as goal
 
 pub returns : goal.returns
 returns c = λ j d lane.

@@ -4,7 +4,7 @@ use Rattle.slh_params.specs.Params.{Params}
 use Rattle.slh_hash.specs.Stream.{HasAbsorbed}
 use Rattle.slh_hash.specs.declared.t_stream.TStream.{TStream}
 use Rattle.slh_lanes.specs.Lanes.{value_at}
-use Rattle.slh_few.proofs.key_lanes.absorb_lanes.Given as goal
+use Rattle.slh_few.proofs.key_lanes.absorb_alone.Given as goal
 
 abbrev pub invariant-loop-j : goal.invariant-loop-j
 invariant-loop-j l = record {
