@@ -43,7 +43,7 @@ SHARE = 8
 # What the prover says of a proof file that names what the edit took away.
 NAMES = re.compile(r"(\./)?proofs/.*(has no field|is not in scope|has no `|was not admitted|is no name)")
 # The declaration of a type or a trait.
-TYPE = re.compile(r"^(?:pub(?:\(\w+\))? )?(?:struct|enum|trait|type) [^\n;]*(?:;$|.*?^\})", re.M | re.S)
+TYPE = re.compile(r"^(?:pub(?:\(\w+\))? )?(?:struct|enum|trait|type) (\w+)[^\n;]*(?:;$|.*?^\})", re.M | re.S)
 # What it says of a text that it could not read, where the error is of no declaration or of a name.
 UNREAD = re.compile(r"is not in scope|has no field|is no name|operand is missing|expected the end|cannot continue")
 
@@ -71,10 +71,21 @@ def word_of(imported):
     return imported.rpartition(" as ")[2].replace("◌", "")
 
 
+def without_private_types(text):
+    """A source file without the types and traits that are not `pub`, and without their `impl` blocks: no other crate can
+    reach them but by a definition that names them, and `cited` finds those."""
+    names = re.findall(r"^(?:pub\(\w+\) )?(?:struct|enum|trait|type) (\w+)", text, re.M)
+    end, attributes = r"(?:;\n|\{[^\n]*\}\n|\{\n.*?^\}\n)", r"(?:^#\[[^\n]*\]\n)*^"
+    text = re.sub(rf"{attributes}(?:pub\(\w+\) )?(?:struct|enum|trait|type) [^\n;{{]*{end}", "", text, flags=re.M | re.S)
+    head = rf"impl[^\n{{]* (?:{'|'.join(names)})(?:<[^\n{{]*>)? "
+    return re.sub(f"{attributes}{head}{end}", "", text, flags=re.M | re.S) if names else text
+
+
 def contracts_of(text):
     """What a source file, as `rt fmt` lays it out, tells other crates: its text without the bodies of functions and
-    without what is its own (functions that are not `pub` and belong to no trait, constants, modules, imports but for the
-    words of clauses that are left). Empty where nothing is `pub`."""
+    without what is its own (types and functions that are not `pub` and belong to no trait, constants, modules, imports
+    but for the words of clauses that are left). Empty where nothing is `pub`."""
+    text = without_private_types(text)
     kept, indent, is_shown, in_body, owner = [], None, False, False, ""
     for line in text.split("\n"):
         if in_body:
@@ -99,34 +110,34 @@ def contracts_of(text):
 
 
 def source_of(crate, module):
-    """The file of a crate that a module of its specs stands for: of specs/, or the one of src/ whose types it declares."""
+    """The file of a crate that a module of its specs stands for, of specs/, or the one of src/ with the type that it
+    declares, and the name of this type."""
     names = module.strip(".").split(".")
     for count in range(len(names), 0, -1):
         folder, part, end = ("src", names[1:count], ".rt") if names[0] == "declared" else ("specs", names[:count], ".antt")
         path = f"{folder}/{'/'.join(part)}{end}"
         if os.path.isfile(os.path.join(ROOT, "crates", crate, path)):
-            return path
-    return None
+            return path, "".join(names[count : count + 1]) if folder == "src" else ""
+    return None, ""
 
 
-def shown(crate, path, is_used=False):
-    """What a file tells other crates: definitions, or the contracts and types of a source. Of a source that the other
-    crate does not use itself, but cites, types alone."""
+def defined(crate, path, name):
+    """The definitions of a file, or of a source the declaration of the type with this name."""
     text = without_comments(text_of(crate, path))
     if path.endswith(".antt"):
         return text
-    return contracts_of(text) if is_used else "\n".join(it[0] for it in TYPE.finditer(text))
+    return "\n".join(it[0] for it in TYPE.finditer(text) if it[1] == name)
 
 
 def cited(crate, texts):
-    """The definitions below a crate that texts name, and those that these name: (crate, file)."""
+    """The definitions below a crate that texts name, and those that these name: (crate, file, type)."""
     found, left, lower = set(), list(texts), set(kit.below(crate))
     while left:
         for name, module in re.findall(r"Rattle\.(\w+)\.specs\.([\w.]+)", left.pop()):
-            path = source_of(name, module) if name in lower else None
-            if path and (name, path) not in found:
-                found.add((name, path))
-                left.append(shown(name, path))
+            path, declared = source_of(name, module) if name in lower else (None, "")
+            if path and (name, path, declared) not in found:
+                found.add((name, path, declared))
+                left.append(defined(name, path, declared))
     return found
 
 
@@ -136,10 +147,11 @@ def sum_of(crate):
     own = [(path, text_of(crate, path)) for path in files(crate, *PARTS, "wrong")]
     for path, text in own:
         made.update(f"\0{path}\0{text if path.endswith('.edit') else without_comments(text)}".encode())
-    used = {(name, path) for name in USES[crate] if name in USES for path in files(name, "src")}
-    for name, path in sorted(used | cited(crate, [text for _, text in own] + [shown(*it, True) for it in used])):
-        text = shown(name, path, (name, path) in used)
-        made.update(f"\0{name}/{path}\0{text}".encode() if text else b"")
+    used = [(name, path) for name in USES[crate] if name in USES for path in files(name, "src")]
+    told = [contracts_of(without_comments(text_of(*it))) for it in used]
+    names = sorted(cited(crate, [text for _, text in own] + told))
+    for it, text in [*zip(used, told), *((it, defined(*it)) for it in names)]:
+        made.update(f"\0{'/'.join(it)}\0{text}".encode() if text else b"")
     return made.hexdigest()
 
 
