@@ -51,15 +51,29 @@ fn run<R: AllocGlobal + Env + Files + Threads + Sync>(
         Ok(words) => words,
         Err(fault) => return refuse(errors, fault),
     };
+    let mut disk = match disk_of(rt) {
+        Ok(disk) => disk,
+        Err(fault) => return refuse(errors, fault),
+    };
     command(
         rt,
         rt.alloc(),
         words.as_slice(),
-        &mut Disk::new(rt),
+        &mut *disk,
         &mut Reader::new(input),
         &mut Writer::new(output),
         errors,
     )
+}
+
+/// The files of the system. They stand on the heap, since they have room for a path of 4 KB, and what parses a deep
+/// vector file on the stack needs nearly all that Linux maps of it at the start.
+#[inline(never)]
+fn disk_of<R: AllocGlobal + Files>(rt: &R) -> Result<Box<Disk<&R>>, Fault> {
+    match Box::new(rt.alloc(), Disk::new(rt)) {
+        Ok(disk) => Ok(disk),
+        Err(_) => Err(Fault::NoMemory),
+    }
 }
 
 /// The arguments after the program's name. Refused with `BadWords` where one of them is not UTF-8.
