@@ -132,8 +132,8 @@ fn absorb_alone(streams: &mut [TStream; 8], nodes: &LaneNodes, n: usize)
 /// Adds to each key's T the value of n bytes in its lane.
 fn absorb_lanes(streams: &mut KeyStreams, nodes: &LaneNodes, n: usize)
     requires { n ≤ 32 }
-    ensures { (p : Params) (pk : List ℕ) (a : Address) (x : List ℕ) (j : ℕ) → j < 8 → p.n ≡ n → HasAbsorbedKey streams.old j p pk a x
-        → HasAbsorbedKey streams.new j p pk a (x ++ value_at nodes.now j n) }
+    ensures { (p : Params) (pk : List ℕ) (a : Address) (x : List ℕ) (j : ℕ) → j < 8 → p.n ≡ n
+        → HasAbsorbedKey streams.old j p pk a x → HasAbsorbedKey streams.new j p pk a (x ++ value_at nodes.now j n) }
 {
     match streams {
         KeyStreams::Lanes(stream) => stream.absorb(nodes),

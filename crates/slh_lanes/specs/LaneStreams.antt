@@ -16,4 +16,5 @@ HoldsForAt (Long s) j p pk_seed adrs x = ((p.n == 16) ≡ false) × HoldsLongAt 
 
 -- lane j of the stream has absorbed x, under these parameters, this PK.seed of n bytes and this address
 unfoldable pub HasAbsorbedAt : LaneStream → ℕ → Params → List ℕ → Address → List ℕ → Type 0
-HasAbsorbedAt s j p pk_seed adrs x = (params s.set ≡ p) × (length pk_seed ≡ p.n) × HoldsForAt s.stream j p pk_seed adrs x
+HasAbsorbedAt s j p pk_seed adrs x =
+    (params s.set ≡ p) × (length pk_seed ≡ p.n) × HoldsForAt s.stream j p pk_seed adrs x

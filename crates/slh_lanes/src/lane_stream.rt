@@ -50,7 +50,8 @@ impl LaneStream {
 
     /// The parameter set.
     pub fn set(&self) -> ParamSet
-        ensures { (p : Params) (pk : List ℕ) (j : ℕ) (a : Address) (x : List ℕ) → HasAbsorbedAt self.now j p pk a x → params result ≡ p }
+        ensures { (p : Params) (pk : List ℕ) (j : ℕ) (a : Address) (x : List ℕ)
+            → HasAbsorbedAt self.now j p pk a x → params result ≡ p }
     {
         self.set
     }

@@ -1,5 +1,5 @@
-//! F, PRF, H, T and the chains of WOTS+ eight at a time (FIPS 205, sections 5 and 11.2), over SHA-256 and SHA-512 of eight
-//! blocks side by side. Nothing here takes memory, refuses or keeps state between calls.
+//! F, PRF, H, T and the chains of WOTS+ eight at a time (FIPS 205, sections 5 and 11.2), over SHA-256 and SHA-512 of
+//! eight blocks side by side. Nothing here takes memory, refuses or keeps state between calls.
 #![tactic(auto, using(slh_params::proofs::Bounds::n_high))]
 
 mod block;

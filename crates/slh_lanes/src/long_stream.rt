@@ -119,7 +119,8 @@ impl LongStream {
         ensures len { self.new.len ≡ self.old.len }
         ensures words { self.new.words ≡ self.old.words }
         ensures state { (j : ℕ) → j < 8 → column j (long_vectors self.new.state)
-            ≡ compress (column j (long_vectors self.old.state)) (take 128 (half_on (column j (vectors self.old.words)) 33)) }
+            ≡ compress (column j (long_vectors self.old.state))
+            (take 128 (half_on (column j (vectors self.old.words)) 33)) }
     {
         let mut state = bare(&self.state);
         compress(&mut state, &shifted(&self.words));
