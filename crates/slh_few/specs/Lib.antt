@@ -7,6 +7,7 @@ pub mod Xmss
 pub mod KeyStreams
 pub mod Hypertree
 pub mod Fors
+pub mod ForsRoots
 pub mod Trees
 pub mod Paths
 -- cited by public clauses

@@ -9,6 +9,7 @@ ghost use Rattle.slh_tree.specs.Climb.{path as path_of, climb as climb_of};
 ghost use Rattle.slh_few.specs.Fors.{fors_tree, fors_leaf, fors_secret, fors_part_len, fors_sig, fors_pk_from_sig, compressed_roots};
 ghost use Rattle.slh_few.specs.Parts.{part};
 
+use crate::fors_climb::absorb_in_lanes;
 use crate::fors_parts::{fors_indices, fors_roots};
 use crate::fors_tree::{ForsTree, SeededForsTree, fors_adrs, index_in_forest};
 use crate::place::{Public, Seeds};
@@ -194,7 +195,10 @@ pub fn fors_pk_from_sig(
     let lanes = SeededLanes::new(public.set, public.pk_seed);
     let joins = SeededTreeHash::new(public.set, public.pk_seed);
     let mut roots = fors_roots(public, idx_tree, idx_leaf);
-    for j in 0..public.set.k() {
+    let done = absorb_in_lanes(
+        &mut roots, &lanes, &seeds, idx_tree, idx_leaf, &indices, sig,
+    );
+    for j in done..public.set.k() {
         let tree = SeededForsTree::new(&seeded, &lanes, &joins, &seeds, idx_tree, idx_leaf, j);
         roots.absorb(&root_at(&tree, indices[j as usize], sig));
     }

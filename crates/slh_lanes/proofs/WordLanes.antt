@@ -1,6 +1,7 @@
 -- SHA-256's functions on words, lane by lane.
 use Rattle.std.proofs.Common.{◌≡◌, ℕ, ◌<◌, ◌-◌, ◌*◌, ◌/◌, ◌%◌, ◌^◌, List, length, slice_index, replicate, bit_and, bit_or, bit_xor, w32, Fits, arith, refl, sym, ◌∙◌}
 use Rattle.std.specs.Simd.Lanes.{zip2, Each1}
+use Rattle.std.proofs.lemmas.Nat.{and_mask}
 use Rattle.std.proofs.lemmas.Simd.{Each1-get_or, get_or-zip2, length-zip2}
 use Rattle.sha2.specs.Sha256.{add32, ch, maj, big_sigma0, big_sigma1, small_sigma0, small_sigma1}
 use Rattle.slh_lanes.specs.Block.{halves}
@@ -91,3 +92,14 @@ halves_lanes p q lp lq j h =
     let low = zip2 (λ a n. a * 2 ^ n % 2 ^ 32) p (replicate 8 16) in
     let high = zip2 (λ a n. a / 2 ^ n) q (replicate 8 16) in
     rw (both_lanes add32 low high (length_both _ p (replicate 8 16) lp refl) (length_both _ q (replicate 8 16) lq refl) j h, low_lanes p lp j h, high_lanes q lq j h) refl
+
+-- half of each word, and whether it is odd
+pub half_lanes : (x : List ℕ) → length x ≡ 8 → (j : ℕ) → j < 8 → slice_index (zip2 (λ a n. a / 2 ^ n) x (replicate 8 1)) j ≡ slice_index x j / 2
+half_lanes =
+    eight (λ x. (j : ℕ) → j < 8 → slice_index (zip2 (λ a n. a / 2 ^ n) x (replicate 8 1)) j ≡ slice_index x j / 2) (λ a b c d e f g h.
+    below_eight _ refl refl refl refl refl refl refl refl)
+
+pub parity_lanes : (x : List ℕ) → length x ≡ 8 → (j : ℕ) → j < 8 → slice_index (zip2 bit_and x (replicate 8 1)) j ≡ slice_index x j % 2
+parity_lanes =
+    eight (λ x. (j : ℕ) → j < 8 → slice_index (zip2 bit_and x (replicate 8 1)) j ≡ slice_index x j % 2) (λ a b c d e f g h.
+    below_eight _ (and_mask a 1) (and_mask b 1) (and_mask c 1) (and_mask d 1) (and_mask e 1) (and_mask f 1) (and_mask g 1) (and_mask h 1))

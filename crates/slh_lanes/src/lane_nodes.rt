@@ -90,7 +90,7 @@ pub fn odd_lanes(left: &LaneNodes, right: &LaneNodes) -> LaneNodes
 
 /// In each lane the value of `x` where the number `a` is below `b`, else the value of `y`.
 #[inline(always)]
-pub(crate) fn pick_nodes(a: Words, b: Words, x: &LaneNodes, y: &LaneNodes) -> LaneNodes
+pub fn pick_nodes(a: Words, b: Words, x: &LaneNodes, y: &LaneNodes) -> LaneNodes
     ensures below { (j n : ℕ) → j < 8 → slice_index a j < slice_index b j → value_at result j n ≡ value_at x.now j n }
     ensures others { (j n : ℕ) → j < 8 → slice_index b j ≤ slice_index a j → value_at result j n ≡ value_at y.now j n }
 {

@@ -18,9 +18,11 @@ mod short_stream;
 mod words;
 
 pub use lane_adrs::{LaneAdrs, adrs_lanes, set_chains, set_hashes, set_pairs};
-pub use lane_nodes::{LaneNodes, even_lanes, lane_node, node_lanes, odd_lanes, set_lane};
+pub use lane_nodes::{
+    LaneNodes, even_lanes, lane_node, node_lanes, odd_lanes, pick_nodes, set_lane,
+};
 pub use lane_stream::LaneStream;
 pub use seeded_lanes::SeededLanes;
 pub use seeded_tree_lanes::SeededTreeLanes;
 pub use sha256_lanes::compress;
-pub use words::{Words, consecutive};
+pub use words::{Words, consecutive, half, parity};

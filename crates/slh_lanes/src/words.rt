@@ -99,6 +99,22 @@ pub fn consecutive(first: u32) -> Words
     )
 }
 
+/// Half of each word, without the rest.
+#[inline(always)]
+pub fn half(x: Words) -> Words
+    ensures { (j : ℕ) → j < 8 → slice_index result j ≡ slice_index x j / 2 }
+{
+    x >> 1
+}
+
+/// 1 for each odd word, and 0 for each even one.
+#[inline(always)]
+pub fn parity(x: Words) -> Words
+    ensures { (j : ℕ) → j < 8 → slice_index result j ≡ slice_index x j % 2 }
+{
+    x & Words::splat(1)
+}
+
 // The vector with another word in lane `j`.
 #[inline(always)]
 pub(crate) fn with_lane(words: Words, j: usize, word: u32) -> Words

@@ -1,10 +1,14 @@
 -- After each tree the stream has absorbed the roots that the signature gives so far.
-use Rattle.std.proofs.Common.{◌≡◌, ℕ, ◌^◌, ◌<◌, length, sym, subst, arith}
+use Rattle.std.proofs.Common.{◌≡◌, ℕ, ◌^◌, ◌<◌, [], length, ap, sym, subst, inl, inr, arith}
+use Rattle.std.proofs.lemmas.Bool.{cases_lt}
+use Rattle.slh_params.specs.Address.{address, FORS_ROOTS}
+use Rattle.slh_hash.specs.Stream.{HasAbsorbed}
 use Rattle.slh_params.specs.ParamSet.{params}
 use Rattle.slh_few.specs.Parts.{part}
+use Rattle.slh_few.specs.ForsRoots.{climbed, root_given}
 use Rattle.slh_few.specs.Fors.{fors_root, fors_part_len, fors_pk_from_sig}
 use Rattle.slh_params.proofs.Bounds.{k_high}
-use Rattle.slh_few.proofs.Ends.{end_to_end-none, end_to_end-more, part_fits}
+use Rattle.slh_few.proofs.Ends.{end_to_end-more, end_to_end-same, part_fits}
 use Rattle.slh_few.proofs.ForsLaw.{index_lt}
 use Rattle.slh_few.proofs.fors.fors_pk_from_sig.Goals as goal
 
@@ -24,11 +28,28 @@ root_at-requires-clause-sig c =
     let b : c.loop-j.j < p.k = omega (arith, c.k-j-end.ensures) in
     rw (c.new-tree.ensures.seeds, c.new-tree.ensures.tree_no) (part_fits c.loop-j.j p.k (fors_part_len p) (length c.args.sig.now) b c.requires.sig)
 
+pub absorb_in_lanes-done-requires-clause-leaves : goal.absorb_in_lanes-done-requires-clause-leaves
+absorb_in_lanes-done-requires-clause-leaves c = λ j.
+    let p = params c.args.public.now.set in
+    let At : ℕ → Type 0 = λ i. i < 2 ^ p.a in
+    elim (cases_lt j p.k) [
+      | inl lt ↦ subst At (sym (c.fors_indices-indices.ensures.indices j lt)) (index_lt p c.args.md.now j)
+      | inr ge ↦ omega (arith, c.fors_indices-indices.ensures.rest j ge, index_lt p c.args.md.now j)
+    ]
+
 pub loop-j-init : goal.loop-j-init
 loop-j-init c =
     let p = params c.args.public.now.set in
-    rw (end_to_end-none (λ j. fors_root p c.args.public.now.pk_seed.now c.args.idx_tree c.args.idx_leaf c.args.md.now j (part (fors_part_len p) c.args.sig.now j)))
-    c.fors_roots-roots.ensures
+    let pk = c.args.public.now.pk_seed.now in
+    let sig = c.args.sig.now in
+    let all = c.fors_indices-indices.result in
+    let t = c.args.idx_tree in
+    let i = c.args.idx_leaf in
+    subst (HasAbsorbed c.absorb_in_lanes-done.new.roots p pk (address 0 t FORS_ROOTS i 0 0))
+    (end_to_end-same (root_given p [] pk t i all sig) (λ j. fors_root p pk t i c.args.md.now j (part (fors_part_len p) sig j)) c.absorb_in_lanes-done.result
+    (λ j lt. ap (λ (x : ℕ). climbed p [] pk t i j x (part (fors_part_len p) sig j) p.a)
+    (c.fors_indices-indices.ensures.indices j (omega (arith, lt, c.absorb_in_lanes-done.ensures.count)))))
+    (c.absorb_in_lanes-done.ensures.roots _ c.fors_roots-roots.ensures)
 
 pub loop-j-preserved : goal.loop-j-preserved
 loop-j-preserved c =
