@@ -1,7 +1,8 @@
 -- Kept values of chains: how many, how long, and that the chains run on from them.
-use Rattle.std.proofs.Common.{◌≡◌, ℕ, ◌+◌, ◌-◌, ◌*◌, ◌/◌, ◌%◌, ◌<◌, ◌≤◌, inl, inr, List, length, refl, ap, ◌∙◌, lit≤, arith}
+use Rattle.std.proofs.Common.{◌≡◌, ℕ, ◌+◌, ◌-◌, ◌*◌, ◌/◌, ◌%◌, ◌<◌, ◌≤◌, inl, inr, List, length, drop, refl, ap, ◌∙◌, lit≤, arith}
 use Rattle.std.specs.Int.{div_ceil}
 use Rattle.std.proofs.Math.Nat.{div-lt_iff_lt-mul}
+use Rattle.std.proofs.lemmas.List.{length-drop, length-take-le}
 use Rattle.slh_params.specs.declared.param_set.ParamSet.{ParamSet}
 use Rattle.slh_params.specs.ParamSet.{params}
 use Rattle.slh_params.specs.Params.{Params, w, len, ceil_div}
@@ -12,7 +13,8 @@ use Rattle.slh_few.specs.KeptChains.{spacing, kept_count, kept_value, kept_chain
 use Rattle.slh_few.specs.declared.place.Place.{Place}
 use Rattle.slh_few.proofs.Chains.{length-chain, chain-on}
 use Rattle.slh_few.proofs.DigitBounds.{digit-small}
-use Rattle.slh_few.proofs.Ends.{part-end_to_end, length-end_to_end, end_to_end-same}
+use Rattle.slh_few.proofs.Ends.{part-end_to_end, length-end_to_end, end_to_end-same, part_fits}
+use Rattle.slh_few.proofs.PartWrites.{all_parts}
 use Rattle.slh_few.proofs.WotsLaw.{length-secret}
 
 -- the kept values and the steps between them make up a chain
@@ -75,6 +77,17 @@ part-kept_chains p sk pk at c h l = part-end_to_end (kept_chain p sk pk at) (kep
 pub length-kept_chains : (p : Params) (sk pk : List ℕ) (at : Place) → p.n ≤ 32 → length (kept_chains p sk pk at) ≡ kept_chains_len p
 unfolding kept_chains
 length-kept_chains p sk pk at h = length-end_to_end (kept_chain p sk pk at) (kept_chain_len p) (len p) (λ c l. length-kept_chain p sk pk at c h)
+
+-- kept values of a chain that all stand at their places are its kept chain
+pub kept_chain-values : (p : Params) (sk pk : List ℕ) (at : Place) (c : ℕ) (kept : List ℕ) → c < len p → length kept ≡ kept_chains_len p
+    → ((j : ℕ) → j < kept_count p → part p.n (part (kept_chain_len p) kept c) j ≡ kept_value p sk pk at c j)
+    → part (kept_chain_len p) kept c ≡ kept_chain p sk pk at c
+unfolding kept_chain
+kept_chain-values p sk pk at c kept few size values =
+    let room = part_fits c (len p) (kept_chain_len p) (length kept) few size in
+    let long : length (part (kept_chain_len p) kept c) ≡ kept_count p * p.n =
+    length-take-le (kept_chain_len p) (drop (c * kept_chain_len p) kept) (simp length-drop (omega (arith, room))) in
+    all_parts (kept_value p sk pk at c) p.n (kept_count p) (part (kept_chain_len p) kept c) long values
 
 -- from the last kept value on the chain is run to its end
 pub kept_end : (s : ParamSet) → (kept_count (params s) - 1) * spacing (params s) + (spacing (params s) - 1) ≡ w (params s) - 1

@@ -21,7 +21,7 @@ use slh_params::{Node, ParamSet, put_node};
 const MOST_KEPT: u32 = 16;
 
 /// How many steps lie between two kept values of a chain.
-fn spacing(set: ParamSet) -> u32
+pub(crate) fn spacing(set: ParamSet) -> u32
     ensures value { result ≡ spacing_of (params set) }
     ensures within { (1 ≤ result) × (result ≤ 16) }
 {
@@ -29,7 +29,7 @@ fn spacing(set: ParamSet) -> u32
 }
 
 /// How many values of a chain are kept.
-fn kept_count(set: ParamSet) -> u32
+pub(crate) fn kept_count(set: ParamSet) -> u32
     ensures value { result ≡ kept_count_of (params set) }
     ensures within { (1 ≤ result) × (result ≤ 16) }
 {
@@ -53,7 +53,7 @@ pub fn kept_chains_len(set: ParamSet) -> usize
 }
 
 /// Writes value `j` of the kept values of chain `c`.
-fn put_value(set: ParamSet, kept: &mut [u8], c: usize, j: usize, value: &Node)
+pub(crate) fn put_value(set: ParamSet, kept: &mut [u8], c: usize, j: usize, value: &Node)
     requires kept { length kept.old ≡ chains_len (params set) }
     requires chain { c < len (params set) }
     requires number { j < kept_count_of (params set) }

@@ -10,12 +10,14 @@ ghost use Rattle.slh_hash.specs.Stream.{HasAbsorbed, IsSeededTree};
 ghost use Rattle.slh_hash.specs.declared.t_stream.TStream.{TStream};
 ghost use Rattle.slh_lanes.specs.Lanes.{HasAddress, IsSeededLanes, value_at};
 ghost use Rattle.slh_lanes.specs.LaneStreams.{HasAbsorbedAt};
+ghost use Rattle.slh_few.specs.KeptChains.{kept_chain_len as chain_len, kept_chains_len as chains_len, kept_chain, kept_chains};
 ghost use Rattle.slh_few.specs.KeyStreams.{HasAbsorbedKey};
 ghost use Rattle.slh_few.specs.Parts.{part};
 ghost use Rattle.slh_few.specs.Wots.{wots_address, chain as chain_of, secret, whole_chain, wots_sig};
 ghost use Rattle.slh_few.specs.Xmss.{AreKeysFrom, place};
 
 use crate::base_w::digits_of;
+use crate::kept_chains::{kept_count, put_value, spacing};
 use crate::nodes::{first_nodes, put_part};
 use crate::place::{Place, Seeds};
 use crate::wots::{wots_adrs, wots_pk};
@@ -252,6 +254,67 @@ pub(crate) fn sign_among_eight(seeds: &Seeds, at: Place, msg: &Node, out: &mut [
     let mut streams = key_streams(seeds, first);
     for c in 0..seeds.set.len() as u32 {
         let ends = chain_ends_signing(&lanes, seeds, first, c, digits[c as usize], lane, out);
+        absorb_lanes(&mut streams, &ends, seeds.set.n());
+    }
+    finished(streams)
+}
+
+/// The ends of chain `c` of eight keys, of which the first is at this place. The kept values of the chain of the key in
+/// lane `lane` are written into `kept`.
+fn chain_ends_keeping(
+    lanes: &SeededLanes,
+    seeds: &Seeds,
+    at: Place,
+    c: u32,
+    lane: usize,
+    kept: &mut [u8],
+) -> LaneNodes
+    requires lanes { IsSeededLanes lanes.now (params seeds.now.set) seeds.now.pk_seed.now }
+    requires pairs { at.pair + 8 ≤ 2 ^ 32 }
+    requires chain { c < len (params seeds.now.set) }
+    requires lane { lane < 8 }
+    requires kept { length kept.old ≡ chains_len (params seeds.now.set) }
+    ensures ends { let p = params seeds.now.set in (j : ℕ) → j < 8 → value_at result j p.n
+        ≡ whole_chain p seeds.now.sk_seed.now seeds.now.pk_seed.now (place at.layer at.tree (at.pair + j)) c }
+    ensures kept { let p = params seeds.now.set in let sk = seeds.now.sk_seed.now in let pk = seeds.now.pk_seed.now in
+        part (chain_len p) kept.new c ≡ kept_chain p sk pk (place at.layer at.tree (at.pair + lane)) c }
+    ensures others { (i : ℕ) → i ≢ c → part (chain_len (params seeds.now.set)) kept.new i
+        ≡ part (chain_len (params seeds.now.set)) kept.old i }
+{
+    let n = seeds.set.n();
+    let every = spacing(seeds.set);
+    let last = kept_count(seeds.set) - 1;
+    let adrs = key_adrs(at, AdrsType::WotsHash, c);
+    let mut nodes = lanes.prf(seeds.sk_seed, &key_adrs(at, AdrsType::WotsPrf, c));
+    for j in 0..last {
+        let value = lane_node(&nodes, lane, n);
+        put_value(seeds.set, kept, c as usize, j as usize, &value);
+        nodes = lanes.chains(&adrs, &nodes, j * every, every);
+    }
+    let value = lane_node(&nodes, lane, n);
+    put_value(seeds.set, kept, c as usize, last as usize, &value);
+    lanes.chains(&adrs, &nodes, last * every, every - 1)
+}
+
+/// The public keys of the eight places from `first_of_eight` on, n bytes each (Algorithm 6). Into `kept` it writes what
+/// `wots_pk_keeping` keeps of the key at this place.
+///
+/// The chains of all eight keys are run from one kept value to the next, since the lanes take the same steps.
+pub(crate) fn eight_pks_keeping(seeds: &Seeds, at: Place, kept: &mut [u8]) -> Leaves
+    requires { length kept.old ≡ chains_len (params seeds.now.set) }
+    ensures len { length result.items ≡ 8 }
+    ensures keys { AreKeysFrom (params seeds.now.set) seeds.now.sk_seed.now seeds.now.pk_seed.now
+        (place at.layer at.tree (at.pair - at.pair % 8)) result.items }
+    ensures kept { let p = params seeds.now.set in let sk = seeds.now.sk_seed.now in
+        let pk = seeds.now.pk_seed.now in
+        kept.new ≡ kept_chains p sk pk at }
+{
+    let first = first_of_eight(at);
+    let lane = (at.pair % 8) as usize;
+    let lanes = SeededLanes::new(seeds.set, seeds.pk_seed);
+    let mut streams = key_streams(seeds, first);
+    for c in 0..seeds.set.len() as u32 {
+        let ends = chain_ends_keeping(&lanes, seeds, first, c, lane, kept);
         absorb_lanes(&mut streams, &ends, seeds.set.n());
     }
     finished(streams)

@@ -4,12 +4,14 @@ ghost use Rattle.slh_params.specs.ParamSet.{params};
 ghost use Rattle.slh_tree.specs.declared.cover.Placed.{Placed};
 ghost use Rattle.slh_tree.specs.Cover.{IsCover, first_leaf, past_leaf};
 ghost use Rattle.slh_tree.specs.Record.{Gains, LiesInRange};
+ghost use Rattle.slh_few.specs.Trees.{xmss_tree_of};
 ghost use Rattle.slh_few.specs.KeptChains.{kept_chains_len, kept_chains};
 ghost use Rattle.slh_few.specs.Xmss.{xmss_tree};
 ghost use Rattle.slh_few.specs.Fors.{fors_tree};
 
 use crate::fors_tree::SeededForsTree;
 use crate::kept_chains::wots_pk_keeping;
+use crate::key_lanes::{eight_pks_keeping, first_of_eight};
 use crate::place::{Place, Seeds};
 use crate::xmss::{KnownLeavesTree, SeededXmssTree};
 use slh_hash::{SeededHash, SeededTreeHash};
@@ -37,8 +39,41 @@ pub fn xmss_range(seeds: &Seeds, layer: u8, tree: u64, lo: u32, hi: u32, rec: &m
     hash_range(&SeededXmssTree::new(seeds, layer, tree), lo, hi, rec)
 }
 
-/// What `xmss_range` gives, of the tree over a place. The leaf at the place is made with `wots_pk_keeping`, which
-/// writes `kept_chains_len` bytes into `kept`; where it lies in the range, no other chains are computed.
+/// Whether all eight leaves below the same node of height 3 as the leaf at this place lie in the range. A tree of fewer
+/// leaves has no such range.
+fn has_eight_in_range(at: Place, lo: u32, hi: u32) -> bool {
+    let first = first_of_eight(at).pair;
+    lo <= first && first <= hi && hi - first >= 8
+}
+
+/// The tree over a place, with the leaf at the place made here. What `wots_pk_keeping` keeps of that leaf's key is
+/// written into `kept`. Where `has_eight_in_range`, all eight leaves are made, at once.
+fn tree_keeping<'a>(
+    seeds: &Seeds<'a>,
+    at: Place,
+    lo: u32,
+    hi: u32,
+    kept: &mut [u8],
+) -> KnownLeavesTree<'a>
+    requires { length kept.old ≡ kept_chains_len (params seeds.now.set) }
+    ensures tree { let p = params seeds.now.set in let sk = seeds.now.sk_seed.now in
+        let pk = seeds.now.pk_seed.now in
+        xmss_tree_of result.tree.tree ≡ xmss_tree p sk pk at.layer at.tree }
+    ensures kept { let p = params seeds.now.set in let sk = seeds.now.sk_seed.now in
+        let pk = seeds.now.pk_seed.now in
+        kept.new ≡ kept_chains p sk pk at }
+{
+    if has_eight_in_range(at, lo, hi) {
+        let group = eight_pks_keeping(seeds, at, kept);
+        return KnownLeavesTree::new(seeds, first_of_eight(at), group);
+    }
+    let mut known = Leaves::new();
+    known.push(wots_pk_keeping(seeds, at, kept));
+    KnownLeavesTree::new(seeds, at, known)
+}
+
+/// What `xmss_range` gives, of the tree over a place. Into `kept` it writes `kept_chains_len` bytes: what
+/// `wots_pk_keeping` keeps of the key at the place. Where that leaf lies in the range, no other chains are computed.
 #[tactic(auto, unfolding(crate::specs::Trees::xmss_tree_of))]
 pub fn xmss_range_keeping(
     seeds: &Seeds,
@@ -66,9 +101,7 @@ pub fn xmss_range_keeping(
         let pk = seeds.now.pk_seed.now in
         kept.new ≡ kept_chains p sk pk at }
 {
-    let mut known = Leaves::new();
-    known.push(wots_pk_keeping(seeds, at, kept));
-    hash_range(&KnownLeavesTree::new(seeds, at, known), lo, hi, rec)
+    hash_range(&tree_keeping(seeds, at, lo, hi, kept), lo, hi, rec)
 }
 
 /// The cover of the leaves from `lo` to `hi`, `hi` left out, of FORS tree `tree_no` of the key at leaf `idx_leaf` of

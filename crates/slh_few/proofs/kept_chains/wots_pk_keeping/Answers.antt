@@ -1,25 +1,16 @@
 -- After each group the ends of its chains and the values that are kept of them are written, too.
-use Rattle.std.proofs.Common.{◌≡◌, ℕ, ◌+◌, ◌-◌, ◌*◌, ◌<◌, min, List, length, slice_index, drop, inl, inr, ap, sym, ◌∙◌, arith, rules}
+use Rattle.std.proofs.Common.{◌≡◌, ℕ, ◌+◌, ◌-◌, ◌*◌, ◌<◌, min, List, length, slice_index, inl, inr, ap, sym, ◌∙◌, arith, rules}
 use Rattle.std.proofs.lemmas.Bool.{cases_lt}
-use Rattle.std.proofs.lemmas.List.{length-drop, length-take-le}
 use Rattle.slh_params.specs.ParamSet.{params}
-use Rattle.slh_params.specs.Params.{Params, len}
+use Rattle.slh_params.specs.Params.{len}
 use Rattle.slh_hash.specs.Hash.{T}
 use Rattle.slh_lanes.specs.Lanes.{value_at}
-use Rattle.slh_few.specs.Parts.{part}
 use Rattle.slh_few.specs.Wots.{whole_chain, wots_address, wots_pk}
-use Rattle.slh_few.specs.KeptChains.{kept_chain_len, kept_chain, kept_chains, kept_count, kept_value}
-use Rattle.slh_few.specs.declared.place.Place.{Place}
+use Rattle.slh_few.specs.KeptChains.{kept_chain_len, kept_chain, kept_chains}
 use Rattle.slh_few.proofs.ChainLanes.{group_below, group_next, group_all}
-use Rattle.slh_few.proofs.Ends.{part_fits}
+use Rattle.slh_few.proofs.KeptChains.{kept_chain-values}
 use Rattle.slh_few.proofs.PartWrites.{all_parts}
 use Rattle.slh_few.proofs.kept_chains.wots_pk_keeping.Goals as goal
-
--- the values of a chain are its kept values
-chain_of_values : (p : Params) (sk pk : List ℕ) (at : Place) (d : ℕ) (b : List ℕ) → length b ≡ kept_count p * p.n
-    → ((j : ℕ) → j < kept_count p → part p.n b j ≡ kept_value p sk pk at d j) → b ≡ kept_chain p sk pk at d
-unfolding kept_chain
-chain_of_values p sk pk at d b long values = all_parts (kept_value p sk pk at d) p.n (kept_count p) b long values
 
 pub loop-group-init : goal.loop-group-init
 loop-group-init c =
@@ -63,10 +54,7 @@ loop-group-preserved c =
             let used : i < c.min-used.result = omega (arith, low, next, ge) in
             let few : d < len p = omega (arith, low, all) in
             let size : length c.keep_chains-nodes.new.kept ≡ len p * kept_chain_len p = omega (arith, c.keep_chains-nodes.auto.kept, c.loop-group.auto.kept, c.requires) in
-            let room = part_fits d (len p) (kept_chain_len p) (length c.keep_chains-nodes.new.kept) few size in
-            let long : length (part (kept_chain_len p) c.keep_chains-nodes.new.kept d) ≡ kept_count p * p.n =
-            length-take-le (kept_chain_len p) (drop (d * kept_chain_len p) c.keep_chains-nodes.new.kept) (simp length-drop (omega (arith, room))) in
-            chain_of_values p sk pk c.args.at d (part (kept_chain_len p) c.keep_chains-nodes.new.kept d) long (λ q many.
+            kept_chain-values p sk pk c.args.at d c.keep_chains-nodes.new.kept few size (λ q many.
             rw at at (c.keep_chains-nodes.ensures.kept i q used many))
       ];
     }

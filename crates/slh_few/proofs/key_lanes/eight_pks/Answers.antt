@@ -1,15 +1,13 @@
 -- After each turn the keys' streams have absorbed the ends so far.
-use Rattle.std.proofs.Common.{◌≡◌, ℕ, ◌+◌, ◌^◌, ◌<◌, length, ap, subst, sym, ◌∙◌, arith}
+use Rattle.std.proofs.Common.{◌≡◌, ◌+◌, ap, sym, ◌∙◌, arith}
 use Rattle.slh_params.specs.Address.{Address, WOTS_PK}
-use Rattle.slh_params.specs.Params.{len}
 use Rattle.slh_params.specs.ParamSet.{params}
-use Rattle.slh_hash.specs.Hash.{T}
 use Rattle.slh_lanes.specs.Lanes.{value_at}
 use Rattle.slh_few.specs.Parts.{end_to_end}
-use Rattle.slh_few.specs.Wots.{wots_address, whole_chain, wots_pk}
+use Rattle.slh_few.specs.Wots.{wots_address, whole_chain}
 use Rattle.slh_few.specs.Xmss.{place}
+use Rattle.slh_few.proofs.EightKeys.{finished_keys}
 use Rattle.slh_few.proofs.Ends.{end_to_end-more, end_to_end-none}
-use Rattle.slh_few.proofs.WotsLaw.{ends_few}
 use Rattle.slh_few.proofs.key_lanes.eight_pks.Goals as goal
 
 pub loop-c-init : goal.loop-c-init
@@ -30,14 +28,6 @@ loop-c-preserved c = λ j lane.
     (c.absorb_lanes.ensures p pk a (end_to_end ends c.loop-c.c) j lane (sym c.n.ensures) (c.loop-c.invariant j lane))
 
 pub returns-clause-keys : goal.returns-clause-keys
-unfolding wots_pk
-returns-clause-keys c = λ j d below.
-    let lane : j < 8 = omega (arith, below, c.finished.ensures.len) in
-    let p = params c.args.seeds.now.set in
-    let pk = c.args.seeds.now.pk_seed.now in
-    let at = place c.args.at.layer c.args.at.tree (c.args.at.pair + j) in
-    let all : c.loop-c.c ≡ len p = omega (arith, c.len-c-end.ensures) in
-    let few = subst (λ (k : ℕ). length (end_to_end (whole_chain p c.args.seeds.now.sk_seed.now pk at) k) < 2 ^ 28) (sym all)
-    (ends_few c.args.seeds.now.set c.args.seeds.now.sk_seed.now pk at) in
-    c.finished.ensures.values p pk _ _ j d lane (c.loop-c.invariant j lane) few
-    ∙ ap (λ (k : ℕ). T p pk (wots_address at WOTS_PK 0 0) (end_to_end (whole_chain p c.args.seeds.now.sk_seed.now pk at) k)) all
+returns-clause-keys c =
+    finished_keys c.args.seeds.now.set c.args.seeds.now.sk_seed.now c.args.seeds.now.pk_seed.now c.args.at c.loop-c.streams c.finished.result.items c.loop-c.c
+    (omega (arith, c.len-c-end.ensures)) c.finished.ensures.len c.finished.ensures.values c.loop-c.invariant

@@ -1,18 +1,17 @@
 -- After each turn the keys' streams have absorbed the ends so far, and as many values of the signature are written.
-use Rattle.std.proofs.Common.{◌≡◌, ℕ, ◌+◌, ◌-◌, ◌*◌, ◌%◌, ◌^◌, ◌<◌, length, inl, inr, ap, subst, sym, ◌∙◌, arith}
+use Rattle.std.proofs.Common.{◌≡◌, ℕ, ◌+◌, ◌*◌, ◌<◌, length, inl, inr, ap, subst, sym, ◌∙◌, arith}
 use Rattle.std.proofs.lemmas.Bool.{cases_lt}
 use Rattle.slh_params.specs.Address.{Address, WOTS_PK}
 use Rattle.slh_params.specs.Params.{len}
 use Rattle.slh_params.specs.ParamSet.{params}
-use Rattle.slh_hash.specs.Hash.{T}
 use Rattle.slh_lanes.specs.Lanes.{value_at}
 use Rattle.slh_few.specs.Parts.{end_to_end, part}
-use Rattle.slh_few.specs.Wots.{chain, secret, wots_address, whole_chain, signed_chain, wots_pk, wots_sig}
-use Rattle.slh_few.specs.Xmss.{place}
+use Rattle.slh_few.specs.Wots.{chain, secret, wots_address, whole_chain, signed_chain, wots_sig}
+use Rattle.slh_few.specs.Xmss.{AreKeysFrom, place}
 use Rattle.slh_few.specs.declared.place.Place.{Place}
+use Rattle.slh_few.proofs.EightKeys.{among_eight, finished_keys}
 use Rattle.slh_few.proofs.Ends.{end_to_end-more, end_to_end-none, part_fits}
 use Rattle.slh_few.proofs.PartWrites.{all_parts}
-use Rattle.slh_few.proofs.WotsLaw.{ends_few}
 use Rattle.slh_few.proofs.key_lanes.sign_among_eight.Goals as goal
 
 pub loop-c-init : goal.loop-c-init
@@ -40,10 +39,7 @@ loop-c-preserved c =
     let now : ℕ = c.loop-c.c in
     let few : now < len p = omega (arith, c.len-c-end.ensures) in
     let old = c.loop-c.invariant in
-    let key : place first.layer first.tree (first.pair + c.args.at.pair % 8) ≡ c.args.at =
-    let e : c.args.at.pair - c.args.at.pair % 8 + c.args.at.pair % 8 ≡ c.args.at.pair = omega arith in
-    ap (λ (a : Place). place a.layer a.tree (a.pair + c.args.at.pair % 8)) c.first_of_eight-first.ensures
-    ∙ ap (place c.args.at.layer c.args.at.tree) e in
+    let key = among_eight c.args.at first c.first_of_eight-first.ensures in
     record {
       absorbed = λ j lane.
           let at = place first.layer first.tree (first.pair + j) in
@@ -70,16 +66,8 @@ returns-clause-signature c =
     (omega (arith, c.requires.out)) (λ i low. c.loop-c.invariant.written i (omega (arith, low, c.len-c-end.ensures)))
 
 pub returns-clause-keys : goal.returns-clause-keys
-unfolding wots_pk
-returns-clause-keys c = λ j d below.
-    let lane : j < 8 = omega (arith, below, c.finished.ensures.len) in
-    let p = params c.args.seeds.now.set in
-    let sk = c.args.seeds.now.sk_seed.now in
-    let pk = c.args.seeds.now.pk_seed.now in
-    let first = c.first_of_eight-first.result in
-    let at = place first.layer first.tree (first.pair + j) in
-    let all : c.loop-c.c ≡ len p = omega (arith, c.len-c-end.ensures) in
-    let few = subst (λ (k : ℕ). length (end_to_end (whole_chain p sk pk at) k) < 2 ^ 28) (sym all) (ends_few c.args.seeds.now.set sk pk at) in
-    c.finished.ensures.values p pk _ _ j d lane (c.loop-c.invariant.absorbed j lane) few
-    ∙ ap (λ (k : ℕ). T p pk (wots_address at WOTS_PK 0 0) (end_to_end (whole_chain p sk pk at) k)) all
-    ∙ ap (λ (a : Place). wots_pk p sk pk (place a.layer a.tree (a.pair + j))) c.first_of_eight-first.ensures
+returns-clause-keys c =
+    subst (λ (a : Place). AreKeysFrom (params c.args.seeds.now.set) c.args.seeds.now.sk_seed.now c.args.seeds.now.pk_seed.now a c.finished.result.items)
+    c.first_of_eight-first.ensures (
+    finished_keys c.args.seeds.now.set c.args.seeds.now.sk_seed.now c.args.seeds.now.pk_seed.now c.first_of_eight-first.result c.loop-c.streams c.finished.result.items c.loop-c.c
+    (omega (arith, c.len-c-end.ensures)) c.finished.ensures.len c.finished.ensures.values c.loop-c.invariant.absorbed)

@@ -1,0 +1,38 @@
+-- Eight keys beside one another: the one among them, and that T over the ends of their chains is what they are.
+use Rattle.std.proofs.Common.{◌≡◌, ℕ, ◌+◌, ◌-◌, ◌%◌, ◌^◌, ◌<◌, List, length, slice_index_or, ap, subst, sym, ◌∙◌, arith}
+use Rattle.arrayvec.specs.ArrayVec.{ArrayVec}
+use Rattle.slh_params.specs.Address.{Address, WOTS_PK}
+use Rattle.slh_params.specs.Params.{Params, len}
+use Rattle.slh_params.specs.ParamSet.{params}
+use Rattle.slh_params.specs.declared.param_set.ParamSet.{ParamSet}
+use Rattle.slh_hash.specs.Hash.{T}
+use Rattle.slh_few.specs.KeyStreams.{HasAbsorbedKey}
+use Rattle.slh_few.specs.Parts.{end_to_end}
+use Rattle.slh_few.specs.Wots.{wots_address, whole_chain, wots_pk}
+use Rattle.slh_few.specs.Xmss.{AreKeysFrom, place}
+use Rattle.slh_few.specs.declared.key_lanes.KeyStreams.{KeyStreams}
+use Rattle.slh_few.specs.declared.place.Place.{Place}
+use Rattle.slh_few.proofs.WotsLaw.{ends_few}
+
+-- a place, counted from the first of its eight
+pub among_eight : (at first : Place) → first ≡ place at.layer at.tree (at.pair - at.pair % 8)
+    → place first.layer first.tree (first.pair + at.pair % 8) ≡ at
+among_eight at first is =
+    let same : at.pair - at.pair % 8 + at.pair % 8 ≡ at.pair = omega arith in
+    ap (λ (a : Place). place a.layer a.tree (a.pair + at.pair % 8)) is ∙ ap (place at.layer at.tree) same
+
+-- where each key's stream has absorbed the ends of all chains, T gives the keys
+pub finished_keys : (s : ParamSet) (sk pk : List ℕ) (at : Place) (streams : KeyStreams) (keys : List (ArrayVec ℕ)) (k : ℕ)
+    → k ≡ len (params s) → length keys ≡ 8
+    → ((p : Params) (pk : List ℕ) (a : Address) (x : List ℕ) (j : ℕ) (e : ArrayVec ℕ) → j < 8
+    → HasAbsorbedKey streams j p pk a x → length x < 2 ^ 28 → (slice_index_or keys j e).items ≡ T p pk a x)
+    → ((j : ℕ) → j < 8 → HasAbsorbedKey streams j (params s) pk (wots_address (place at.layer at.tree (at.pair + j)) WOTS_PK 0 0)
+    (end_to_end (whole_chain (params s) sk pk (place at.layer at.tree (at.pair + j))) k))
+    → AreKeysFrom (params s) sk pk at keys
+unfolding wots_pk
+finished_keys s sk pk at streams keys k all eight values absorbed = λ j d below.
+    let p = params s in
+    let lane : j < 8 = omega (arith, below, eight) in
+    let key = place at.layer at.tree (at.pair + j) in
+    let few = subst (λ (k : ℕ). length (end_to_end (whole_chain p sk pk key) k) < 2 ^ 28) (sym all) (ends_few s sk pk key) in
+    values p pk _ _ j d lane (absorbed j lane) few ∙ ap (λ (k : ℕ). T p pk (wots_address key WOTS_PK 0 0) (end_to_end (whole_chain p sk pk key) k)) all
