@@ -10,6 +10,7 @@
 #   PREFIX/lib/libslh.so.0          all calls as a shared object, and libslh.so, a link to it for linkers
 #   PREFIX/lib/glibc-hwcaps/x86-64-v3/libslh.so.0  the same for processors of this level, which glibc takes by itself
 #   PREFIX/lib/pkgconfig/slh.pc, slh_verify.pc     for pkg-config, with the version of the file VERSION
+#   PREFIX/lib/cmake/slh/           for find_package(slh) of CMake, with the same version
 #
 # usage: tools/library.sh [--after-ci] [--target TARGET] PREFIX
 #
@@ -83,6 +84,14 @@ Cflags: -I\${includedir}
 END
 }
 
+# Writes what find_package(slh) of CMake reads.
+cmake_files() {
+    install -d "$prefix/lib/cmake/slh"
+    install -m 644 "$here/bindings/cmake/slh-config.cmake" "$prefix/lib/cmake/slh/"
+    sed "s/@version@/$version/" "$here/bindings/cmake/slh-config-version.cmake.in" \
+        >"$prefix/lib/cmake/slh/slh-config-version.cmake"
+}
+
 install -d "$1/lib"
 prefix=$(cd "$1" && pwd)
 if [ "$target" = wasm64 ]; then
@@ -93,6 +102,7 @@ else
     install -m 644 "$made/$target"/*.a "$prefix/lib/"
     pkgconfig slh "SLH-DSA (FIPS 205) with SHA-2, proved by machine"
     pkgconfig slh_verify "Verifying signatures of SLH-DSA (FIPS 205) with SHA-2, proved by machine"
+    cmake_files
 fi
 if [ -f "$made/$target/libslh.so.0" ]; then
     install -m 755 "$made/$target/libslh.so.0" "$prefix/lib/"

@@ -1,0 +1,44 @@
+# What find_package(slh) reads. It stands in PREFIX/lib/cmake/slh, and finds the library by where it stands itself.
+#
+#   slh::slh      all calls, as an archive
+#   slh::shared   all calls, as a shared object, where one is installed
+#   slh::verify   the calls of slh_verify.h alone, as an archive, for firmware
+cmake_minimum_required(VERSION 3.13)
+
+get_filename_component(_slh_prefix "${CMAKE_CURRENT_LIST_DIR}/../../.." ABSOLUTE)
+
+# Declares the library `name` of the file `file`, where that is installed.
+function(_slh_library name kind file)
+    if(EXISTS "${_slh_prefix}/lib/${file}" AND NOT TARGET slh::${name})
+        add_library(slh::${name} ${kind} IMPORTED)
+        set_target_properties(
+            slh::${name}
+            PROPERTIES IMPORTED_LOCATION "${_slh_prefix}/lib/${file}"
+                       IMPORTED_LINK_INTERFACE_LANGUAGES C
+                       INTERFACE_INCLUDE_DIRECTORIES "${_slh_prefix}/include"
+        )
+    endif()
+endfunction()
+
+_slh_library(slh STATIC libslh.a)
+_slh_library(verify STATIC libslh_verify.a)
+_slh_library(shared SHARED libslh.so.0)
+if(TARGET slh::shared)
+    set_target_properties(slh::shared PROPERTIES IMPORTED_SONAME libslh.so.0)
+endif()
+
+# A component is a target's name: find_package(slh COMPONENTS shared).
+set(slh_FOUND TRUE)
+foreach(_slh_name IN LISTS slh_FIND_COMPONENTS)
+    if(TARGET slh::${_slh_name})
+        set(slh_${_slh_name}_FOUND TRUE)
+    else()
+        set(slh_${_slh_name}_FOUND FALSE)
+        if(slh_FIND_REQUIRED_${_slh_name})
+            set(slh_FOUND FALSE)
+            set(slh_NOT_FOUND_MESSAGE "slh::${_slh_name} is not installed in ${_slh_prefix}")
+        endif()
+    endif()
+endforeach()
+unset(_slh_name)
+unset(_slh_prefix)
