@@ -1,0 +1,3 @@
+module pipitscreen/slh
+
+go 1.19

@@ -1,0 +1,402 @@
+package slh
+
+import (
+	"bytes"
+	"crypto"
+	"crypto/rand"
+	"crypto/sha256"
+	_ "crypto/sha512"
+	"encoding/hex"
+	"encoding/json"
+	"errors"
+	"fmt"
+	"os"
+	"path/filepath"
+	"strings"
+	"testing"
+)
+
+const fast = SLH_DSA_SHA2_128F
+
+// hexBytes are bytes that stand as hexadecimal digits in JSON.
+type hexBytes []byte
+
+func (it *hexBytes) UnmarshalText(text []byte) (err error) {
+	*it, err = hex.DecodeString(string(text))
+	return err
+}
+
+// A vector is a test of a vector file (docs/FORMATS.md): what another implementation made or judged.
+type vector struct {
+	Kind, Set, Form          string
+	SkSeed, SkPrf, PkSeed    hexBytes
+	Sk, Pk                   hexBytes
+	Message, Context, Random hexBytes
+	Signature                hexBytes
+	Valid                    *bool
+}
+
+// vectors returns the tests of a kind, but for those of the internal form, which this package does not have.
+func vectors(t *testing.T, kind string) []vector {
+	t.Helper()
+	paths, err := filepath.Glob("../../vectors/slh-dsa-*.json")
+	if err != nil || len(paths) != 6 {
+		t.Fatal("there are no six vector files", paths, err)
+	}
+	var found []vector
+	for _, path := range paths {
+		text, err := os.ReadFile(path)
+		if err != nil {
+			t.Fatal(err)
+		}
+		var tests []vector
+		if err := json.Unmarshal(text, &tests); err != nil {
+			t.Fatal(path, err)
+		}
+		for _, test := range tests {
+			if test.Kind == kind && test.Form != "internal" {
+				found = append(found, test)
+			}
+		}
+	}
+	if len(found) < 13 {
+		t.Fatalf("there are %d tests of %s", len(found), kind)
+	}
+	return found
+}
+
+func (test vector) set(t *testing.T) Set {
+	t.Helper()
+	for set, name := range setNames {
+		if name == test.Set {
+			return set
+		}
+	}
+	t.Fatal("no set", test.Set)
+	return 0
+}
+
+// hash returns the hash function of a pre-hash form, and 0 for the pure form.
+func (test vector) hash(t *testing.T) crypto.Hash {
+	t.Helper()
+	hashes := map[string]crypto.Hash{
+		"pure": 0, "SHA2-224": crypto.SHA224, "SHA2-256": crypto.SHA256, "SHA2-384": crypto.SHA384,
+		"SHA2-512": crypto.SHA512, "SHA2-512/224": crypto.SHA512_224, "SHA2-512/256": crypto.SHA512_256,
+	}
+	hash, ok := hashes[test.Form]
+	if !ok {
+		t.Fatal("no form", test.Form)
+	}
+	return hash
+}
+
+func digest(hash crypto.Hash, message []byte) []byte {
+	it := hash.New()
+	it.Write(message)
+	return it.Sum(nil)
+}
+
+func TestKeygenVectors(t *testing.T) {
+	for _, test := range vectors(t, "keygen") {
+		secret, err := Keygen(test.set(t), test.SkSeed, test.SkPrf, test.PkSeed)
+		if err != nil {
+			t.Fatal(test.Set, err)
+		}
+		if !bytes.Equal(secret.Bytes(), test.Sk) || !bytes.Equal(secret.PublicKey().Bytes(), test.Pk) {
+			t.Error(test.Set, "gives another key")
+		}
+		if err := secret.Check(); err != nil {
+			t.Error(test.Set, err)
+		}
+	}
+}
+
+// TestSignVectors runs all sign tests of the sets whose names end in f, and the first one of 128s: the others are slow.
+func TestSignVectors(t *testing.T) {
+	forms, slow := map[string]bool{}, 0
+	for _, test := range vectors(t, "sign") {
+		if strings.HasSuffix(test.Set, "s") {
+			if slow++; slow > 1 {
+				continue
+			}
+		}
+		forms[test.Form] = true
+		for call, signature := range signatures(t, test) {
+			if !bytes.Equal(signature, test.Signature) {
+				t.Error(test.Set, test.Form, call, "signs otherwise")
+			}
+		}
+	}
+	if len(forms) != 7 {
+		t.Error("not all forms were signed in", forms)
+	}
+}
+
+// signatures returns what each call makes that signs in the test's form.
+func signatures(t *testing.T, test vector) map[string][]byte {
+	t.Helper()
+	secret, err := NewSecretKey(test.set(t), test.Sk)
+	if err != nil {
+		t.Fatal(err)
+	}
+	one := &Options{Context: test.Context, Deterministic: len(test.Random) == 0, Workers: 1}
+	two := &Options{Context: test.Context, Deterministic: len(test.Random) == 0, Workers: 2}
+	made := map[string][]byte{}
+	keep := func(call string, signature []byte, err error) {
+		if err != nil {
+			t.Error(test.Set, test.Form, call, err)
+		}
+		made[call] = signature
+	}
+	random := func() *bytes.Reader { return bytes.NewReader(test.Random) }
+	hash := test.hash(t)
+	if hash == 0 {
+		signature, err := secret.Sign(random(), test.Message, one)
+		keep("Sign", signature, err)
+		signature, err = secret.Sign(random(), test.Message, two)
+		keep("Sign by workers", signature, err)
+		return made
+	}
+	function, hashed := functions[hash], digest(hash, test.Message)
+	signature, err := secret.HashSign(random(), function, test.Message, one)
+	keep("HashSign", signature, err)
+	signature, err = secret.HashSign(random(), function, test.Message, two)
+	keep("HashSign by workers", signature, err)
+	signature, err = secret.HashSignDigest(random(), function, hashed, one)
+	keep("HashSignDigest", signature, err)
+	one.Hash = hash
+	signature, err = crypto.Signer(secret).Sign(random(), hashed, one)
+	keep("Sign of a digest", signature, err)
+	return made
+}
+
+func TestVerifyVectors(t *testing.T) {
+	counts := map[bool]int{}
+	for number, test := range vectors(t, "verify") {
+		public, err := NewPublicKey(test.set(t), test.Pk)
+		if err != nil || test.Valid == nil {
+			t.Fatal(number, err, test.Valid)
+		}
+		options := &Options{Context: test.Context}
+		verdicts := []error{}
+		if hash := test.hash(t); hash == 0 {
+			verdicts = append(verdicts, public.Verify(test.Message, test.Signature, options))
+		} else {
+			function, hashed := functions[hash], digest(hash, test.Message)
+			verdicts = append(verdicts, public.HashVerify(function, test.Message, test.Signature, options),
+				public.HashVerifyDigest(function, hashed, test.Signature, options),
+				public.Verify(hashed, test.Signature, &Options{Context: test.Context, Hash: hash}))
+		}
+		for _, verdict := range verdicts {
+			if *test.Valid != (verdict == nil) || !*test.Valid != errors.Is(verdict, ErrInvalid) {
+				t.Error(test.Set, test.Form, number, "is judged", verdict)
+			}
+		}
+		counts[*test.Valid]++
+	}
+	if counts[true] < 6 || counts[false] < 6 {
+		t.Error("too few were judged", counts)
+	}
+}
+
+func generate(t *testing.T) *SecretKey {
+	t.Helper()
+	secret, err := Generate(nil, fast)
+	if err != nil {
+		t.Fatal(err)
+	}
+	return secret
+}
+
+func sign(t *testing.T, secret *SecretKey, message string, options *Options) []byte {
+	t.Helper()
+	signature, err := secret.Sign(nil, []byte(message), options)
+	if err != nil {
+		t.Fatal(err)
+	}
+	return signature
+}
+
+// wrongRoot returns the key with one bit changed in PK.root.
+func wrongRoot(t *testing.T, secret *SecretKey) *SecretKey {
+	t.Helper()
+	changed := secret.Bytes()
+	changed[len(changed)-1] ^= 1
+	wrong, err := NewSecretKey(secret.Set(), changed)
+	if err != nil {
+		t.Fatal(err)
+	}
+	return wrong
+}
+
+// expectRefusal fails unless an error is this refusal, with this number and name.
+func expectRefusal(t *testing.T, err error, refusal Refusal, number uint32, name string) {
+	t.Helper()
+	var found Refusal
+	if !errors.As(err, &found) || found != refusal || uint32(found) != number || found.Name() != name {
+		t.Errorf("%v, and not %d %s", err, number, name)
+	}
+	if wanted := fmt.Sprintf("slh: %d %s", number, name); err == nil || err.Error() != wanted {
+		t.Errorf("%v, and not %s", err, wanted)
+	}
+}
+
+func TestGeneratedKeysDiffer(t *testing.T) {
+	one, other := generate(t), generate(t)
+	if err := one.Check(); err != nil {
+		t.Error(err)
+	}
+	seeds := map[string]bool{}
+	for _, secret := range []*SecretKey{one, other} {
+		for at := 0; at < 48; at += 16 {
+			seeds[string(secret.Bytes()[at:at+16])] = true
+		}
+	}
+	if len(seeds) != 6 || one.Equal(other) || !one.Equal(one) || one.PublicKey().Equal(other.Public()) {
+		t.Error("two keys have the same seeds")
+	}
+}
+
+func TestRandomizersAreDrawn(t *testing.T) {
+	secret := generate(t)
+	deterministic := &Options{Deterministic: true}
+	made := map[string]bool{}
+	for _, options := range []*Options{nil, nil, {}, deterministic, deterministic} {
+		signature := sign(t, secret, "letter", options)
+		made[string(signature)] = true
+		if err := secret.PublicKey().Verify([]byte("letter"), signature, nil); err != nil {
+			t.Error(err)
+		}
+	}
+	if len(made) != 4 {
+		t.Errorf("%d of 5 signatures differ, and not 4", len(made))
+	}
+	if _, err := secret.Sign(bytes.NewReader(make([]byte, 15)), []byte("letter"), nil); err == nil {
+		t.Error("a source of 15 bytes was taken")
+	}
+}
+
+func TestContexts(t *testing.T) {
+	secret := generate(t)
+	longest, longer := make([]byte, 255), make([]byte, 256)
+	signature := sign(t, secret, "letter", &Options{Context: longest})
+	if err := secret.PublicKey().Verify([]byte("letter"), signature, &Options{Context: longest}); err != nil {
+		t.Error(err)
+	}
+	for _, context := range [][]byte{nil, longest[1:], longer} {
+		err := secret.PublicKey().Verify([]byte("letter"), signature, &Options{Context: context})
+		if !errors.Is(err, ErrInvalid) {
+			t.Error(len(context), err)
+		}
+	}
+	for _, workers := range []int{1, 2} {
+		options := &Options{Context: longer, Workers: workers}
+		_, err := secret.Sign(nil, []byte("letter"), options)
+		expectRefusal(t, err, ContextTooLong, 2, "ContextTooLong")
+		_, err = secret.HashSign(nil, SLH_SHA2_256, []byte("letter"), options)
+		expectRefusal(t, err, ContextTooLong, 2, "ContextTooLong")
+		_, err = secret.HashSignDigest(nil, SLH_SHA2_256, make([]byte, 32), options)
+		expectRefusal(t, err, ContextTooLong, 2, "ContextTooLong")
+	}
+}
+
+func TestDamageIsInvalid(t *testing.T) {
+	secret := generate(t)
+	public, signature := secret.PublicKey(), sign(t, secret, "letter", nil)
+	if err := public.Verify([]byte("letter"), signature, nil); err != nil {
+		t.Error(err)
+	}
+	expectInvalid := func(what string, err error) {
+		if !errors.Is(err, ErrInvalid) {
+			t.Error(what, err)
+		}
+	}
+	for _, at := range []int{0, 16, len(signature) - 1} {
+		damaged := append([]byte(nil), signature...)
+		damaged[at] ^= 1
+		expectInvalid("one bit", public.Verify([]byte("letter"), damaged, nil))
+	}
+	expectInvalid("no bytes", public.Verify([]byte("letter"), nil, nil))
+	expectInvalid("one byte less", public.Verify([]byte("letter"), signature[1:], nil))
+	expectInvalid("one byte more", public.Verify([]byte("letter"), append(signature, 0), nil))
+	expectInvalid("another message", public.Verify([]byte("Letter"), signature, nil))
+	expectInvalid("another form", public.HashVerify(SLH_SHA2_256, []byte("letter"), signature, nil))
+	expectInvalid("another root", wrongRoot(t, secret).Check())
+}
+
+func TestRefusals(t *testing.T) {
+	_, err := Generate(nil, 7)
+	expectRefusal(t, err, NoSuchSet, 8, "NoSuchSet")
+	_, err = NewSecretKey(fast, make([]byte, 63))
+	expectRefusal(t, err, BadLength, 3, "BadLength")
+	_, err = NewPublicKey(fast, make([]byte, 33))
+	expectRefusal(t, err, BadLength, 3, "BadLength")
+	_, err = Keygen(fast, make([]byte, 16), make([]byte, 16), make([]byte, 15))
+	expectRefusal(t, err, BadSeedLength, 10, "BadSeedLength")
+	secret := generate(t)
+	_, err = secret.HashSign(nil, 7, nil, nil)
+	expectRefusal(t, err, NoSuchFunction, 9, "NoSuchFunction")
+	_, err = secret.Sign(nil, make([]byte, 32), crypto.SHA3_256)
+	expectRefusal(t, err, NoSuchFunction, 9, "NoSuchFunction")
+	_, err = secret.Sign(nil, make([]byte, 31), crypto.SHA256)
+	expectRefusal(t, err, BadDigestLength, 16, "BadDigestLength")
+	err = secret.PublicKey().HashVerifyDigest(SLH_SHA2_256, make([]byte, 31), nil, nil)
+	expectRefusal(t, err, BadDigestLength, 16, "BadDigestLength")
+	_, err = wrongRoot(t, secret).Sign(nil, []byte("letter"), &Options{Workers: 2})
+	expectRefusal(t, err, AnswersDisagree, 25, "AnswersDisagree")
+}
+
+func TestSecretsAreNotPrinted(t *testing.T) {
+	secret := generate(t)
+	for _, verb := range []string{"%v", "%+v", "%#v", "%s", "%x", "%d", "%q"} {
+		for _, it := range []interface{}{secret, *secret} {
+			if text := fmt.Sprintf(verb, it); text != "SecretKey(SLH-DSA-SHA2-128f)" {
+				t.Error(verb, text)
+			}
+		}
+	}
+	if text, err := json.Marshal(secret); string(text) != "{}" || err != nil {
+		t.Error(string(text), err)
+	}
+}
+
+func TestVersion(t *testing.T) {
+	text, err := os.ReadFile("../../VERSION")
+	if err != nil {
+		t.Fatal(err)
+	}
+	var first, second, third uint32
+	if _, err := fmt.Sscanf(string(text), "%d.%d.%d\n", &first, &second, &third); err != nil {
+		t.Fatal(err)
+	}
+	if Version() != 1000000*first+1000*second+third {
+		t.Error(Version(), string(text))
+	}
+}
+
+func Example() {
+	message := []byte("Dear reader,")
+	secret, err := Generate(rand.Reader, SLH_DSA_SHA2_128F)
+	if err != nil {
+		panic(err)
+	}
+	public := secret.PublicKey()
+	signature, err := secret.Sign(rand.Reader, message, &Options{Context: []byte("letters"), Workers: 4})
+	if err != nil {
+		panic(err)
+	}
+	fmt.Println(public.Verify(message, signature, &Options{Context: []byte("letters")}))
+	fmt.Println(public.Verify(message, signature, nil))
+
+	// A message that is read in pieces is signed by its digest.
+	hashed := sha256.Sum256(message)
+	signature, err = secret.Sign(rand.Reader, hashed[:], crypto.SHA256)
+	if err != nil {
+		panic(err)
+	}
+	fmt.Println(public.HashVerify(SLH_SHA2_256, message, signature, nil))
+	// Output:
+	// <nil>
+	// slh: invalid
+	// <nil>
+}
