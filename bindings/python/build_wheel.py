@@ -1,0 +1,100 @@
+"""Builds the wheel: the module and the shared objects of an installed library. A build backend (PEP 517) of its own.
+
+    SLH_PREFIX=PREFIX pip wheel --no-index bindings/python
+    SLH_PREFIX=PREFIX python3 bindings/python/build_wheel.py FOLDER
+
+PREFIX is a folder that tools/library.sh has installed into. The same files give the same wheel, bit for bit.
+"""
+
+from __future__ import annotations
+
+import base64
+import hashlib
+import os
+import pathlib
+import re
+import sys
+import zipfile
+
+HERE = pathlib.Path(__file__).resolve().parent
+REPOSITORY = HERE.parent.parent
+TAG = "py3-none-linux_x86_64"
+
+METADATA = """\
+Metadata-Version: 2.1
+Name: slh
+Version: {version}
+Summary: SLH-DSA (FIPS 205) with SHA-2, proved by machine
+License: MIT OR Apache-2.0
+Requires-Python: >=3.9
+"""
+
+WHEEL = """\
+Wheel-Version: 1.0
+Generator: build_wheel.py
+Root-Is-Purelib: false
+Tag: {tag}
+"""
+
+
+def installed_version(prefix: pathlib.Path) -> str:
+    """The version of the installed library, which has to be that of this repository."""
+    header = (prefix / "include" / "slh_verify.h").read_text(encoding="ascii")
+    found = re.search(r'^#define SLH_VERSION "(.*)"$', header, re.MULTILINE)
+    wanted = (REPOSITORY / "VERSION").read_text(encoding="ascii").strip()
+    if found is None or found[1] != wanted:
+        sys.exit(f"build_wheel.py: the library in {prefix} is not of the version {wanted}")
+    return wanted
+
+
+def contents(prefix: pathlib.Path, version: str) -> dict[str, bytes]:
+    """What stands in the wheel, but for its list of files."""
+    info = f"slh-{version}.dist-info"
+    files = {f"slh/{name}": (HERE / "slh" / name).read_bytes() for name in ("__init__.py", "py.typed")}
+    files["slh/libslh.so.0"] = (prefix / "lib" / "libslh.so.0").read_bytes()
+    best = prefix / "lib" / "glibc-hwcaps" / "x86-64-v3" / "libslh.so.0"
+    if best.exists():
+        files["slh/x86-64-v3/libslh.so.0"] = best.read_bytes()
+    for name in ("LICENSE-APACHE", "LICENSE-MIT"):
+        files[f"{info}/{name}"] = (REPOSITORY / name).read_bytes()
+    files[f"{info}/METADATA"] = METADATA.format(version=version).encode()
+    files[f"{info}/WHEEL"] = WHEEL.format(tag=TAG).encode()
+    return files
+
+
+def record(path: str, files: dict[str, bytes]) -> bytes:
+    """The list of files: each with its SHA-256 and length, and the list itself without."""
+    lines = []
+    for name, data in files.items():
+        digest = base64.urlsafe_b64encode(hashlib.sha256(data).digest()).rstrip(b"=").decode()
+        lines.append(f"{name},sha256={digest},{len(data)}")
+    return "\n".join([*lines, f"{path},,", ""]).encode()
+
+
+def build_wheel(
+    wheel_directory: str,
+    config_settings: object = None,
+    metadata_directory: str | None = None,
+) -> str:
+    """Writes the wheel into a folder, and returns its name."""
+    if "SLH_PREFIX" not in os.environ:
+        sys.exit("build_wheel.py: SLH_PREFIX has to name the folder that tools/library.sh has installed into")
+    prefix = pathlib.Path(os.environ["SLH_PREFIX"]).resolve()
+    version = installed_version(prefix)
+    files = contents(prefix, version)
+    path = f"slh-{version}.dist-info/RECORD"
+    files[path] = record(path, files)
+    name = f"slh-{version}-{TAG}.whl"
+    with zipfile.ZipFile(pathlib.Path(wheel_directory) / name, "w", zipfile.ZIP_DEFLATED) as wheel:
+        for file, data in files.items():
+            entry = zipfile.ZipInfo(file, date_time=(1980, 1, 1, 0, 0, 0))
+            entry.compress_type = zipfile.ZIP_DEFLATED
+            entry.external_attr = (0o755 if file.endswith(".so.0") else 0o644) << 16
+            wheel.writestr(entry, data)
+    return name
+
+
+if __name__ == "__main__":
+    if len(sys.argv) != 2:
+        sys.exit("usage: SLH_PREFIX=PREFIX build_wheel.py FOLDER")
+    print(build_wheel(sys.argv[1]))

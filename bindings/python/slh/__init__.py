@@ -1,0 +1,469 @@
+"""SLH-DSA (FIPS 205) with SHA-2: keys, signing and verifying, over the library libslh.
+
+    secret = slh.SecretKey.generate(slh.Set.SLH_DSA_SHA2_128F)
+    public = secret.public()
+    secret.check()
+    signature = secret.sign(message)
+    public.verify(message, signature)
+
+The names are those of libslh: docs/LIBRARY.md of its repository says what each call does and what is proved of it.
+A call that is refused raises Refusal, with libslh's name and number. `verify` and `check` return nothing, and raise
+Invalid where the signature or the key is not valid.
+
+Each signature has a fresh randomizer from the system, unless one is given or `deterministic=True` asks for none.
+Calls release the interpreter lock while they compute, so that threads compute at the same time. This module can't
+erase keys: Python keeps and copies bytes as it likes.
+"""
+
+from __future__ import annotations
+
+import concurrent.futures
+import ctypes
+import enum
+import hmac
+import os
+import pathlib
+import types
+import typing
+
+__all__ = ["Function", "Invalid", "Lengths", "PublicKey", "Refusal", "SecretKey", "Set", "Signer", "version"]
+
+_DONE = 0
+_BAD_LENGTH = 3
+_BAD_RANDOMIZER_LENGTH = 17
+_INVALID = 30
+_MAX_NAME = 20
+
+_NAMES = """slh_version slh_lengths slh_refusal_name slh_keygen slh_public slh_check slh_sign slh_verify slh_hash_sign
+slh_hash_verify slh_hash_sign_digest slh_hash_verify_digest slh_sign_jobs slh_answer_place slh_sign_start
+slh_hash_sign_start slh_sign_job slh_sign_join""".split()
+
+#: What may stand for a message, a context, a key or a signature.
+Bytes = typing.Union[bytes, bytearray, memoryview]
+
+
+class Set(enum.IntEnum):
+    """The parameter sets (FIPS 205, section 11, Table 2), by libslh's numbers."""
+
+    SLH_DSA_SHA2_128S = 1
+    SLH_DSA_SHA2_128F = 2
+    SLH_DSA_SHA2_192S = 3
+    SLH_DSA_SHA2_192F = 4
+    SLH_DSA_SHA2_256S = 5
+    SLH_DSA_SHA2_256F = 6
+
+    @property
+    def lengths(self) -> Lengths:
+        """The lengths of this set's keys and signatures in bytes, and n."""
+        return _lengths(self)
+
+
+class Function(enum.IntEnum):
+    """The pre-hash functions (FIPS 205, section 10.2.2), by libslh's numbers."""
+
+    SLH_SHA2_224 = 1
+    SLH_SHA2_256 = 2
+    SLH_SHA2_384 = 3
+    SLH_SHA2_512 = 4
+    SLH_SHA2_512_224 = 5
+    SLH_SHA2_512_256 = 6
+
+
+class Lengths(typing.NamedTuple):
+    """Lengths in bytes. n is that of a seed and of a randomizer."""
+
+    public_key: int
+    secret_key: int
+    signature: int
+    n: int
+
+
+class Refusal(ValueError):
+    """A call was refused: `number` and `name` are libslh's, as 2 and "ContextTooLong"."""
+
+    def __init__(self, number: int) -> None:
+        super().__init__(number)
+        self.number = number
+        self.name = _refusal_name(number)
+
+    def __str__(self) -> str:
+        return f"{self.number} {self.name}"
+
+
+class Invalid(Exception):
+    """The signature is not valid, or the root of the secret key is not the one that its seeds give."""
+
+
+def _has_v3() -> bool:
+    """Whether the processor has the level x86-64-v3, which the faster of the two shared objects needs."""
+    try:
+        text = pathlib.Path("/proc/cpuinfo").read_text(encoding="ascii", errors="replace")
+    except OSError:
+        return False
+    flags = next((line.split() for line in text.splitlines() if line.startswith("flags")), [])
+    return {"avx", "avx2", "bmi1", "bmi2", "f16c", "fma", "abm", "movbe"}.issubset(flags)
+
+
+def _load() -> ctypes.CDLL:
+    """Loads the shared object for this processor, which is installed beside this file."""
+    here = pathlib.Path(__file__).resolve().parent
+    best = here / "x86-64-v3" / "libslh.so.0"
+    library = ctypes.CDLL(str(best if best.exists() and _has_v3() else here / "libslh.so.0"))
+    for name in _NAMES:
+        getattr(library, name).restype = ctypes.c_uint32
+    return library
+
+
+_library = _load()
+
+
+def _address(given: Bytes | ctypes.Array[ctypes.c_char]) -> tuple[typing.Any, ctypes.c_size_t]:
+    """The pointer and the length that a call takes for bytes."""
+    if isinstance(given, ctypes.Array):
+        return given, ctypes.c_size_t(len(given))
+    if not isinstance(given, (bytes, bytearray, memoryview)):
+        raise TypeError(f"bytes are needed, not {type(given).__name__}")
+    held = bytes(given)
+    return held, ctypes.c_size_t(len(held))
+
+
+def _number(given: int) -> ctypes.c_uint32:
+    """A number for a call. ctypes alone would cut longer ones to 32 bits."""
+    if not 0 <= given < 1 << 32:
+        raise OverflowError(f"{given} is not a number of 32 bits")
+    return ctypes.c_uint32(given)
+
+
+def _call(name: str, *arguments: typing.Any) -> int:
+    """Calls with each number as it is, each reference as it is, and bytes as a pointer and a length."""
+    words: list[typing.Any] = []
+    for it in arguments:
+        if isinstance(it, int):
+            words.append(_number(it))
+        elif isinstance(it, ctypes._SimpleCData):
+            words.append(ctypes.byref(it))
+        else:
+            words.extend(_address(it))
+    return int(getattr(_library, name)(*words))
+
+
+def _done(name: str, *arguments: typing.Any) -> None:
+    """Calls, and raises Invalid or Refusal unless the call is done."""
+    result = _call(name, *arguments)
+    if result == _INVALID:
+        raise Invalid("invalid")
+    if result != _DONE:
+        raise Refusal(result)
+
+
+def _refusal_name(number: int) -> str:
+    name = ctypes.create_string_buffer(_MAX_NAME)
+    if _call("slh_refusal_name", number, name) != _DONE:
+        return "NoSuchRefusal"
+    return name.value.decode("ascii")
+
+
+def _lengths(set: int) -> Lengths:
+    found = [ctypes.c_size_t() for _ in range(4)]
+    _done("slh_lengths", set, *found)
+    return Lengths(*(it.value for it in found))
+
+
+def _random(count: int) -> bytes:
+    """Fresh bytes from the system's generator, once that is ready."""
+    return os.urandom(count)
+
+
+def _randomizer(n: int, given: Bytes | None, deterministic: bool) -> bytes:
+    """The randomizer of a signature. None at all, the deterministic variant, is had by name alone."""
+    if deterministic:
+        if given is not None:
+            raise TypeError("a deterministic signature has no randomizer")
+        return b""
+    if given is None:
+        return _random(n)
+    if len(given) != n:
+        raise Refusal(_BAD_RANDOMIZER_LENGTH)
+    return bytes(given)
+
+
+def version() -> int:
+    """The version of libslh: 1,000,000 times its first number, 1,000 times its second, and its third."""
+    return _call("slh_version")
+
+
+class PublicKey:
+    """A public key, PK.seed and PK.root: 32, 48 or 64 bytes."""
+
+    __slots__ = ("_set", "_bytes")
+
+    def __init__(self, set: int, data: Bytes) -> None:
+        """Takes the bytes of a public key. Raises Refusal: NoSuchSet; BadLength unless there are 2n of them."""
+        if len(data) != _lengths(set).public_key:
+            raise Refusal(_BAD_LENGTH)
+        self._set, self._bytes = Set(set), bytes(data)
+
+    @property
+    def set(self) -> Set:
+        """The parameter set."""
+        return self._set
+
+    def to_bytes(self) -> bytes:
+        """The 2n bytes of the key."""
+        return self._bytes
+
+    def verify(self, message: Bytes, signature: Bytes, context: Bytes = b"") -> None:
+        """Verifies a signature of the pure form (Algorithm 24). Raises Invalid unless it is valid.
+
+        Bytes of another length than the set's signatures and a context of over 255 bytes are invalid.
+        """
+        _done("slh_verify", self._set, self._bytes, message, context, signature)
+
+    def hash_verify(self, function: int, message: Bytes, signature: Bytes, context: Bytes = b"") -> None:
+        """Verifies a signature of the pre-hash form, with the message (Algorithm 25).
+
+        Raises Invalid unless it is valid. Raises Refusal: NoSuchFunction.
+        """
+        _done("slh_hash_verify", self._set, function, self._bytes, message, context, signature)
+
+    def hash_verify_digest(self, function: int, digest: Bytes, signature: Bytes, context: Bytes = b"") -> None:
+        """Verifies a signature of the pre-hash form, with the message's digest. Raises Invalid unless it is valid.
+
+        Raises Refusal: NoSuchFunction; BadDigestLength where the digest has another length than the function's.
+        """
+        _done("slh_hash_verify_digest", self._set, function, self._bytes, digest, context, signature)
+
+    def __eq__(self, other: object) -> bool:
+        if not isinstance(other, PublicKey):
+            return NotImplemented
+        return self._set == other._set and self._bytes == other._bytes
+
+    def __hash__(self) -> int:
+        return hash((self._set, self._bytes))
+
+    def __repr__(self) -> str:
+        return f"<slh.PublicKey {self._set.name} {self._bytes.hex()}>"
+
+
+class SecretKey:
+    """A secret key, SK.seed, SK.prf, PK.seed and PK.root: 64, 96 or 128 bytes. They are not printed."""
+
+    __slots__ = ("_set", "_bytes")
+
+    def __init__(self, set: int, data: Bytes) -> None:
+        """Takes the bytes of a secret key. Call `check` once on one that comes from elsewhere.
+
+        Raises Refusal: NoSuchSet; BadLength unless there are 4n bytes.
+        """
+        if len(data) != _lengths(set).secret_key:
+            raise Refusal(_BAD_LENGTH)
+        self._set, self._bytes = Set(set), bytes(data)
+
+    @classmethod
+    def generate(cls, set: int) -> SecretKey:
+        """Makes a key from random bytes of the system (Algorithm 21). Raises Refusal: NoSuchSet."""
+        n = _lengths(set).n
+        return cls.keygen(set, _random(n), _random(n), _random(n))
+
+    @classmethod
+    def keygen(cls, set: int, sk_seed: Bytes, sk_prf: Bytes, pk_seed: Bytes) -> SecretKey:
+        """Makes the key of three seeds of n bytes each (Algorithm 18). They are as secret as the key.
+
+        Raises Refusal: NoSuchSet, BadSeedLength.
+        """
+        secret = ctypes.create_string_buffer(_lengths(set).secret_key)
+        _done("slh_keygen", set, sk_seed, sk_prf, pk_seed, secret)
+        return cls(set, secret.raw)
+
+    @property
+    def set(self) -> Set:
+        """The parameter set."""
+        return self._set
+
+    def to_bytes(self) -> bytes:
+        """The 4n bytes of the key."""
+        return self._bytes
+
+    def public(self) -> PublicKey:
+        """The public key: the last 2n bytes."""
+        public = ctypes.create_string_buffer(_lengths(self._set).public_key)
+        _done("slh_public", self._set, self._bytes, public)
+        return PublicKey(self._set, public.raw)
+
+    def check(self) -> None:
+        """Raises Invalid unless PK.root is the root that the seeds give. This takes as long as making a key."""
+        _done("slh_check", self._set, self._bytes)
+
+    def sign(
+        self,
+        message: Bytes,
+        context: Bytes = b"",
+        *,
+        randomizer: Bytes | None = None,
+        deterministic: bool = False,
+    ) -> bytes:
+        """Signs a message in the pure form (Algorithm 22).
+
+        The randomizer has n bytes, and is drawn from the system unless it is given. With `deterministic` there is none.
+        Raises Refusal: BadRandomizerLength; ContextTooLong where the context has over 255 bytes.
+        """
+        return self._sign("slh_sign", (), message, context, randomizer, deterministic)
+
+    def hash_sign(
+        self,
+        function: int,
+        message: Bytes,
+        context: Bytes = b"",
+        *,
+        randomizer: Bytes | None = None,
+        deterministic: bool = False,
+    ) -> bytes:
+        """Signs a message in the pre-hash form (Algorithm 23), with a digest that this computes.
+
+        A function that is weaker than the set makes a weaker signature. Raises Refusal: as `sign`, and NoSuchFunction.
+        """
+        return self._sign("slh_hash_sign", (function,), message, context, randomizer, deterministic)
+
+    def hash_sign_digest(
+        self,
+        function: int,
+        digest: Bytes,
+        context: Bytes = b"",
+        *,
+        randomizer: Bytes | None = None,
+        deterministic: bool = False,
+    ) -> bytes:
+        """Signs a message in the pre-hash form (Algorithm 23) by its digest, for messages that are read in pieces.
+
+        Raises Refusal: as `hash_sign`, and BadDigestLength where the digest has another length than the function's.
+        """
+        return self._sign("slh_hash_sign_digest", (function,), digest, context, randomizer, deterministic)
+
+    def _sign(
+        self,
+        call: str,
+        function: tuple[int, ...],
+        text: Bytes,
+        context: Bytes,
+        randomizer: Bytes | None,
+        deterministic: bool,
+    ) -> bytes:
+        lengths = _lengths(self._set)
+        opt_rand = _randomizer(lengths.n, randomizer, deterministic)
+        signature = ctypes.create_string_buffer(lengths.signature)
+        _done(call, self._set, *function, self._bytes, text, context, opt_rand, signature)
+        return signature.raw
+
+    def __eq__(self, other: object) -> bool:
+        if not isinstance(other, SecretKey):
+            return NotImplemented
+        return self._set == other._set and hmac.compare_digest(self._bytes, other._bytes)
+
+    __hash__ = None  # type: ignore[assignment]
+
+    def __repr__(self) -> str:
+        return f"<slh.SecretKey {self._set.name}>"
+
+
+class Signer:
+    """Computes each signature by several threads.
+
+        with slh.Signer(workers=4) as signer:
+            signature = signer.sign(secret, message)
+
+    A signature is cut into jobs (docs/LIBRARY.md, "Signing with threads of your own"), which the workers do. It is the
+    one that `SecretKey.sign` makes. Any number of threads may sign by one Signer at once.
+    """
+
+    def __init__(self, workers: int) -> None:
+        """Keeps that many threads, at least 1, until `close`."""
+        self._pool = concurrent.futures.ThreadPoolExecutor(workers, thread_name_prefix="slh")
+        self._workers = workers
+
+    def sign(
+        self,
+        secret: SecretKey,
+        message: Bytes,
+        context: Bytes = b"",
+        *,
+        randomizer: Bytes | None = None,
+        deterministic: bool = False,
+    ) -> bytes:
+        """Signs a message in the pure form (Algorithm 22). Raises Refusal: as `SecretKey.sign`."""
+        opt_rand = _randomizer(_lengths(secret.set).n, randomizer, deterministic)
+        work = _Work(secret)
+        _done("slh_sign_start", secret.set, work.secret, message, context, opt_rand, work.start)
+        return work.done_by(self._pool, self._workers)
+
+    def hash_sign(
+        self,
+        secret: SecretKey,
+        function: int,
+        message: Bytes,
+        context: Bytes = b"",
+        *,
+        randomizer: Bytes | None = None,
+        deterministic: bool = False,
+    ) -> bytes:
+        """Signs a message in the pre-hash form (Algorithm 23). Raises Refusal: as `SecretKey.hash_sign`."""
+        opt_rand = _randomizer(_lengths(secret.set).n, randomizer, deterministic)
+        work = _Work(secret)
+        _done("slh_hash_sign_start", secret.set, function, work.secret, message, context, opt_rand, work.start)
+        return work.done_by(self._pool, self._workers)
+
+    def close(self) -> None:
+        """Waits for what is being signed, and ends the threads."""
+        self._pool.shutdown()
+
+    def __enter__(self) -> Signer:
+        return self
+
+    def __exit__(
+        self,
+        kind: type[BaseException] | None,
+        error: BaseException | None,
+        trace: types.TracebackType | None,
+    ) -> None:
+        self.close()
+
+
+class _Work:
+    """One signature as jobs."""
+
+    def __init__(self, secret: SecretKey) -> None:
+        self.set, self.secret = secret.set, secret.to_bytes()
+        # The levels of XMSS trees and of FORS trees that suit four workers (docs/BENCHMARKS.md).
+        self.cut = (self.set, {1: 4, 3: 4, 5: 3}.get(self.set, 2), 0)
+        jobs, start_len, answers_len = ctypes.c_uint32(), ctypes.c_size_t(), ctypes.c_size_t()
+        _done("slh_sign_jobs", *self.cut, jobs, start_len, answers_len)
+        self.jobs = jobs.value
+        self.start = ctypes.create_string_buffer(start_len.value)
+        self.answers = ctypes.create_string_buffer(answers_len.value)
+
+    def job(self, number: int) -> None:
+        """Writes the answer of a job into its place."""
+        at, length = ctypes.c_size_t(), ctypes.c_size_t()
+        _done("slh_answer_place", *self.cut, number, at, length)
+        answer = (ctypes.c_char * length.value).from_buffer(self.answers, at.value)
+        _done("slh_sign_job", *self.cut, self.secret, self.start, number, answer)
+
+    def work(self, numbers: typing.Iterator[int]) -> None:
+        """Does jobs while there are numbers, which several threads take."""
+        for number in numbers:
+            self.job(number)
+
+    def done_by(self, pool: concurrent.futures.Executor, workers: int) -> bytes:
+        """Has the jobs done, and joins their answers to the signature. Answers are secret, and are erased."""
+        signature = ctypes.create_string_buffer(_lengths(self.set).signature)
+        numbers = iter(range(self.jobs))
+        futures: list[concurrent.futures.Future[None]] = []
+        try:
+            for _ in range(workers):
+                futures.append(pool.submit(self.work, numbers))
+            for it in futures:
+                it.result()
+            _done("slh_sign_join", *self.cut, self.secret, self.start, self.answers, signature)
+        finally:
+            concurrent.futures.wait(futures)
+            ctypes.memset(self.answers, 0, len(self.answers))
+        return signature.raw

@@ -1,0 +1,223 @@
+"""Tests of the installed package, over signatures and keys that other implementations made (vectors/README.md).
+
+python3 -m unittest discover -s bindings/python/tests
+"""
+
+from __future__ import annotations
+
+import ctypes
+import hashlib
+import json
+import pathlib
+import subprocess
+import unittest
+
+import slh
+
+REPOSITORY = pathlib.Path(__file__).resolve().parents[3]
+FAST = slh.Set.SLH_DSA_SHA2_128F
+LOADER = pathlib.Path("/lib64/ld-linux-x86-64.so.2")
+
+
+def vectors() -> list[dict]:
+    """The tests of the six files, but for those of the internal form, which this package does not have."""
+    tests = []
+    for path in sorted((REPOSITORY / "vectors").glob("slh-dsa-*.json")):
+        tests += json.loads(path.read_text())
+    return [it for it in tests if it.get("form") != "internal"]
+
+
+def set_of(test: dict) -> slh.Set:
+    return slh.Set[test["set"].replace("-", "_").upper()]
+
+
+def function_of(test: dict) -> slh.Function:
+    return slh.Function["SLH_" + test["form"].replace("-", "_").replace("/", "_")]
+
+
+def bytes_of(test: dict, *names: str) -> list[bytes]:
+    return [bytes.fromhex(test[name]) for name in names]
+
+
+def digest_of(test: dict) -> bytes:
+    name = test["form"].replace("SHA2-", "sha").replace("512/", "512_")
+    return hashlib.new(name, bytes.fromhex(test["message"])).digest()
+
+
+def is_valid(verify, *arguments) -> bool:
+    try:
+        verify(*arguments)
+    except slh.Invalid:
+        return False
+    return True
+
+
+class Vectors(unittest.TestCase):
+    tests = vectors()
+
+    def of_kind(self, kind: str) -> list[dict]:
+        found = [it for it in self.tests if it["kind"] == kind]
+        self.assertGreater(len(found), 12)
+        return found
+
+    def test_keygen(self) -> None:
+        for test in self.of_kind("keygen"):
+            with self.subTest(test["set"]):
+                secret = slh.SecretKey.keygen(set_of(test), *bytes_of(test, "skSeed", "skPrf", "pkSeed"))
+                self.assertEqual(secret.to_bytes().hex(), test["sk"])
+                self.assertEqual(secret.public().to_bytes().hex(), test["pk"])
+                secret.check()
+
+    def test_sign(self) -> None:
+        """All sign tests of the sets whose names end in f, and the first one of 128s: the others are slow."""
+        tests = self.of_kind("sign")
+        slow = [it for it in tests if it["set"] == "SLH-DSA-SHA2-128s" and not it["random"]][:1]
+        chosen = [it for it in tests if it["set"].endswith("f")] + slow
+        self.assertTrue({"pure", "SHA2-256", "SHA2-512/224"} <= {it["form"] for it in chosen})
+        self.assertIn(510, [len(it["context"]) for it in chosen])
+        for test in chosen:
+            with self.subTest(set=test["set"], form=test["form"]):
+                self.assertEqual([it.hex() for it in signatures(test)], [test["signature"]] * len(signatures(test)))
+
+    def test_verify(self) -> None:
+        tests = self.of_kind("verify")
+        self.assertEqual({it["valid"] for it in tests}, {True, False})
+        for number, test in enumerate(tests):
+            with self.subTest(number=number, set=test["set"], form=test["form"]):
+                public = slh.PublicKey(set_of(test), bytes.fromhex(test["pk"]))
+                message, signature, context = bytes_of(test, "message", "signature", "context")
+                if test["form"] == "pure":
+                    found = {is_valid(public.verify, message, signature, context)}
+                else:
+                    function = function_of(test)
+                    found = {
+                        is_valid(public.hash_verify, function, message, signature, context),
+                        is_valid(public.hash_verify_digest, function, digest_of(test), signature, context),
+                    }
+                self.assertEqual(found, {test["valid"]})
+
+
+def signatures(test: dict) -> list[bytes]:
+    """The signatures of each call that signs in the test's form."""
+    secret = slh.SecretKey(set_of(test), bytes.fromhex(test["sk"]))
+    message, context, random = bytes_of(test, "message", "context", "random")
+    how = {"randomizer": random} if random else {"deterministic": True}
+    with slh.Signer(workers=2) as signer:
+        if test["form"] == "pure":
+            return [secret.sign(message, context, **how), signer.sign(secret, message, context, **how)]
+        function = function_of(test)
+        return [
+            secret.hash_sign(function, message, context, **how),
+            secret.hash_sign_digest(function, digest_of(test), context, **how),
+            signer.hash_sign(secret, function, message, context, **how),
+        ]
+
+
+class Calls(unittest.TestCase):
+    @classmethod
+    def setUpClass(cls) -> None:
+        cls.secret = slh.SecretKey.generate(FAST)
+        cls.public = cls.secret.public()
+
+    def refused(self, number: int, name: str, call, *arguments, **named) -> None:
+        with self.assertRaises(slh.Refusal) as caught:
+            call(*arguments, **named)
+        self.assertEqual((caught.exception.number, caught.exception.name), (number, name))
+        self.assertEqual(str(caught.exception), f"{number} {name}")
+
+    def test_generated_keys_differ(self) -> None:
+        other = slh.SecretKey.generate(FAST)
+        self.secret.check()
+        self.assertNotEqual(self.secret, other)
+        self.assertNotEqual(self.public, other.public())
+        parts = [it.to_bytes()[at : at + 16] for it in (self.secret, other) for at in (0, 16, 32)]
+        self.assertEqual(len(set(parts)), 6)
+
+    def test_randomizers_are_drawn(self) -> None:
+        same = self.secret.sign(b"letter", deterministic=True)
+        self.assertEqual(same, self.secret.sign(b"letter", deterministic=True))
+        made = {self.secret.sign(b"letter"), self.secret.sign(b"letter"), same}
+        self.assertEqual(len(made), 3)
+        for signature in made:
+            self.public.verify(b"letter", signature)
+        self.refused(17, "BadRandomizerLength", self.secret.sign, b"letter", randomizer=b"")
+        self.refused(17, "BadRandomizerLength", self.secret.sign, b"letter", randomizer=bytes(15))
+        with self.assertRaises(TypeError):
+            self.secret.sign(b"letter", randomizer=bytes(16), deterministic=True)
+
+    def test_contexts(self) -> None:
+        longest, longer = bytes(255), bytes(256)
+        signature = self.secret.sign(b"letter", longest)
+        self.public.verify(b"letter", signature, longest)
+        for context in (b"", bytes(254), longer):
+            self.assertRaises(slh.Invalid, self.public.verify, b"letter", signature, context)
+        digest = hashlib.sha256(b"letter").digest()
+        function = slh.Function.SLH_SHA2_256
+        with slh.Signer(workers=1) as signer:
+            self.refused(2, "ContextTooLong", signer.sign, self.secret, b"letter", longer)
+            self.refused(2, "ContextTooLong", signer.hash_sign, self.secret, function, b"letter", longer)
+        self.refused(2, "ContextTooLong", self.secret.sign, b"letter", longer)
+        self.refused(2, "ContextTooLong", self.secret.hash_sign, function, b"letter", longer)
+        self.refused(2, "ContextTooLong", self.secret.hash_sign_digest, function, digest, longer)
+
+    def test_damage_is_invalid(self) -> None:
+        signature = self.secret.sign(b"letter")
+        self.public.verify(b"letter", signature)
+        for at in (0, 16, len(signature) - 1):
+            damaged = bytearray(signature)
+            damaged[at] ^= 1
+            self.assertRaises(slh.Invalid, self.public.verify, b"letter", damaged)
+        for other in (b"", signature[:-1], signature + b"\0"):
+            self.assertRaises(slh.Invalid, self.public.verify, b"letter", other)
+        self.assertRaises(slh.Invalid, self.public.verify, b"Letter", signature)
+        self.assertRaises(slh.Invalid, self.public.hash_verify, slh.Function.SLH_SHA2_256, b"letter", signature)
+        wrong = bytearray(self.secret.to_bytes())
+        wrong[-1] ^= 1
+        self.assertRaises(slh.Invalid, slh.SecretKey(FAST, wrong).check)
+
+    def test_refusals(self) -> None:
+        short, digest = bytes(15), bytes(31)
+        self.refused(8, "NoSuchSet", slh.SecretKey.generate, 7)
+        self.refused(8, "NoSuchSet", slh.PublicKey, 0, bytes(32))
+        self.refused(3, "BadLength", slh.SecretKey, FAST, bytes(63))
+        self.refused(3, "BadLength", slh.PublicKey, FAST, bytes(33))
+        self.refused(10, "BadSeedLength", slh.SecretKey.keygen, FAST, bytes(16), bytes(16), short)
+        self.refused(9, "NoSuchFunction", self.secret.hash_sign, 7, b"letter")
+        self.refused(9, "NoSuchFunction", self.public.hash_verify, 0, b"letter", b"")
+        self.refused(16, "BadDigestLength", self.secret.hash_sign_digest, 2, digest)
+        self.refused(16, "BadDigestLength", self.public.hash_verify_digest, 2, digest, b"")
+        self.assertRaises(OverflowError, self.secret.hash_sign, (1 << 32) + 2, b"letter")
+        self.assertRaises(TypeError, self.secret.sign, "letter")
+        self.assertRaises(ValueError, slh.Signer, 0)
+
+    def test_a_wrong_key_is_not_signed_with_by_jobs(self) -> None:
+        wrong = bytearray(self.secret.to_bytes())
+        wrong[-1] ^= 1
+        with slh.Signer(workers=2) as signer:
+            self.refused(25, "AnswersDisagree", signer.sign, slh.SecretKey(FAST, wrong), b"letter")
+
+    def test_secrets_are_not_printed(self) -> None:
+        for text in (repr(self.secret), str(self.secret), f"{self.secret}"):
+            self.assertEqual(text, "<slh.SecretKey SLH_DSA_SHA2_128F>")
+        self.assertEqual(repr(self.public), f"<slh.PublicKey SLH_DSA_SHA2_128F {self.public.to_bytes().hex()}>")
+
+    def test_version_and_lengths(self) -> None:
+        first, second, third = map(int, (REPOSITORY / "VERSION").read_text().split("."))
+        self.assertEqual(slh.version(), 1000000 * first + 1000 * second + third)
+        self.assertEqual(slh.Set.SLH_DSA_SHA2_256F.lengths, (64, 128, 49856, 32))
+
+    def test_the_shared_object_is_that_of_the_processor(self) -> None:
+        package = pathlib.Path(slh.__file__).parent
+        name = "x86-64-v3/libslh.so.0" if slh._has_v3() else "libslh.so.0"
+        self.assertEqual(pathlib.Path(slh._library._name), package / name)
+        self.assertEqual(ctypes.CDLL(str(package / "libslh.so.0")).slh_version(), slh.version())
+
+    @unittest.skipUnless(LOADER.exists(), "this system has another loader")
+    def test_the_level_of_the_processor_is_that_of_the_loader(self) -> None:
+        said = subprocess.run([LOADER, "--help"], capture_output=True, text=True, check=True).stdout
+        self.assertIn("x86-64-v2 (supported", said)
+        self.assertEqual(slh._has_v3(), "x86-64-v3 (supported" in said)
+
+
+if __name__ == "__main__":
+    unittest.main()
