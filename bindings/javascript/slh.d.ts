@@ -1,0 +1,131 @@
+/**
+ * SLH-DSA (FIPS 205) with SHA-2: keys, signing and verifying, over the WebAssembly module slh.wasm. The names are those
+ * of libslh: docs/LIBRARY.md of its repository says what each call does and what is proved of it.
+ */
+
+/** libslh's number of a parameter set (FIPS 205, section 11, Table 2). */
+export type ParameterSet = 1 | 2 | 3 | 4 | 5 | 6;
+export const SLH_DSA_SHA2_128S: 1;
+export const SLH_DSA_SHA2_128F: 2;
+export const SLH_DSA_SHA2_192S: 3;
+export const SLH_DSA_SHA2_192F: 4;
+export const SLH_DSA_SHA2_256S: 5;
+export const SLH_DSA_SHA2_256F: 6;
+
+/** libslh's number of a pre-hash function (FIPS 205, section 10.2.2). */
+export type HashFunction = 1 | 2 | 3 | 4 | 5 | 6;
+export const SLH_SHA2_224: 1;
+export const SLH_SHA2_256: 2;
+export const SLH_SHA2_384: 3;
+export const SLH_SHA2_512: 4;
+export const SLH_SHA2_512_224: 5;
+export const SLH_SHA2_512_256: 6;
+
+/** A call was refused: `number` and `name` are libslh's, as 2 and "ContextTooLong". */
+export class Refusal extends Error {
+    constructor(number: number, name: string);
+    readonly number: number;
+}
+
+/** Lengths in bytes. n is that of a seed and of a randomizer. */
+export interface Lengths {
+    readonly publicKey: number;
+    readonly secretKey: number;
+    readonly signature: number;
+    readonly n: number;
+}
+
+/** How a signature is verified. */
+export interface VerifyOptions {
+    /** At most 255 bytes; without it the context is empty. */
+    context?: Uint8Array;
+}
+
+/** How a signature is made. */
+export interface SignOptions {
+    /** At most 255 bytes; without it the context is empty. */
+    context?: Uint8Array;
+    /** n bytes; without it they are drawn from crypto.getRandomValues. */
+    randomizer?: Uint8Array;
+    /** No randomizer (FIPS 205, section 9.2), which is worse where faults are feared. */
+    deterministic?: boolean;
+}
+
+/** A public key, PK.seed and PK.root: 32, 48 or 64 bytes. */
+export interface PublicKey {
+    readonly set: ParameterSet;
+
+    /** A copy of the 2n bytes. */
+    toBytes(): Uint8Array;
+
+    /**
+     * Whether a signature of the pure form is valid (Algorithm 24). Bytes of another length than the set's signatures,
+     * and a context of over 255 bytes, are not.
+     */
+    verify(message: Uint8Array, signature: Uint8Array, options?: VerifyOptions): boolean;
+
+    /** The same of the pre-hash form, with the message (Algorithm 25). Throws a Refusal: NoSuchFunction. */
+    hashVerify(hash: HashFunction, message: Uint8Array, signature: Uint8Array, options?: VerifyOptions): boolean;
+
+    /** The same with the message's digest. Throws a Refusal: NoSuchFunction, BadDigestLength. */
+    hashVerifyDigest(hash: HashFunction, digest: Uint8Array, signature: Uint8Array, options?: VerifyOptions): boolean;
+}
+
+/** A secret key, SK.seed, SK.prf, PK.seed and PK.root: 64, 96 or 128 bytes, which are not printed. */
+export interface SecretKey {
+    readonly set: ParameterSet;
+
+    /** A copy of the 4n bytes. */
+    toBytes(): Uint8Array;
+
+    /** The public key, the last 2n bytes. */
+    public(): PublicKey;
+
+    /** Whether PK.root is the root that the seeds give. This takes as long as making a key. */
+    check(): boolean;
+
+    /**
+     * Signs a message in the pure form (Algorithm 22). Throws a Refusal: ContextTooLong for a context of over 255
+     * bytes; BadRandomizerLength.
+     */
+    sign(message: Uint8Array, options?: SignOptions): Uint8Array;
+
+    /**
+     * Signs a message in the pre-hash form (Algorithm 23), with a digest that this computes. A function that is weaker
+     * than the set makes a weaker signature. Throws a Refusal: as `sign`, and NoSuchFunction.
+     */
+    hashSign(hash: HashFunction, message: Uint8Array, options?: SignOptions): Uint8Array;
+
+    /** The same by the message's digest. Throws a Refusal: as `hashSign`, and BadDigestLength. */
+    hashSignDigest(hash: HashFunction, digest: Uint8Array, options?: SignOptions): Uint8Array;
+}
+
+/** One instance of the module. Its memory grows to the longest message, and does not shrink. */
+export interface Library {
+    /** The version of libslh: 1,000,000 times its first number, 1,000 times its second, and its third. */
+    version(): number;
+
+    /** The lengths of a set's keys and signatures. Throws a Refusal: NoSuchSet. */
+    lengths(set: ParameterSet): Lengths;
+
+    /** Makes a key from random bytes of crypto.getRandomValues (Algorithm 21). Throws a Refusal: NoSuchSet. */
+    generate(set: ParameterSet): SecretKey;
+
+    /**
+     * Makes the key of three seeds of n bytes each (Algorithm 18). They are as secret as the key. Throws a Refusal:
+     * NoSuchSet, BadSeedLength.
+     */
+    keygen(set: ParameterSet, skSeed: Uint8Array, skPrf: Uint8Array, pkSeed: Uint8Array): SecretKey;
+
+    /**
+     * The secret key of these bytes. Call `check` once on one that comes from elsewhere. Throws a Refusal: NoSuchSet;
+     * BadLength unless there are 4n.
+     */
+    secretKey(set: ParameterSet, bytes: Uint8Array): SecretKey;
+
+    /** The public key of these bytes. Throws a Refusal: NoSuchSet; BadLength unless there are 2n. */
+    publicKey(set: ParameterSet, bytes: Uint8Array): PublicKey;
+}
+
+/** Makes an instance of slh.wasm: the one beside slh.js, or of a URL, of its bytes, or of a compiled module. */
+export function load(source?: URL | ArrayBuffer | ArrayBufferView | WebAssembly.Module): Promise<Library>;

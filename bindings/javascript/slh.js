@@ -1,0 +1,349 @@
+/**
+ * SLH-DSA (FIPS 205) with SHA-2: keys, signing and verifying, over the WebAssembly module slh.wasm.
+ *
+ *     const slh = await load();
+ *     const secret = slh.generate(SLH_DSA_SHA2_128F);
+ *     const publicKey = secret.public();
+ *     secret.check(); // true
+ *     const signature = secret.sign(message);
+ *     publicKey.verify(message, signature); // true
+ *
+ * The names are those of libslh: docs/LIBRARY.md of its repository says what each call does and what is proved of it.
+ * Bytes are Uint8Arrays. A call that is refused throws a Refusal, with libslh's number and name. `verify` and `check`
+ * return true or false.
+ *
+ * Each signature has a fresh randomizer from crypto.getRandomValues, unless one is given or `deterministic: true` asks
+ * for none. What a call was handed is overwritten in the module's memory when it returns; its stack, and the arrays of
+ * this language, are not.
+ *
+ * The module has a 64-bit memory. Node 20 needs --experimental-wasm-memory64.
+ */
+
+// The parameter sets (FIPS 205, section 11, Table 2), by libslh's numbers.
+export const SLH_DSA_SHA2_128S = 1;
+export const SLH_DSA_SHA2_128F = 2;
+export const SLH_DSA_SHA2_192S = 3;
+export const SLH_DSA_SHA2_192F = 4;
+export const SLH_DSA_SHA2_256S = 5;
+export const SLH_DSA_SHA2_256F = 6;
+
+// The pre-hash functions (FIPS 205, section 10.2.2), by libslh's numbers.
+export const SLH_SHA2_224 = 1;
+export const SLH_SHA2_256 = 2;
+export const SLH_SHA2_384 = 3;
+export const SLH_SHA2_512 = 4;
+export const SLH_SHA2_512_224 = 5;
+export const SLH_SHA2_512_256 = 6;
+
+const DONE = 0;
+const BAD_LENGTH = 3;
+const BAD_RANDOMIZER_LENGTH = 17;
+const INVALID = 30;
+const MAX_NAME = 20;
+const PAGE = 65536;
+
+const NAMES = ["", "128s", "128f", "192s", "192f", "256s", "256f"];
+const NONE = new Uint8Array(0);
+
+/** A call was refused: `number` and `name` are libslh's, as 2 and "ContextTooLong". */
+export class Refusal extends Error {
+    constructor(number, name) {
+        super(`${number} ${name}`);
+        this.number = number;
+        this.name = name;
+    }
+}
+
+/** Where a call writes so many bytes. */
+class Room {
+    constructor(length) {
+        this.bytes = new Uint8Array(length);
+    }
+}
+
+/** Where a call writes one number of 64 bits. */
+class NumberRoom extends Room {
+    constructor() {
+        super(8);
+    }
+
+    get value() {
+        return Number(new DataView(this.bytes.buffer).getBigUint64(0, true));
+    }
+}
+
+/** The calls of the module's exports, with bytes in and out of its memory. */
+class Calls {
+    #wasm;
+    #first;
+
+    constructor(wasm) {
+        this.#wasm = wasm;
+        this.#first = aligned(Number(wasm.__heap_base.value));
+    }
+
+    /** Calls with numbers as they are, and with bytes and rooms as a pointer and a length. Returns the number. */
+    call(name, ...given) {
+        const words = [];
+        const placed = [];
+        let end = this.#first;
+        for (const it of given) {
+            if (typeof it === "number") {
+                words.push(checkedNumber(it));
+                continue;
+            }
+            const bytes = it instanceof Room ? it.bytes : checkedBytes(it);
+            placed.push({ it, bytes, at: end });
+            words.push(BigInt(end));
+            if (!(it instanceof NumberRoom)) words.push(BigInt(bytes.length));
+            end = aligned(end + bytes.length);
+        }
+        this.#reserve(end);
+        for (const { bytes, at } of placed) this.#memory().set(bytes, at);
+        try {
+            return this.#wasm[name](...words) >>> 0;
+        } finally {
+            const memory = this.#memory();
+            for (const { it, bytes, at } of placed) {
+                if (it instanceof Room) bytes.set(memory.subarray(at, at + bytes.length));
+            }
+            memory.fill(0, this.#first, end);
+        }
+    }
+
+    /** Calls, and returns whether it is done, or false where it says invalid. Else it throws a Refusal. */
+    judge(name, ...given) {
+        const result = this.call(name, ...given);
+        if (result === DONE) return true;
+        if (result === INVALID) return false;
+        throw this.refusal(result);
+    }
+
+    /** Calls one that writes bytes into its last argument, and returns them. */
+    write(name, length, ...given) {
+        const room = new Room(length);
+        const result = this.call(name, ...given, room);
+        if (result !== DONE) throw this.refusal(result);
+        return room.bytes;
+    }
+
+    refusal(number) {
+        const room = new Room(MAX_NAME);
+        const isOne = this.call("slh_refusal_name", number, room) === DONE;
+        const letters = room.bytes.subarray(0, room.bytes.indexOf(0));
+        return new Refusal(number, isOne ? String.fromCharCode(...letters) : "NoSuchRefusal");
+    }
+
+    lengths(set) {
+        const rooms = [new NumberRoom(), new NumberRoom(), new NumberRoom(), new NumberRoom()];
+        const result = this.call("slh_lengths", set, ...rooms);
+        if (result !== DONE) throw this.refusal(result);
+        const [publicKey, secretKey, signature, n] = rooms.map((it) => it.value);
+        return { publicKey, secretKey, signature, n };
+    }
+
+    /** The n bytes of a randomizer. None at all, the deterministic variant, is had by name alone. */
+    randomizer(set, { randomizer, deterministic = false }) {
+        const { n } = this.lengths(set);
+        if (deterministic) {
+            if (randomizer !== undefined) throw new TypeError("a deterministic signature has no randomizer");
+            return NONE;
+        }
+        if (randomizer === undefined) return random(n);
+        if (checkedBytes(randomizer).length !== n) throw this.refusal(BAD_RANDOMIZER_LENGTH);
+        return randomizer;
+    }
+
+    #memory() {
+        return new Uint8Array(this.#wasm.memory.buffer);
+    }
+
+    #reserve(end) {
+        const lacking = Math.ceil((end - this.#wasm.memory.buffer.byteLength) / PAGE);
+        if (lacking > 0) grow(this.#wasm.memory, lacking);
+    }
+}
+
+/** Adds pages to a 64-bit memory. The standard has their number as a BigInt, and Node 20 as a number. */
+function grow(memory, pages) {
+    try {
+        memory.grow(BigInt(pages));
+    } catch (error) {
+        if (!(error instanceof TypeError)) throw error;
+        memory.grow(pages);
+    }
+}
+
+function aligned(at) {
+    return Math.ceil(at / 16) * 16;
+}
+
+function random(count) {
+    return globalThis.crypto.getRandomValues(new Uint8Array(count));
+}
+
+function checkedBytes(it) {
+    if (!(it instanceof Uint8Array)) throw new TypeError("bytes are needed, as a Uint8Array");
+    return it;
+}
+
+function checkedNumber(it) {
+    if (it >>> 0 !== it) throw new RangeError(`${it} is not a number of 32 bits`);
+    return it;
+}
+
+/** A copy of a key's bytes. Refused: BadLength where there are more or fewer. */
+function keyBytes(calls, bytes, length) {
+    if (checkedBytes(bytes).length !== length) throw calls.refusal(BAD_LENGTH);
+    return Uint8Array.from(bytes);
+}
+
+/** A public key, PK.seed and PK.root: 2n bytes. `publicKey` of a Library makes one. */
+class PublicKey {
+    #calls;
+    #set;
+    #bytes;
+
+    constructor(calls, set, bytes) {
+        this.#bytes = keyBytes(calls, bytes, calls.lengths(set).publicKey);
+        this.#calls = calls;
+        this.#set = set;
+    }
+
+    get set() {
+        return this.#set;
+    }
+
+    toBytes() {
+        return Uint8Array.from(this.#bytes);
+    }
+
+    verify(message, signature, { context = NONE } = {}) {
+        return this.#calls.judge("slh_verify", this.#set, this.#bytes, message, context, signature);
+    }
+
+    hashVerify(hash, message, signature, { context = NONE } = {}) {
+        return this.#calls.judge("slh_hash_verify", this.#set, hash, this.#bytes, message, context, signature);
+    }
+
+    hashVerifyDigest(hash, digest, signature, { context = NONE } = {}) {
+        return this.#calls.judge("slh_hash_verify_digest", this.#set, hash, this.#bytes, digest, context, signature);
+    }
+
+    toString() {
+        return `PublicKey(SLH-DSA-SHA2-${NAMES[this.#set]})`;
+    }
+
+    [Symbol.for("nodejs.util.inspect.custom")]() {
+        return this.toString();
+    }
+}
+
+/** A secret key, SK.seed, SK.prf, PK.seed and PK.root: 4n bytes, which are not printed. */
+class SecretKey {
+    #calls;
+    #set;
+    #bytes;
+
+    constructor(calls, set, bytes) {
+        this.#bytes = keyBytes(calls, bytes, calls.lengths(set).secretKey);
+        this.#calls = calls;
+        this.#set = set;
+    }
+
+    get set() {
+        return this.#set;
+    }
+
+    toBytes() {
+        return Uint8Array.from(this.#bytes);
+    }
+
+    public() {
+        const { publicKey } = this.#calls.lengths(this.#set);
+        const bytes = this.#calls.write("slh_public", publicKey, this.#set, this.#bytes);
+        return new PublicKey(this.#calls, this.#set, bytes);
+    }
+
+    check() {
+        return this.#calls.judge("slh_check", this.#set, this.#bytes);
+    }
+
+    sign(message, options = {}) {
+        return this.#sign("slh_sign", [], message, options);
+    }
+
+    hashSign(hash, message, options = {}) {
+        return this.#sign("slh_hash_sign", [hash], message, options);
+    }
+
+    hashSignDigest(hash, digest, options = {}) {
+        return this.#sign("slh_hash_sign_digest", [hash], digest, options);
+    }
+
+    #sign(call, hash, text, options) {
+        const { context = NONE } = options;
+        const randomizer = this.#calls.randomizer(this.#set, options);
+        const { signature } = this.#calls.lengths(this.#set);
+        return this.#calls.write(call, signature, this.#set, ...hash, this.#bytes, text, context, randomizer);
+    }
+
+    toString() {
+        return `SecretKey(SLH-DSA-SHA2-${NAMES[this.#set]})`;
+    }
+
+    [Symbol.for("nodejs.util.inspect.custom")]() {
+        return this.toString();
+    }
+}
+
+/** One instance of the module. `load` makes it. */
+class Library {
+    #calls;
+
+    constructor(calls) {
+        this.#calls = calls;
+    }
+
+    version() {
+        return this.#calls.call("slh_version");
+    }
+
+    lengths(set) {
+        return this.#calls.lengths(set);
+    }
+
+    generate(set) {
+        const { n } = this.lengths(set);
+        return this.keygen(set, random(n), random(n), random(n));
+    }
+
+    keygen(set, skSeed, skPrf, pkSeed) {
+        const { secretKey } = this.lengths(set);
+        return this.secretKey(set, this.#calls.write("slh_keygen", secretKey, set, skSeed, skPrf, pkSeed));
+    }
+
+    secretKey(set, bytes) {
+        return new SecretKey(this.#calls, set, bytes);
+    }
+
+    publicKey(set, bytes) {
+        return new PublicKey(this.#calls, set, bytes);
+    }
+}
+
+/** Reads the module's bytes. Node's fetch does not read files. */
+async function read(url) {
+    if (url.protocol === "file:") return (await import("node:fs/promises")).readFile(url);
+    const response = await fetch(url);
+    if (!response.ok) throw new Error(`${url}: ${response.status}`);
+    return response.arrayBuffer();
+}
+
+/** Makes an instance of slh.wasm: the one beside this file, or of a URL, of its bytes, or of a compiled module. */
+export async function load(source = new URL("slh.wasm", import.meta.url)) {
+    const given = source instanceof URL ? await read(source) : source;
+    const module = given instanceof WebAssembly.Module ? given : await WebAssembly.compile(given);
+    const instance = await WebAssembly.instantiate(module, {});
+    return new Library(new Calls(instance.exports));
+}

@@ -1,0 +1,198 @@
+// Tests over slh.wasm, with signatures and keys that other implementations made (vectors/README.md).
+//
+// usage: SLH_WASM=PREFIX/lib/slh.wasm node --experimental-wasm-memory64 --test bindings/javascript/tests
+import assert from "node:assert/strict";
+import { createHash } from "node:crypto";
+import { readFileSync, readdirSync } from "node:fs";
+import test from "node:test";
+import { inspect } from "node:util";
+
+import * as names from "../slh.js";
+
+const { load, Refusal, SLH_DSA_SHA2_128F, SLH_SHA2_256 } = names;
+
+const repository = new URL("../../../", import.meta.url);
+const module = new WebAssembly.Module(readFileSync(process.env.SLH_WASM));
+const slh = await load(module);
+
+const FILES = readdirSync(new URL("vectors/", repository)).filter((it) => /^slh-dsa-.*\.json$/.test(it));
+const VECTORS = FILES.flatMap((file) => JSON.parse(readFileSync(new URL(`vectors/${file}`, repository), "utf8")));
+
+const bytes = (text) => Uint8Array.from(Buffer.from(text, "utf8"));
+const unhex = (digits) => Uint8Array.from(Buffer.from(digits, "hex"));
+const hex = (it) => Buffer.from(it).toString("hex");
+const setOf = (it) => names[it.set.replaceAll("-", "_").toUpperCase()];
+const functionOf = (it) => names[`SLH_${it.form.replace(/[-/]/g, "_")}`];
+
+/** The tests of a kind, but for those of the internal form, which this module does not offer. */
+function ofKind(kind) {
+    assert.equal(FILES.length, 6);
+    const found = VECTORS.filter((it) => it.kind === kind && it.form !== "internal");
+    assert.ok(found.length > 12);
+    return found;
+}
+
+function digestOf(it) {
+    const name = it.form.replace("SHA2-", "sha").replace("/", "-");
+    return Uint8Array.from(createHash(name).update(unhex(it.message)).digest());
+}
+
+test("keys are those of their seeds", () => {
+    const tests = ofKind("keygen");
+    const sets = [...new Set(tests.map((it) => it.set))];
+    assert.equal(sets.length, 6);
+    for (const it of sets.map((set) => tests.findLast((other) => other.set === set))) {
+        const secret = slh.keygen(setOf(it), unhex(it.skSeed), unhex(it.skPrf), unhex(it.pkSeed));
+        assert.equal(hex(secret.toBytes()), it.sk);
+        assert.equal(hex(secret.public().toBytes()), it.pk);
+        assert.equal(secret.check(), true);
+    }
+});
+
+// The sign tests of the sets whose names end in f: of the pure form those with the first and the last randomizer, and
+// two of the pre-hash forms. Of the others, which are slow, the first of 128s.
+test("signatures are those of other implementations", () => {
+    const tests = ofKind("sign");
+    const chosen = tests.filter((it) => it.set.endsWith("128s") && it.form === "pure").slice(0, 1);
+    for (const end of ["128f", "192f", "256f"]) {
+        const pure = tests.filter((it) => it.set.endsWith(end) && it.form === "pure");
+        const hashed = tests.filter((it) => it.set.endsWith(end) && it.form !== "pure");
+        chosen.push(pure[0], pure.at(-1), hashed[0], hashed.at(-1));
+    }
+    assert.ok(chosen.some((it) => it.random) && chosen.some((it) => !it.random) && chosen.some((it) => it.context));
+    for (const it of chosen) {
+        const secret = slh.secretKey(setOf(it), unhex(it.sk));
+        const how = it.random ? { randomizer: unhex(it.random) } : { deterministic: true };
+        const options = { context: unhex(it.context), ...how };
+        if (it.form === "pure") {
+            assert.equal(hex(secret.sign(unhex(it.message), options)), it.signature);
+        } else {
+            assert.equal(hex(secret.hashSign(functionOf(it), unhex(it.message), options)), it.signature);
+            assert.equal(hex(secret.hashSignDigest(functionOf(it), digestOf(it), options)), it.signature);
+        }
+    }
+});
+
+test("verdicts are those of other implementations", () => {
+    const tests = ofKind("verify");
+    assert.ok(tests.some((it) => it.valid === true) && tests.some((it) => it.valid === false));
+    for (const it of tests) {
+        const publicKey = slh.publicKey(setOf(it), unhex(it.pk));
+        const [signature, context] = [unhex(it.signature), unhex(it.context)];
+        if (it.form === "pure") {
+            assert.equal(publicKey.verify(unhex(it.message), signature, { context }), it.valid);
+        } else {
+            const by = functionOf(it);
+            assert.equal(publicKey.hashVerify(by, unhex(it.message), signature, { context }), it.valid);
+            assert.equal(publicKey.hashVerifyDigest(by, digestOf(it), signature, { context }), it.valid);
+        }
+    }
+});
+
+const letter = bytes("letter");
+const secret = slh.generate(SLH_DSA_SHA2_128F);
+const publicKey = secret.public();
+
+/** The key with one bit changed in PK.root. */
+function withWrongRoot() {
+    const changed = secret.toBytes();
+    changed[changed.length - 1] ^= 1;
+    return slh.secretKey(SLH_DSA_SHA2_128F, changed);
+}
+
+/** Fails unless a call throws this refusal. */
+function refused(number, name, call) {
+    assert.throws(call, (error) => {
+        assert.ok(error instanceof Refusal);
+        assert.deepEqual([error.number, error.name, error.message], [number, name, `${number} ${name}`]);
+        return true;
+    });
+}
+
+test("generated keys differ", () => {
+    const other = slh.generate(SLH_DSA_SHA2_128F);
+    assert.equal(other.check(), true);
+    const parts = [secret, other].flatMap((it) => [0, 16, 32].map((at) => hex(it.toBytes().subarray(at, at + 16))));
+    assert.equal(new Set(parts).size, 6);
+});
+
+test("randomizers are drawn", () => {
+    const deterministic = { deterministic: true };
+    const made = [{}, {}, deterministic, deterministic].map((options) => secret.sign(letter, options));
+    assert.equal(new Set(made.map(hex)).size, 3);
+    assert.equal(hex(made[2]), hex(made[3]));
+    for (const signature of made) assert.equal(publicKey.verify(letter, signature), true);
+    for (const length of [0, 15]) {
+        refused(17, "BadRandomizerLength", () => secret.sign(letter, { randomizer: new Uint8Array(length) }));
+    }
+    assert.throws(() => secret.sign(letter, { randomizer: new Uint8Array(16), deterministic: true }), TypeError);
+});
+
+test("contexts have at most 255 bytes", () => {
+    const [longest, longer] = [new Uint8Array(255), new Uint8Array(256)];
+    const signature = secret.sign(letter, { context: longest });
+    assert.equal(publicKey.verify(letter, signature, { context: longest }), true);
+    for (const context of [undefined, longest.subarray(1), longer]) {
+        assert.equal(publicKey.verify(letter, signature, { context }), false);
+    }
+    const options = { context: longer };
+    refused(2, "ContextTooLong", () => secret.sign(letter, options));
+    refused(2, "ContextTooLong", () => secret.hashSign(SLH_SHA2_256, letter, options));
+    refused(2, "ContextTooLong", () => secret.hashSignDigest(SLH_SHA2_256, new Uint8Array(32), options));
+});
+
+test("damage is invalid", () => {
+    const signature = secret.sign(letter);
+    assert.equal(publicKey.verify(letter, signature), true);
+    for (const at of [0, 16, signature.length - 1]) {
+        const damaged = Uint8Array.from(signature);
+        damaged[at] ^= 1;
+        assert.equal(publicKey.verify(letter, damaged), false);
+    }
+    for (const other of [new Uint8Array(0), signature.subarray(1), Uint8Array.from([...signature, 0])]) {
+        assert.equal(publicKey.verify(letter, other), false);
+    }
+    assert.equal(publicKey.verify(bytes("Letter"), signature), false);
+    assert.equal(publicKey.hashVerify(SLH_SHA2_256, letter, signature), false);
+    assert.equal(withWrongRoot().check(), false);
+});
+
+test("what is not valid is refused", () => {
+    const zeros = (count) => new Uint8Array(count);
+    refused(8, "NoSuchSet", () => slh.generate(7));
+    refused(8, "NoSuchSet", () => slh.publicKey(0, zeros(32)));
+    refused(3, "BadLength", () => slh.secretKey(SLH_DSA_SHA2_128F, zeros(63)));
+    refused(3, "BadLength", () => slh.publicKey(SLH_DSA_SHA2_128F, zeros(33)));
+    refused(10, "BadSeedLength", () => slh.keygen(SLH_DSA_SHA2_128F, zeros(16), zeros(16), zeros(15)));
+    refused(9, "NoSuchFunction", () => secret.hashSign(7, letter));
+    refused(9, "NoSuchFunction", () => publicKey.hashVerify(0, letter, zeros(0)));
+    refused(16, "BadDigestLength", () => secret.hashSignDigest(SLH_SHA2_256, zeros(31)));
+    refused(16, "BadDigestLength", () => publicKey.hashVerifyDigest(SLH_SHA2_256, zeros(31), zeros(0)));
+    assert.throws(() => secret.hashSign(2 ** 32 + 2, letter), RangeError);
+    assert.throws(() => secret.sign("letter"), TypeError);
+});
+
+test("messages may be longer than the memory", async () => {
+    const other = await load(module);
+    const long = new Uint8Array(5_000_000).fill(7);
+    const signature = secret.sign(long);
+    const judge = other.publicKey(SLH_DSA_SHA2_128F, publicKey.toBytes());
+    assert.equal(judge.verify(long, signature), true);
+    long[4_999_999] ^= 1;
+    assert.equal(judge.verify(long, signature), false);
+});
+
+test("secrets are not printed", () => {
+    for (const text of [inspect(secret, { showHidden: true, depth: 9 }), `${secret}`, String(secret)]) {
+        assert.equal(text, "SecretKey(SLH-DSA-SHA2-128f)");
+    }
+    assert.equal(JSON.stringify(secret), "{}");
+});
+
+test("the version is that of the repository", () => {
+    const text = readFileSync(new URL("VERSION", repository), "utf8").trim();
+    const numbers = text.split(".").map(Number);
+    assert.equal(slh.version(), numbers.reduce((sum, number) => 1000 * sum + number));
+    const described = JSON.parse(readFileSync(new URL("../package.json", import.meta.url), "utf8"));
+    assert.equal(described.version, text);
+});
