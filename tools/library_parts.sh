@@ -1,6 +1,16 @@
-# What the tests of the library for C on this machine and on others share: tools/library_tests.sh and
-# tools/targets_tests.sh read it with `source`, after tools/counts.sh, with the folders `here` and `work`.
+# What the tests of the library for C on this machine and on others and those of packages share. tools/library_tests.sh,
+# tools/targets_tests.sh and tools/packages_tests.sh read it with `source`, after tools/counts.sh, with the folders
+# `here` and `work`.
 strict=(-Wall -Wextra -Werror -pedantic)
+
+# Whether all of these commands are there. Says of a TARGET which is not.
+can_run() {
+    local target=$1 tool
+    shift
+    for tool in "$@"; do
+        command -v "$tool" >/dev/null || { echo "$target: SKIPPED, since there is no $tool" && return 1; }
+    done
+}
 
 # Runs a command, and tells by NAME whether its status was 0. What it prints is shown where it was not.
 one() {

@@ -20,15 +20,6 @@ source "$here/tools/library_parts.sh"
 cc=${AARCH64_CC:-aarch64-linux-gnu-gcc} nm=${AARCH64_NM:-aarch64-linux-gnu-nm} node=(node --experimental-wasm-memory64)
 qemu=$(command -v qemu-aarch64 || command -v qemu-aarch64-static)
 
-# Whether all of these commands are there. Says of a TARGET which is not.
-can_run() {
-    local target=$1 tool
-    shift
-    for tool in "$@"; do
-        command -v "$tool" >/dev/null || { echo "$target: SKIPPED, since there is no $tool" && return 1; }
-    done
-}
-
 aarch64() {
     local prefix=$work/aarch64 lib=$work/aarch64/lib
     one "the library for aarch64 is built" "$here/tools/library.sh" --after-ci --target aarch64 "$prefix" || return

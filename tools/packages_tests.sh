@@ -1,0 +1,145 @@
+#!/usr/bin/env bash
+# Tests the packages of bindings/ over the library as tools/library.sh installs it: each is built and used as its users
+# do, and its own tests run over a part of vectors/. Nothing is written into the repository, and no network is used.
+#
+# usage: tools/packages_tests.sh [--prefix PREFIX --wasm PREFIX2]
+#
+# PREFIX is a folder that tools/library.sh has installed into, PREFIX2 one that it has installed wasm64 into. Without
+# them both are built first, over what `rt ci`, or `rt check` in crates/slh_c, has built.
+# tools/install_emulators.sh installs what it needs, but for Rust and CMake: where a tool is missing, it says which, and
+# what that tool is for is skipped: it counts neither as passed nor as failed. The last line has the counts, and the
+# status is 0 where nothing failed.
+set -u
+here=$(cd "$(dirname "${BASH_SOURCE[0]}")/.." && pwd)
+work=$(mktemp -d)
+trap 'rm -rf "$work"' EXIT
+source "$here/tools/counts.sh"
+source "$here/tools/library_parts.sh"
+prefix=$work/prefix wasm=$work/wasm64
+if [ $# = 4 ] && [ "$1" = --prefix ] && [ "$3" = --wasm ]; then
+    prefix=$(realpath "$2") wasm=$(realpath "$4")
+elif [ $# = 0 ]; then
+    one "the library is built" "$here/tools/library.sh" --after-ci "$prefix"
+    one "the module is built" "$here/tools/library.sh" --after-ci --target wasm64 "$wasm"
+else
+    echo "usage: tools/packages_tests.sh [--prefix PREFIX --wasm PREFIX2]" >&2
+    exit 2
+fi
+export PYTHONDONTWRITEBYTECODE=1 PYTHONNOUSERSITE=1
+
+with_cmake() {
+    local built=$work/cmake name
+    make_image
+    one "cmake: programs find the library" cmake -S "$here/bindings/cmake/tests" -B "$built" \
+        -DCMAKE_PREFIX_PATH="$prefix" -DKEY="$work"
+    one "cmake: programs are built" cmake --build "$built"
+    for name in slh shared; do
+        count "cmake: vectors over slh::$name" "$here/tools/library_vectors.py" --few --through "$built/calls_$name"
+    done
+    one "cmake: slh::shared is asked for by its name" asks_for_shared "$built/calls_shared"
+    one "cmake: slh::slh is not" fails asks_for_shared "$built/calls_slh"
+    one "cmake: slh::verify judges images" judges_images "$built/verify_image"
+}
+
+asks_for_shared() {
+    readelf -d "$1" | grep -q 'NEEDED.*\[libslh\.so\.0\]'
+}
+
+# Whether a command ends with another status than 0.
+fails() {
+    ! "$@"
+}
+
+with_python() {
+    local venv=$work/venv package=$here/bindings/python name
+    name=slh-$(cat "$here/VERSION")-py3-none-linux_x86_64.whl
+    one "python: a virtual environment is made" python3 -m venv "$venv"
+    one "python: the wheel is built" env SLH_PREFIX="$prefix" "$venv/bin/pip" wheel --no-index -w "$work/wheels" \
+        "$package"
+    mkdir -p "$work/again"
+    one "python: the wheel is built again" env SLH_PREFIX="$prefix" "$venv/bin/python" "$package/build_wheel.py" \
+        "$work/again"
+    one "python: both have the same bits" cmp "$work/wheels/$name" "$work/again/$name"
+    one "python: the wheel lists what it has" lists_all "$work/wheels/$name"
+    one "python: the wheel is installed" "$venv/bin/pip" install --no-index "$work/wheels/$name"
+    one "python: the installed package passes its tests" "$venv/bin/python" -m unittest discover -s "$package/tests"
+}
+
+# Whether RECORD of a wheel lists each of its files, with its SHA-256 and length.
+lists_all() {
+    python3 - "$1" <<'END'
+import base64, csv, hashlib, sys, zipfile
+with zipfile.ZipFile(sys.argv[1]) as wheel:
+    files = {it: wheel.read(it) for it in wheel.namelist()}
+path = next(it for it in files if it.endswith("/RECORD"))
+listed = {row[0]: tuple(row[1:]) for row in csv.reader(files[path].decode().splitlines())}
+def entry(data):
+    return "sha256=" + base64.urlsafe_b64encode(hashlib.sha256(data).digest()).decode().rstrip("="), str(len(data))
+wanted = {name: ("", "") if name == path else entry(data) for name, data in files.items()}
+sys.exit(0 if listed == wanted and len(files) > 6 else f"RECORD has {listed}, and not {wanted}")
+END
+}
+
+with_rust() {
+    local cargo=(env CARGO_TARGET_DIR="$work/cargo" RUSTFLAGS=-Dwarnings SLH_PREFIX="$prefix" cargo)
+    local manifest=(--manifest-path "$here/bindings/rust/Cargo.toml")
+    if can_run "rust: layout" rustfmt; then one "rust: layout" cargo fmt "${manifest[@]}" --all --check; fi
+    one "rust: the crates pass their tests" "${cargo[@]}" test --locked --offline "${manifest[@]}"
+    printf 'a letter\nof two lines' >"$work/letter"
+    one "rust: the example signs by threads, over the library of pkg-config" says valid 0 env -u SLH_PREFIX \
+        CARGO_TARGET_DIR="$work/cargo" PKG_CONFIG_PATH="$prefix/lib/pkgconfig" cargo run -q --locked --offline \
+        "${manifest[@]}" --example sign_threads 2 "$work/letter"
+    one "rust: without a library the build says so" misses_library env -u SLH_PREFIX -u PKG_CONFIG_PATH \
+        PKG_CONFIG_LIBDIR="$work/none" CARGO_TARGET_DIR="$work/cargo" cargo build --locked --offline "${manifest[@]}"
+}
+
+misses_library() {
+    ! "$@" >"$work/built" 2>&1 && grep -q 'libslh is not found: set SLH_PREFIX' "$work/built"
+}
+
+with_go() {
+    one "go: layout" is_laid_out "$here/bindings/go"
+    one "go: vet" in_go go vet ./...
+    one "go: the package passes its tests" in_go go test -count=1 ./...
+}
+
+is_laid_out() {
+    [ -z "$(gofmt -l "$1")" ]
+}
+
+in_go() {
+    (cd "$here/bindings/go" && env CGO_ENABLED=1 CGO_CFLAGS="-I$prefix/include" CGO_LDFLAGS="-L$prefix/lib" \
+        GOCACHE="$work/go" GOPATH="$work/gopath" GOFLAGS=-mod=readonly GOPROXY=off "$@")
+}
+
+with_javascript() {
+    local node=(node --experimental-wasm-memory64) package=$here/bindings/javascript
+    one "javascript: the module passes its tests" env SLH_WASM="$wasm/lib/slh.wasm" "${node[@]}" --test "$package/tests"
+    mkdir -p "$work/node_modules/slh"
+    cp "$package"/{package.json,slh.js,slh.d.ts} "$wasm/lib/slh.wasm" "$work/node_modules/slh/"
+    cat >"$work/lines.mjs" <<'END'
+import { load, SLH_DSA_SHA2_128F } from "slh";
+const slh = await load();
+const message = new TextEncoder().encode("Dear reader,");
+const secret = slh.generate(SLH_DSA_SHA2_128F);
+const signature = secret.sign(message);
+console.log(secret.check() && secret.public().verify(message, signature) ? "valid" : "invalid");
+END
+    one "javascript: the package finds its module" says valid 0 "${node[@]}" --no-warnings "$work/lines.mjs"
+    one "javascript: the types name what is exported" types_name_all
+}
+
+# Whether slh.d.ts declares just the values that slh.js exports.
+types_name_all() {
+    sed -n 's/^export \(const\|class\|function\) \([A-Za-z0-9_]*\).*/\2/p' "$work/node_modules/slh/slh.d.ts" |
+        LC_ALL=C sort >"$work/declared"
+    (cd "$work" && node --input-type=module -e 'console.log(Object.keys(await import("slh")).join("\n"))') |
+        LC_ALL=C sort | diff - "$work/declared"
+}
+
+if can_run cmake cmake cc python3 readelf; then with_cmake; fi
+if can_run python python3; then with_python; fi
+if can_run rust cargo cc pkg-config; then with_rust; fi
+if can_run go go gofmt gcc; then with_go; fi
+if can_run javascript node; then with_javascript; fi
+end_counts
