@@ -1,0 +1,76 @@
+"""Makes one signature of the set 256s by its jobs over a cluster of dask.distributed, looks whether slh_sign makes the
+same bytes, writes it into FILE.sig, and says how long each took: sign_cluster.py SCHEDULER libslh.so KEY FILE
+
+THE ANSWERS OF THE JOBS ARE SECRET: who reads one can have the key. They lie in the memory of the workers and of the
+scheduler, and go over the connections between them. So trust each of these as the machine that has the key, have the
+connections encrypted (`distributed.security.Security`), and let no worker write to a disk what it holds.
+
+KEY has the 128 bytes of a secret key, and each worker reads it and the library under the same paths as this program.
+Both signatures are of the deterministic variant, so that they can be compared. One that is given away takes 32 fresh
+random bytes, os.urandom(32), in place of the empty randomizer.
+"""
+import ctypes
+import os
+import pathlib
+import sys
+import time
+
+import distributed
+
+SCHEDULER, LIBRARY, KEY, FILE = sys.argv[1], *map(os.path.abspath, sys.argv[2:])
+# 256s, with each XMSS tree cut into 2^3 ranges, and each FORS tree whole
+SET, LEVELS, SIGNATURE = 5, (3, 0), 29792
+
+
+def call(name, *arguments):
+    """Calls with each text of bytes as a pointer and a length."""
+    words = []
+    for it in arguments:
+        words += [it, ctypes.c_size_t(len(it))] if isinstance(it, (bytes, ctypes.Array)) else [it]
+    if result := getattr(ctypes.CDLL(LIBRARY), name)(*words):
+        raise RuntimeError(f"{name}: {result}")
+
+
+def answer(job, start):
+    """Does one job: where its answer stands, and the answer. This is what the workers run."""
+    at, length = ctypes.c_size_t(), ctypes.c_size_t()
+    call("slh_answer_place", SET, *LEVELS, job, ctypes.byref(at), ctypes.byref(length))
+    made = ctypes.create_string_buffer(length.value)
+    call("slh_sign_job", SET, *LEVELS, pathlib.Path(KEY).read_bytes(), start, job, made)
+    return at.value, made.raw
+
+
+def sign_by_jobs(client, sk, message):
+    jobs, start_len, answers_len = ctypes.c_uint32(), ctypes.c_size_t(), ctypes.c_size_t()
+    call("slh_sign_jobs", SET, *LEVELS, *map(ctypes.byref, (jobs, start_len, answers_len)))
+    start, sig = ctypes.create_string_buffer(start_len.value), ctypes.create_string_buffer(SIGNATURE)
+    call("slh_sign_start", SET, sk, message, b"", b"", start)
+    answers = bytearray(answers_len.value)
+    for at, made in client.gather(client.map(answer, range(jobs.value), start=start.raw, pure=False)):
+        answers[at : at + len(made)] = made
+    call("slh_sign_join", SET, *LEVELS, sk, start, bytes(answers), sig)
+    return sig.raw
+
+
+def sign_alone(sk, message):
+    sig = ctypes.create_string_buffer(SIGNATURE)
+    call("slh_sign", SET, sk, message, b"", b"", sig)
+    return sig.raw
+
+
+def timed(sign, *arguments):
+    began = time.monotonic()
+    return sign(*arguments), time.monotonic() - began
+
+
+if __name__ == "__main__":
+    sk, message = (pathlib.Path(it).read_bytes() for it in (KEY, FILE))
+    with distributed.Client(SCHEDULER) as client:
+        by_jobs, seconds = timed(sign_by_jobs, client, sk, message)
+        workers = len(client.nthreads())
+    alone, seconds_alone = timed(sign_alone, sk, message)
+    call("slh_verify", SET, sk[64:], message, b"", by_jobs)
+    if by_jobs != alone:
+        sys.exit("the signatures differ")
+    pathlib.Path(FILE + ".sig").write_bytes(by_jobs)
+    print(f"the same signature: {seconds:.2f} s by {workers} workers, {seconds_alone:.2f} s by slh_sign")
