@@ -1,0 +1,161 @@
+#!/usr/bin/env bash
+# Makes Debian packages of a release into FOLDER, for amd64:
+#
+#   libslh0      libslh.so.0, and its build for processors of the level x86-64-v3, which glibc takes by itself
+#   libslh-dev   the headers, libslh.a, libslh_verify.a, and the files for pkg-config
+#   slh          the program, built for both levels, its man page, and completions for bash and zsh
+#
+# usage: tools/debian.sh [DIST] FOLDER
+#
+# DIST is a folder as tools/release.sh writes it (default: dist). A file whose hash is not the one in its SHA256SUMS is
+# not packaged. Shared objects are stripped, as Debian's have to be. The man page and the completions are made of the
+# program's own help texts, so it has to run here. It needs dpkg-dev, binutils, git and python3. Files are dated by
+# SOURCE_DATE_EPOCH, without it by the last commit: so packages of one commit are the same bits. DEBFULLNAME and
+# DEBEMAIL name another maintainer.
+set -euo pipefail
+here=$(cd "$(dirname "${BASH_SOURCE[0]}")/.." && pwd)
+if [ $# = 0 ] || [ $# -gt 2 ]; then
+    echo "usage: tools/debian.sh [DIST] FOLDER" >&2
+    exit 2
+fi
+dist=$here/dist
+if [ $# = 2 ]; then
+    dist=$1
+    shift
+fi
+[ -f "$dist/BUILD" ] && [ -f "$dist/SHA256SUMS" ] || {
+    echo "tools/debian.sh: $dist is no release: it has no BUILD or no SHA256SUMS" >&2
+    exit 2
+}
+umask 022
+mkdir -p "$1"
+folder=$(cd "$1" && pwd)
+dist=$(cd "$dist" && pwd)
+work=$(mktemp -d)
+trap 'rm -rf "$work"' EXIT
+export SOURCE_DATE_EPOCH=${SOURCE_DATE_EPOCH:-$(git -C "$here" log -1 --format=%ct)}
+upstream=$(sed -n 's/^version //p' "$dist/BUILD")
+version=$upstream-1
+maintainer="${DEBFULLNAME:-Pipitscreen maintainers} <${DEBEMAIL:-$(git -C "$here" log -1 --format=%ae)}>"
+lib=usr/lib/x86_64-linux-gnu
+
+# Begins a package: PACKAGE.
+begin() { root=$work/$1 && mkdir -p "$root/DEBIAN"; }
+
+# Puts a file of the release into a package, where it has the hash that is listed: MODE FILE PATH.
+put() {
+    awk -v file="$2" '$2 == file' "$dist/SHA256SUMS" >"$work/listed"
+    if [ ! -s "$work/listed" ] || ! (cd "$dist" && sha256sum --check --status "$work/listed"); then
+        echo "tools/debian.sh: $2 is missing or damaged, or SHA256SUMS does not list it" >&2
+        exit 1
+    fi
+    install -D -m "$1" "$dist/$2" "$root/$3"
+}
+
+# Writes standard input into a file of a package: PATH.
+write() {
+    mkdir -p "$(dirname "$root/$1")"
+    cat >"$root/$1"
+}
+
+# The file for pkg-config of an archive libNAME: NAME and a line that describes it.
+pkgconfig() {
+    write "$lib/pkgconfig/$1.pc" <<END
+prefix=/usr
+includedir=\${prefix}/include
+libdir=\${prefix}/lib/x86_64-linux-gnu
+
+Name: $1
+Description: $2
+Version: $upstream
+Libs: -L\${libdir} -l$1
+Cflags: -I\${includedir}
+END
+}
+
+# What each package has in /usr/share/doc: PACKAGE.
+documents() {
+    {
+        echo "slh ($version) unstable; urgency=medium"
+        printf '\n  * Packaged from the files of the release.\n\n'
+        echo " -- $maintainer  $(LC_ALL=C date -R -u -d "@$SOURCE_DATE_EPOCH")"
+    } | gzip -9n | write "usr/share/doc/$1/changelog.Debian.gz"
+    gzip -9n <"$here/CHANGELOG.md" | write "usr/share/doc/$1/changelog.gz"
+    copyright | write "usr/share/doc/$1/copyright"
+}
+
+# packages/debian/copyright with the text of LICENSE-MIT, a paragraph of which is ended by a line with a full stop.
+copyright() {
+    sed -n '/^Permission/,$p' "$here/LICENSE-MIT" | sed 's/^$/./; s/^/ /' >"$work/licence"
+    sed -e "s/@COPYRIGHT@/$(sed -n 's/^Copyright (c) //p' "$here/LICENSE-MIT")/" \
+        -e "/^@MIT@\$/{r $work/licence" -e 'd}' "$here/packages/debian/copyright"
+}
+
+# The packages that these files of a package need: PATH...
+needed() {
+    mkdir -p "$work/needed/debian"
+    printf 'Source: slh\n\nPackage: slh\nArchitecture: any\n' >"$work/needed/debian/control"
+    (cd "$work/needed" && dpkg-shlibdeps -O "${@/#/-e$root/}") | sed -n 's/^shlibs:Depends=//p'
+}
+
+# Builds a package of what is in it by now: PACKAGE, and the paths of what needs other packages.
+build() {
+    local package=$1 needs= size
+    shift
+    documents "$package"
+    [ $# = 0 ] || needs=$(needed "$@")
+    size=$(du -k -s --apparent-size "$root/usr" | cut -f 1)
+    (cd "$root" && find usr -type f -print0 | LC_ALL=C sort -z | xargs -0 md5sum) | write DEBIAN/md5sums
+    sed "s/@VERSION@/$version/; s/@MAINTAINER@/$maintainer/; s/@SIZE@/$size/; s/@SHLIBS@/$needs/" \
+        "$here/packages/debian/$package.control" | write DEBIAN/control
+    find "$root" -depth -exec touch -h -d "@$SOURCE_DATE_EPOCH" {} +
+    dpkg-deb --root-owner-group -Zxz --build "$root" "$work/made" >&2
+}
+
+make_libslh0() {
+    begin libslh0
+    put 644 x86-64-v2/libslh.so.0 $lib/libslh.so.0
+    put 644 x86-64-v3/libslh.so.0 $lib/glibc-hwcaps/x86-64-v3/libslh.so.0
+    (cd "$root" && strip --strip-unneeded $lib/libslh.so.0 $lib/glibc-hwcaps/x86-64-v3/libslh.so.0)
+    echo "libslh 0 libslh0 (>= $upstream)" | write DEBIAN/shlibs
+    echo "activate-noawait ldconfig" | write DEBIAN/triggers
+    build libslh0 $lib/libslh.so.0 $lib/glibc-hwcaps/x86-64-v3/libslh.so.0
+}
+
+make_libslh_dev() {
+    local file
+    begin libslh-dev
+    for file in slh.h slh_internal.h slh_verify.h; do
+        put 644 include/$file usr/include/$file
+    done
+    for file in libslh.a libslh_verify.a; do
+        put 644 x86-64-v2/$file $lib/$file
+    done
+    ln -s libslh.so.0 "$root/$lib/libslh.so"
+    pkgconfig slh "SLH-DSA (FIPS 205) with SHA-2, proved by machine"
+    pkgconfig slh_verify "Verifying signatures of SLH-DSA (FIPS 205) with SHA-2, proved by machine"
+    build libslh-dev
+}
+
+# What the program says of itself, as the man page or completions: KIND.
+texts() { "$here/packages/debian/from_help.py" "$root/usr/libexec/slh/x86-64-v2/slh" "$upstream" "$1"; }
+
+make_slh() {
+    local level
+    begin slh
+    for level in x86-64-v2 x86-64-v3; do
+        put 755 $level/slh usr/libexec/slh/$level/slh
+    done
+    install -D -m 755 "$here/packages/debian/slh.sh" "$root/usr/bin/slh"
+    texts man | gzip -9n | write usr/share/man/man1/slh.1.gz
+    texts bash | write usr/share/bash-completion/completions/slh
+    texts zsh | write usr/share/zsh/vendor-completions/_slh
+    gzip -9n <"$here/docs/FORMATS.md" | write usr/share/doc/slh/FORMATS.md.gz
+    build slh usr/libexec/slh/x86-64-v{2,3}/slh
+}
+
+mkdir "$work/made"
+make_libslh0
+make_libslh_dev
+make_slh
+mv "$work"/made/*.deb "$folder/"
