@@ -7,7 +7,7 @@
 # usage: tools/install_emulators.sh [FOLDER]
 set -euo pipefail
 apt-get update
-packages=(gcc-aarch64-linux-gnu libc6-dev-arm64-cross qemu-user-static python3-distributed lintian zsh)
+packages=(gcc-aarch64-linux-gnu libc6-dev-arm64-cross qemu-user-static python3-distributed lintian zsh chromium)
 command -v node >/dev/null || packages+=(nodejs)
 command -v go >/dev/null || packages+=(golang-go)
 apt-get install -y --no-install-recommends "${packages[@]}"
