@@ -189,6 +189,17 @@ test("secrets are not printed", () => {
     assert.equal(JSON.stringify(secret), "{}");
 });
 
+test("numbers are those of the header", () => {
+    const text = readFileSync(new URL("include/slh_verify.h", repository), "utf8");
+    for (const [list, prefix] of [["slh_set", "SLH_DSA_"], ["slh_function", "SLH_SHA2_"]]) {
+        const [, listed] = new RegExp(`enum ${list} {([^}]*)}`).exec(text);
+        const numbers = [...listed.matchAll(/(\w+) = (\d+)/g)].map(([, name, number]) => [name, Number(number)]);
+        const exported = Object.entries(names).filter(([name]) => name.startsWith(prefix));
+        assert.equal(numbers.length, 6);
+        assert.deepEqual(Object.fromEntries(exported), Object.fromEntries(numbers));
+    }
+});
+
 test("the version is that of the repository", () => {
     const text = readFileSync(new URL("VERSION", repository), "utf8").trim();
     const numbers = text.split(".").map(Number);

@@ -9,6 +9,7 @@ import ctypes
 import hashlib
 import json
 import pathlib
+import re
 import subprocess
 import unittest
 
@@ -205,6 +206,13 @@ class Calls(unittest.TestCase):
         first, second, third = map(int, (REPOSITORY / "VERSION").read_text().split("."))
         self.assertEqual(slh.version(), 1000000 * first + 1000 * second + third)
         self.assertEqual(slh.Set.SLH_DSA_SHA2_256F.lengths, (64, 128, 49856, 32))
+
+    def test_numbers_are_those_of_the_header(self) -> None:
+        text = (REPOSITORY / "include" / "slh_verify.h").read_text()
+        for members, name in ((slh.Set, "slh_set"), (slh.Function, "slh_function")):
+            listed = re.search(rf"enum {name} {{(.*?)}};", text, re.DOTALL)[1]
+            numbers = {it: int(number) for it, number in re.findall(r"(\w+) = (\d+)", listed)}
+            self.assertEqual(numbers, {it: member.value for it, member in members.__members__.items()})
 
     def test_the_shared_object_is_that_of_the_processor(self) -> None:
         package = pathlib.Path(slh.__file__).parent

@@ -30,7 +30,7 @@ pub use error::{Error, Refusal};
 pub use jobs::Workers;
 pub use keys::{Options, PublicKey, Randomizer, SecretKey, Signature, Signer, Verifier};
 pub use sets::{
-    Function, ParameterSet, SlhDsaSha2_128f, SlhDsaSha2_128s, SlhDsaSha2_192f, SlhDsaSha2_192s, SlhDsaSha2_256f,
+    Bytes, Function, ParameterSet, SlhDsaSha2_128f, SlhDsaSha2_128s, SlhDsaSha2_192f, SlhDsaSha2_192s, SlhDsaSha2_256f,
     SlhDsaSha2_256s,
 };
 

@@ -1,0 +1,51 @@
+//! The declarations of this crate against the headers of the library.
+
+const DECLARATIONS: &str = include_str!("../src/lib.rs");
+const HEADERS: [&str; 2] =
+    [include_str!("../../../../include/slh.h"), include_str!("../../../../include/slh_verify.h")];
+
+/// The parameters between the brackets of a declaration, without line feeds.
+fn parameters(declaration: &str) -> Vec<String> {
+    let inside = declaration.split_once('(').and_then(|(_, rest)| rest.split_once(')')).expect("brackets").0;
+    let words = inside.split_whitespace().collect::<Vec<_>>().join(" ");
+    words.split(',').map(|it| it.trim().to_owned()).filter(|it| !it.is_empty() && it != "void").collect()
+}
+
+/// A parameter of C as Rust declares it.
+fn in_rust(parameter: &str) -> String {
+    let at = parameter.rfind([' ', '*']).expect("a type and a name") + 1;
+    let (kind, name) = parameter.split_at(at);
+    let kind = match kind.trim() {
+        "uint32_t" => "u32",
+        "size_t" => "usize",
+        "const uint8_t *" => "*const u8",
+        "uint8_t *" => "*mut u8",
+        "uint32_t *" => "*mut u32",
+        "size_t *" => "*mut usize",
+        "char *" => "*mut c_char",
+        other => panic!("no type {other}"),
+    };
+    format!("{name}: {kind}")
+}
+
+#[test]
+fn numbers_are_those_of_the_header() {
+    let lines = HEADERS.iter().flat_map(|header| header.lines());
+    let numbers: Vec<_> = lines.filter_map(|line| line.trim().trim_end_matches(',').split_once(" = ")).collect();
+    for (name, number) in &numbers {
+        assert!(DECLARATIONS.contains(&format!("pub const {name}: u32 = {number};")), "{name} is not {number}");
+    }
+    assert!(numbers.len() > 25, "{} numbers", numbers.len());
+}
+
+#[test]
+fn calls_are_those_of_the_headers() {
+    let calls: Vec<_> = HEADERS.iter().flat_map(|header| header.split("\nuint32_t ").skip(1)).collect();
+    for call in &calls {
+        let name = call.split('(').next().expect("a name");
+        let found = DECLARATIONS.split(&format!("pub fn {name}(")).nth(1).expect(name);
+        let declared = parameters(&format!("({found}"));
+        assert_eq!(declared, parameters(call).iter().map(|it| in_rust(it)).collect::<Vec<_>>(), "{name}");
+    }
+    assert_eq!(calls.len(), DECLARATIONS.matches("pub fn ").count());
+}
