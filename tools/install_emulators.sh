@@ -1,8 +1,10 @@
 #!/usr/bin/env bash
-# Installs from Debian what tests run that is not on every machine: for tools/targets_tests.sh a C compiler for 64-bit
-# ARM, an emulator of it, and Node; Go for tools/packages_tests.sh. Where FOLDER is given, OpenSSL 3.5 of Debian 13 is
-# unpacked there for tools/openssl_keys.sh and tools/benchmark.py: FOLDER/openssl is the command, FOLDER/include and
-# FOLDER/lib are for programs. No other script here uses the network. It needs to be root.
+# Installs from Debian what tests run that is not on every machine, and skip without it: for tools/targets_tests.sh a C
+# compiler for 64-bit ARM, an emulator of it, and Node; for tools/packages_tests.sh Go; for tools/archive_tests.py
+# dask.distributed; for tools/debian_tests.sh lintian and zsh; for tools/web_tests.py Chromium. Where FOLDER is given,
+# OpenSSL 3.5 of Debian 13 is unpacked there for tools/openssl_keys.sh and tools/benchmark.py: FOLDER/openssl, or
+# `openssl-3.5`, is the command, FOLDER/include and FOLDER/lib are for programs. No other script here uses the network.
+# It needs to be root.
 #
 # usage: tools/install_emulators.sh [FOLDER]
 set -euo pipefail
@@ -38,4 +40,5 @@ cat >"$folder/openssl" <<END_OF_SCRIPT
 exec $folder/lib/ld-linux-x86-64.so.2 --library-path $folder/lib $folder/openssl.program "\$@"
 END_OF_SCRIPT
 chmod +x "$folder/openssl"
-"$folder/openssl" version
+ln -sf "$folder/openssl" /usr/local/bin/openssl-3.5
+openssl-3.5 version

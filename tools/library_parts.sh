@@ -24,7 +24,8 @@ one() {
     fi
 }
 
-# Runs a command whose last line is 'N passed, M failed', and adds up the counts. One that ends otherwise has failed.
+# Runs a command whose last line is 'N passed, M failed', and adds up the counts. One that ends otherwise has failed. What
+# it skips is shown.
 count() {
     local name=$1 status
     shift
@@ -32,6 +33,7 @@ count() {
     status=$?
     add_counts $status "$work/said"
     [ "$status" = 0 ] || tail -n 20 "$work/said"
+    grep SKIPPED "$work/said"
     echo "$name: $(tail -n 1 "$work/said")"
 }
 

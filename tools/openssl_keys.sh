@@ -7,9 +7,9 @@
 #
 # usage: tools/openssl_keys.sh [PROGRAM]
 #
-# PROGRAM is crates/slh/out/slh without it; OPENSSL names another command than `openssl`. Where it has no SLH-DSA, it says
-# so, and all is skipped: it counts neither as passed nor as failed. tools/install_emulators.sh installs one. The last
-# line has the counts, and the status is 0 where nothing failed.
+# PROGRAM is crates/slh/out/slh without it. The command is the one that OPENSSL names, else `openssl-3.5`, which
+# tools/install_emulators.sh installs, or `openssl`. Where it has no SLH-DSA, the script says so, and all is skipped: it
+# counts neither as passed nor as failed. The last line has the counts, and the status is 0 where nothing failed.
 set -u
 here=$(cd "$(dirname "${BASH_SOURCE[0]}")/.." && pwd)
 program=$(realpath "${1:-$here/crates/slh/out/slh}")
@@ -18,7 +18,7 @@ trap 'rm -rf "$work"' EXIT
 cd "$work" || exit 1
 source "$here/tools/counts.sh"
 source "$here/tools/library_parts.sh"
-openssl=${OPENSSL:-openssl}
+openssl=${OPENSSL:-$(command -v openssl-3.5 || echo openssl)}
 
 # What stands in DER before the 4n bytes of a private key and before the 2n bytes of a public key, from the table of
 # docs/LIBRARY.md.

@@ -1,8 +1,10 @@
 #!/usr/bin/env bash
 # Tries a release as somebody has it who has no kit: ./slh and tools/library.sh over a copy of this repository, with a
 # dist/ that tools/release.sh makes for this. README's commands sign and verify, LIBRARY's two link a C program, also in a
-# root in which there is no kit; damaged and missing files are neither run nor installed; other sources are told.
-# Before that it looks whether dist/ is what the sources give, as tools/release.sh --check does.
+# root in which there is no kit; damaged and missing files are neither run nor installed; other sources are told. What is
+# made of a release is tried over it: the packages of bindings/, Debian packages, the page that verifies, the examples for
+# much work, and keys to and from OpenSSL.
+# Before all that it looks whether dist/ is what the sources give, as tools/release.sh --check does.
 #
 # usage: tools/release_tests.sh
 #
@@ -184,6 +186,18 @@ level_is_chosen() {
     [ $? = 2 ] && grep -q 'not of the level x86-64-v2' "$work/err"
 }
 
+# Runs the tests of what is made of a release, over this one.
+count_what_is_made() {
+    copy_anew
+    one "the library for the packages is installed" bare tools/library.sh prefix
+    one "the module for the packages is installed" bare tools/library.sh --target wasm64 wasm
+    count "packages" "$here/tools/packages_tests.sh" --prefix "$copy/prefix" --wasm "$copy/wasm"
+    count "Debian packages" "$here/tools/debian_tests.sh" "$work/made"
+    count "the page that verifies" "$here/tools/web_tests.py" "$work/made"
+    count "the examples for much work" "$here/tools/archive_tests.py" "$work/made/x86-64-v2/libslh.so.0"
+    count "keys to and from OpenSSL" "$here/tools/openssl_keys.sh" "$work/made/x86-64-v2/slh"
+}
+
 mkdir "$stub"
 printf '#!/bin/sh\ntouch "%s"\nexit 3\n' "$work/called" >"$stub/rt"
 chmod +x "$stub/rt"
@@ -194,7 +208,6 @@ if command -v rt >/dev/null && PATH=$without_rt command -v rt >/dev/null; then
 fi
 
 count "dist/" "$here/tools/release.sh" --after-ci --check "$work/made"
-grep SKIPPED "$work/said"
 if [ -f "$work/made/BUILD" ]; then
     one "README's and LIBRARY's commands without rt" signs_in_the_copy
     one "a damaged or missing program is not run" damaged_program_is_not_run
@@ -211,6 +224,7 @@ if [ -f "$work/made/BUILD" ]; then
     else
         echo "a root without the kit: SKIPPED, since unshare is refused"
     fi
+    count_what_is_made
 else
     tell "a release is built" no
 fi
