@@ -3,9 +3,9 @@
 # wrong bodies, whether docs/CONTRACTS.md is what the sources say, the library against the tables of known values, and then
 # the program that `rt ci` has built, over tables of command lines, over the vectors of other implementations, over pipes
 # and broken streams, with each growth of memory refused, and with little stack and address space; and the library for C,
-# on this machine and under emulators of others, and as a release hands it out. The last line has the counts of all, and the
-# status is 0 where nothing failed. Before it stand the processor minutes of each part; a part that took more than
-# docs/CONTRIBUTING.md grants it is told, and is no failure.
+# on this machine and under emulators of others, and as a release hands it out, with the packages that are made of it. The
+# last line has the counts of all, and the status is 0 where nothing failed. Before it stand the processor minutes of each
+# part; a part that took more than docs/CONTRIBUTING.md grants it is told, and is no failure.
 #
 # usage: tools/test.sh             all of it
 #        tools/test.sh --quick     without `rt ci`, the tables and the library, over what earlier checks kept: the layout of
