@@ -8,6 +8,9 @@ connections encrypted (`distributed.security.Security`), and let no worker write
 KEY has the 128 bytes of a secret key, and each worker reads it and the library under the same paths as this program.
 Both signatures are of the deterministic variant, so that they can be compared. One that is given away takes 32 fresh
 random bytes, os.urandom(32), in place of the empty randomizer.
+
+By two workers on one busy machine this took about as long as slh_sign alone, and longer with the build for x86-64-v3.
+Other clusters were not tried.
 """
 import ctypes
 import os
@@ -31,13 +34,19 @@ def call(name, *arguments):
         raise RuntimeError(f"{name}: {result}")
 
 
-def answer(job, start):
-    """Does one job: where its answer stands, and the answer. This is what the workers run."""
+def answer(job, sk, start):
+    """Does one job: where its answer stands, and the answer."""
     at, length = ctypes.c_size_t(), ctypes.c_size_t()
     call("slh_answer_place", SET, *LEVELS, job, ctypes.byref(at), ctypes.byref(length))
     made = ctypes.create_string_buffer(length.value)
-    call("slh_sign_job", SET, *LEVELS, pathlib.Path(KEY).read_bytes(), start, job, made)
+    call("slh_sign_job", SET, *LEVELS, sk, start, job, made)
     return at.value, made.raw
+
+
+def some_answers(jobs, start):
+    """Does some jobs. This is what the workers run."""
+    sk = pathlib.Path(KEY).read_bytes()
+    return [answer(job, sk, start) for job in jobs]
 
 
 def sign_by_jobs(client, sk, message):
@@ -45,9 +54,11 @@ def sign_by_jobs(client, sk, message):
     call("slh_sign_jobs", SET, *LEVELS, *map(ctypes.byref, (jobs, start_len, answers_len)))
     start, sig = ctypes.create_string_buffer(start_len.value), ctypes.create_string_buffer(SIGNATURE)
     call("slh_sign_start", SET, sk, message, b"", b"", start)
-    answers = bytearray(answers_len.value)
-    for at, made in client.gather(client.map(answer, range(jobs.value), start=start.raw, pure=False)):
-        answers[at : at + len(made)] = made
+    answers, parts = bytearray(answers_len.value), 4 * sum(client.nthreads().values())
+    shared = [range(first, jobs.value, parts) for first in range(parts)]
+    for some in client.gather(client.map(some_answers, shared, start=start.raw, pure=False)):
+        for at, made in some:
+            answers[at : at + len(made)] = made
     call("slh_sign_join", SET, *LEVELS, sk, start, bytes(answers), sig)
     return sig.raw
 
