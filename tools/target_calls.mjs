@@ -10,10 +10,16 @@ import readline from "node:readline";
 const wasm = new WebAssembly.Instance(new WebAssembly.Module(fs.readFileSync(process.argv[2])), {}).exports;
 const first = Math.ceil(Number(wasm.__heap_base.value) / 16) * 16;
 
-// Makes the memory at least so many bytes long. `grow` counts pages of 65536 bytes.
+// Makes the memory at least so many bytes long. `grow` counts pages of 65536 bytes, which are a BigInt to newer engines.
 function reserve(end) {
     const lacking = Math.ceil((end - wasm.memory.buffer.byteLength) / 65536);
-    if (lacking > 0) wasm.memory.grow(lacking);
+    if (lacking <= 0) return;
+    try {
+        wasm.memory.grow(BigInt(lacking));
+    } catch (error) {
+        if (!(error instanceof TypeError)) throw error;
+        wasm.memory.grow(lacking);
+    }
 }
 
 for await (const line of readline.createInterface({ input: process.stdin })) {
