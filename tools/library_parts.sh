@@ -12,7 +12,7 @@ can_run() {
     done
 }
 
-# Runs a command, and tells by NAME whether its status was 0. What it prints is shown where it was not.
+# Runs a command, and tells by NAME whether its status was 0. Where it was not, what it prints is shown, and the status is 1.
 one() {
     local name=$1
     shift
@@ -21,6 +21,7 @@ one() {
     else
         tail -n 20 "$work/said"
         tell "$name" no
+        return 1
     fi
 }
 
