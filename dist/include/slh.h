@@ -1,0 +1,321 @@
+/*
+ * SLH-DSA (FIPS 205, August 2024) with SHA-2: keys, signing and verifying for the six SHA-2 parameter sets.
+ *
+ *   slh_keygen, slh_public            to make a secret key, and to give away its public key
+ *   slh_check                         to look at a secret key that comes from elsewhere, once
+ *   slh_sign, slh_verify              to sign and verify a message that stands in memory whole
+ *   slh_hash_sign_digest, slh_hash_verify_digest
+ *                                     the same for a message that is read in pieces: you compute its digest
+ *   slh_hash_sign, slh_hash_verify    the same with the message, of which these compute the digest
+ *   slh_sign_jobs, slh_sign_start, slh_answer_place, slh_sign_job, slh_sign_join
+ *                                     to have one signature computed by threads or processes of your own
+ *   slh_keygen_jobs, slh_keygen_job, slh_keygen_join
+ *                                     the same for a key
+ *   slh_lengths, slh_refusal_name, slh_version
+ *                                     lengths by a set's number, the name of a refusal, the library's version
+ *
+ * slh_verify.h, which this header includes, declares what verifies, the numbers and the lengths.
+ *
+ *
+ * Duties of the caller, which nothing checks
+ *
+ * - Each pointer to bytes is followed by their number. It points to that many bytes, which may be read, and for an
+ *   output also written, until the call returns. Where the number is 0 the pointer may be null. No number is above
+ *   PTRDIFF_MAX.
+ * - A pointer to one number (slh_lengths, slh_sign_jobs, slh_answer_place, slh_keygen_jobs) is not null, and is aligned
+ *   as its type.
+ * - An output overlaps no other argument, and nothing else writes to an argument while the call runs.
+ * - Seeds and randomizers are n fresh bytes from a source that is fit for keys: this library draws none. A randomizer
+ *   of n bytes is FIPS 205's opt_rand; one of 0 bytes makes the deterministic variant (section 9.2).
+ *
+ * All else is tested: any number may stand for a set, a pre-hash function or a refusal, and any length is taken.
+ *
+ * No call allocates memory or keeps anything between calls. Any number of threads may be in any of the calls at once.
+ * Nothing is claimed of the time that a call takes, or of what it leaves on the stack.
+ *
+ *
+ * Arguments stand in this order, as far as a call has them:
+ *
+ *   1  set             5  message       9  job
+ *   2  function        6  context       10 answers
+ *   3  levels          7  randomizer    11 output or signature
+ *   4  key or seeds    8  start
+ *
+ * The seeds are SK.seed, SK.prf and PK.seed, in this order. A digest stands in place of the message.
+ *
+ *
+ * Each call but slh_version returns SLH_DONE (0), SLH_INVALID (30, only slh_check and the verify calls), or a refusal's
+ * number. What is not valid is judged in this order, and the number of the first is returned:
+ *
+ *   SLH_NO_SUCH_SET            the number is not a set's
+ *   SLH_NO_SUCH_FUNCTION       the number is not a pre-hash function's
+ *   SLH_BAD_CUTTING            a number of levels is above 8 or above the height of the trees
+ *   SLH_NO_SUCH_JOB            the number is no job's
+ *   SLH_BAD_LENGTH             the key has another length than the set's keys
+ *   SLH_BAD_SEED_LENGTH        a seed has another length than n bytes
+ *   SLH_BAD_DIGEST_LENGTH      the digest has another length than the function's digests
+ *   SLH_BAD_RANDOMIZER_LENGTH  the randomizer has neither 0 nor n bytes
+ *   SLH_BAD_START_LENGTH       the start has another length than the set's
+ *   SLH_BAD_OUTPUT_LENGTH      the output has another length than what is written
+ *   SLH_BAD_ANSWERS_LENGTH     the answers have another length than those of all jobs
+ *   SLH_BAD_START              the start does not have its tag under this key
+ *   SLH_ANSWERS_DISAGREE       the answers don't fit together
+ *   SLH_CONTEXT_TOO_LONG       signing under a context of over 255 bytes
+ *
+ * An output is written where SLH_DONE is returned, and is as it was for every other number. Test for SLH_DONE.
+ */
+#ifndef SLH_H
+#define SLH_H
+
+#include <slh_verify.h>
+
+#ifdef __cplusplus
+extern "C" {
+#endif
+
+/* The length of a secret key SK.seed || SK.prf || PK.seed || PK.root in bytes, 4n. */
+#define SLH_DSA_SHA2_128S_SECRET_KEY 64
+#define SLH_DSA_SHA2_128F_SECRET_KEY 64
+#define SLH_DSA_SHA2_192S_SECRET_KEY 96
+#define SLH_DSA_SHA2_192F_SECRET_KEY 96
+#define SLH_DSA_SHA2_256S_SECRET_KEY 128
+#define SLH_DSA_SHA2_256F_SECRET_KEY 128
+#define SLH_MAX_SECRET_KEY 128
+
+/* The length of a start in bytes: R, the digest of the message and a tag, 2n + m. */
+#define SLH_DSA_SHA2_128S_START 62
+#define SLH_DSA_SHA2_128F_START 66
+#define SLH_DSA_SHA2_192S_START 87
+#define SLH_DSA_SHA2_192F_START 90
+#define SLH_DSA_SHA2_256S_START 111
+#define SLH_DSA_SHA2_256F_START 113
+#define SLH_MAX_START 113
+
+/* The most bytes of a refusal's name with the zero byte after it. */
+#define SLH_MAX_NAME 20
+
+/*
+ * To size buffers by a set's number: writes the lengths of its public keys, secret keys and signatures in bytes, and n.
+ * Returns: SLH_DONE; SLH_NO_SUCH_SET.
+ */
+SLH_MUST_USE SLH_API
+uint32_t slh_lengths(uint32_t set, size_t *pk_len, size_t *sk_len, size_t *sig_len, size_t *n);
+
+/*
+ * To make a key: writes the secret key of the seeds SK.seed, SK.prf and PK.seed, n fresh random bytes each, into the 4n
+ * bytes of sk (Algorithm 18). The seeds are as secret as the key.
+ * Returns: SLH_DONE; SLH_NO_SUCH_SET, SLH_BAD_SEED_LENGTH, SLH_BAD_OUTPUT_LENGTH.
+ */
+SLH_MUST_USE SLH_API
+uint32_t slh_keygen(uint32_t set, const uint8_t *sk_seed, size_t sk_seed_len, const uint8_t *sk_prf,
+                    size_t sk_prf_len, const uint8_t *pk_seed, size_t pk_seed_len, uint8_t *sk, size_t sk_len);
+
+/*
+ * To give away what verifies: writes the public key of a secret key of 4n bytes, its last 2n bytes, into pk.
+ * Returns: SLH_DONE; SLH_NO_SUCH_SET, SLH_BAD_LENGTH, SLH_BAD_OUTPUT_LENGTH.
+ */
+SLH_MUST_USE SLH_API
+uint32_t slh_public(uint32_t set, const uint8_t *sk, size_t sk_len, uint8_t *pk, size_t pk_len);
+
+/*
+ * To look at a secret key that comes from elsewhere, or from slh_keygen_join, once: whether its PK.root is the root
+ * that its seeds give. The other calls test the length of a key alone. This takes as long as slh_keygen.
+ * Returns: SLH_DONE where it is, SLH_INVALID where it is not; SLH_NO_SUCH_SET, SLH_BAD_LENGTH.
+ */
+SLH_MUST_USE SLH_API
+uint32_t slh_check(uint32_t set, const uint8_t *sk, size_t sk_len);
+
+/*
+ * To sign a message that stands in memory whole, in the pure form (Algorithm 22). sk has 4n bytes, the context at most
+ * 255 (most use none), the randomizer n fresh random bytes or none, and sig as many as a signature of the set.
+ * Returns: SLH_DONE; SLH_NO_SUCH_SET, SLH_BAD_LENGTH, SLH_BAD_RANDOMIZER_LENGTH, SLH_BAD_OUTPUT_LENGTH,
+ * SLH_CONTEXT_TOO_LONG.
+ */
+SLH_MUST_USE SLH_API
+uint32_t slh_sign(uint32_t set, const uint8_t *sk, size_t sk_len, const uint8_t *msg, size_t msg_len,
+                  const uint8_t *ctx, size_t ctx_len, const uint8_t *randomizer, size_t randomizer_len, uint8_t *sig,
+                  size_t sig_len);
+
+/*
+ * To sign a message that is read in pieces: compute its digest under the pre-hash function, and hand that in (Algorithm
+ * 23 after its pre-hash). Digests have the lengths that slh_hash_verify_digest takes, all else those of slh_sign. A
+ * function weaker than the set makes a weaker signature: docs/LIBRARY.md has a table.
+ * Returns: SLH_DONE; SLH_NO_SUCH_SET, SLH_NO_SUCH_FUNCTION, SLH_BAD_LENGTH, SLH_BAD_DIGEST_LENGTH,
+ * SLH_BAD_RANDOMIZER_LENGTH, SLH_BAD_OUTPUT_LENGTH, SLH_CONTEXT_TOO_LONG.
+ */
+SLH_MUST_USE SLH_API
+uint32_t slh_hash_sign_digest(uint32_t set, uint32_t function, const uint8_t *sk, size_t sk_len,
+                              const uint8_t *digest, size_t digest_len, const uint8_t *ctx, size_t ctx_len,
+                              const uint8_t *randomizer, size_t randomizer_len, uint8_t *sig, size_t sig_len);
+
+/*
+ * To sign a message in memory by its digest, which this computes under the pre-hash function (Algorithm 23): for those
+ * who verify by slh_hash_verify_digest. The lengths are those of slh_sign.
+ * Returns: SLH_DONE; SLH_NO_SUCH_SET, SLH_NO_SUCH_FUNCTION, SLH_BAD_LENGTH, SLH_BAD_RANDOMIZER_LENGTH,
+ * SLH_BAD_OUTPUT_LENGTH, SLH_CONTEXT_TOO_LONG.
+ */
+SLH_MUST_USE SLH_API
+uint32_t slh_hash_sign(uint32_t set, uint32_t function, const uint8_t *sk, size_t sk_len, const uint8_t *msg,
+                       size_t msg_len, const uint8_t *ctx, size_t ctx_len, const uint8_t *randomizer,
+                       size_t randomizer_len, uint8_t *sig, size_t sig_len);
+
+/*
+ * To print what a refusal is: writes the name of its number, as "BadLength", in ASCII and without a zero byte inside,
+ * and zero bytes from there to the end of name, at least one. SLH_MAX_NAME bytes are enough for each name. SLH_DONE and
+ * SLH_INVALID are not refusals.
+ * Returns: SLH_DONE; SLH_NO_SUCH_REFUSAL, SLH_BAD_OUTPUT_LENGTH where name is too short.
+ */
+SLH_API
+uint32_t slh_refusal_name(uint32_t refusal, char *name, size_t name_len);
+
+/*
+ * One signature, or one key, by threads of your own.
+ *
+ * Each XMSS tree of a signature is cut into 2^xmss_levels ranges of its leaves, and each FORS tree into 2^fors_levels.
+ * A range is a job, and what it writes is its answer. slh_sign_start makes the start, a few bytes that all jobs of this
+ * signature are given; slh_sign_job writes the answer of one job, in any thread or process and in any order;
+ * slh_sign_join makes the signature of the answers of all jobs, which stand end to end in one buffer. The set, the
+ * levels, the key and the start are the same in all these calls. The signature is the one that slh_sign makes.
+ *
+ * Answers are secret. They hold whole one-time keys: one answer that somebody reads is the key lost. Keep them as the
+ * secret key is kept, also on the way from one process to another, and erase them once they are joined.
+ *
+ * The start is no secret: R is a part of the signature, the digest follows from R, the public key and the message, and
+ * the third part is a tag. But who writes the start chooses what is signed. So slh_sign_job and slh_sign_join refuse
+ * (SLH_BAD_START) each start that does not have its tag under this key. slh_sign_start and slh_hash_sign_start give it.
+ *
+ * Answers may be any bytes. What slh_sign_join writes is a valid signature, under this key, of the message that the
+ * start was made of, whatever the answers are. It writes nothing unless they fit together:
+ *
+ * - The node of each answer has its tag.
+ * - In every tree the root that the ranges give is the root that the signing leaf's key and path give. A one-time key
+ *   that has signed two different roots, a wrong one and the right one, lets anyone forge with it. So the two are
+ *   compared in every tree before anything is written, and the roots that were compared are those that are signed.
+ * - The root of the top tree is PK.root.
+ *
+ * A tag is HMAC with the hash function of the set (FIPS 205, section 11.2) under SK.prf || SK.seed || PK.seed, cut to n
+ * bytes. Its text has the number of the encoding, those of the set and, for a start, PK.root, R and the digest; for a
+ * node the start, the levels and the job. No two different things have one text. So a start or an answer that was made
+ * under another key or set, of another R or digest, or for another cutting or job has another tag, unless two values of
+ * HMAC are the same.
+ * That none are is not proved: tests try it.
+ *
+ * Bytes of an answer that the signature doesn't need are not looked at.
+ *
+ * What stands where in an answer is no promise: it may be otherwise in the next version of this library. The number of
+ * the encoding is in the text of every tag, so a version with another one refuses these starts and answers as it
+ * refuses those of another key.
+ *
+ *
+ * Faults
+ *
+ * A job tags its node itself: one that is computed wrongly inside a job, by bad memory or a bad processor, is tagged as
+ * a right one is. Of 300 random bit flips inside jobs, 227 gave a signature that is wrong but valid: it verifies, and a
+ * one-time key has signed a wrong value. It is so with slh_sign, too, and with any library that computes each node
+ * once. Verifying before release finds few of them.
+ *
+ * Who fears faults runs each job twice, on different processors, and compares the bytes of the two answers before
+ * joining: docs/LIBRARY.md shows it. To try again after a fault in the deterministic variant is the worst case: the
+ * same message takes the same one-time keys again, with other values to sign. Give each signature a fresh randomizer.
+ */
+
+/*
+ * To plan a signature's jobs: how many it has, the length of its start and that of the answers of all jobs, in bytes.
+ * Levels go from 0 to 8, and at most to the height of the trees: 9, 3, 9, 3, 8, 4 of the XMSS trees and 12, 6, 14, 8,
+ * 14, 9 of the FORS trees, in the order of the sets. A few jobs for each thread are enough.
+ * Returns: SLH_DONE; SLH_NO_SUCH_SET, SLH_BAD_CUTTING.
+ */
+SLH_MUST_USE SLH_API
+uint32_t slh_sign_jobs(uint32_t set, uint32_t xmss_levels, uint32_t fors_levels, uint32_t *jobs, size_t *start_len,
+                       size_t *answers_len);
+
+/*
+ * To find the room of a job's answer: where it begins among the answers of all jobs, and its length, in bytes. Jobs are
+ * numbered from 0.
+ * Returns: SLH_DONE; SLH_NO_SUCH_SET, SLH_BAD_CUTTING, SLH_NO_SUCH_JOB.
+ */
+SLH_MUST_USE SLH_API
+uint32_t slh_answer_place(uint32_t set, uint32_t xmss_levels, uint32_t fors_levels, uint32_t job, size_t *at,
+                          size_t *len);
+
+/*
+ * To begin the signature of a message in the pure form (Algorithm 22): writes R, the digest and their tag into start.
+ * The other lengths are those of slh_sign.
+ * Returns: SLH_DONE; SLH_NO_SUCH_SET, SLH_BAD_LENGTH, SLH_BAD_RANDOMIZER_LENGTH, SLH_BAD_OUTPUT_LENGTH,
+ * SLH_CONTEXT_TOO_LONG.
+ */
+SLH_MUST_USE SLH_API
+uint32_t slh_sign_start(uint32_t set, const uint8_t *sk, size_t sk_len, const uint8_t *msg, size_t msg_len,
+                        const uint8_t *ctx, size_t ctx_len, const uint8_t *randomizer, size_t randomizer_len,
+                        uint8_t *start, size_t start_len);
+
+/*
+ * To begin the signature of a message by its digest, which this computes under the pre-hash function (Algorithm 23).
+ * The lengths are those of slh_sign_start.
+ * Returns: SLH_DONE; SLH_NO_SUCH_SET, SLH_NO_SUCH_FUNCTION, SLH_BAD_LENGTH, SLH_BAD_RANDOMIZER_LENGTH,
+ * SLH_BAD_OUTPUT_LENGTH, SLH_CONTEXT_TOO_LONG.
+ */
+SLH_MUST_USE SLH_API
+uint32_t slh_hash_sign_start(uint32_t set, uint32_t function, const uint8_t *sk, size_t sk_len, const uint8_t *msg,
+                             size_t msg_len, const uint8_t *ctx, size_t ctx_len, const uint8_t *randomizer,
+                             size_t randomizer_len, uint8_t *start, size_t start_len);
+
+/*
+ * To do one job of the signature that start begins, in any thread: writes its answer, of the length that
+ * slh_answer_place tells. What is written follows from the arguments alone. SLH_BAD_START where the start does not have
+ * its tag under this key.
+ * Returns: SLH_DONE; SLH_NO_SUCH_SET, SLH_BAD_CUTTING, SLH_NO_SUCH_JOB, SLH_BAD_LENGTH, SLH_BAD_START_LENGTH,
+ * SLH_BAD_OUTPUT_LENGTH, SLH_BAD_START.
+ */
+SLH_MUST_USE SLH_API
+uint32_t slh_sign_job(uint32_t set, uint32_t xmss_levels, uint32_t fors_levels, const uint8_t *sk, size_t sk_len,
+                      const uint8_t *start, size_t start_len, uint32_t job, uint8_t *answer, size_t answer_len);
+
+/*
+ * To make the signature that start begins, from the answers of all its jobs. Where each answer is what slh_sign_job
+ * writes, it is that of slh_sign or slh_hash_sign. SLH_BAD_START where the start does not have its tag under this key,
+ * SLH_ANSWERS_DISAGREE where the answers don't fit together; under a key of slh_keygen, answers that are what
+ * slh_sign_job writes always do.
+ * Returns: SLH_DONE; SLH_NO_SUCH_SET, SLH_BAD_CUTTING, SLH_BAD_LENGTH, SLH_BAD_START_LENGTH, SLH_BAD_OUTPUT_LENGTH,
+ * SLH_BAD_ANSWERS_LENGTH, SLH_BAD_START, SLH_ANSWERS_DISAGREE.
+ */
+SLH_MUST_USE SLH_API
+uint32_t slh_sign_join(uint32_t set, uint32_t xmss_levels, uint32_t fors_levels, const uint8_t *sk, size_t sk_len,
+                       const uint8_t *start, size_t start_len, const uint8_t *answers, size_t answers_len,
+                       uint8_t *sig, size_t sig_len);
+
+/*
+ * To plan a key's jobs: how many its generation has, where the XMSS tree of the top layer is cut into 2^xmss_levels
+ * ranges, and the length of each answer, 2n bytes. The answer of job i begins at i times this length. These answers are
+ * nodes of the tree of public keys and their tags, and hold no values of one-time keys.
+ * Returns: SLH_DONE; SLH_NO_SUCH_SET, SLH_BAD_CUTTING.
+ */
+SLH_MUST_USE SLH_API
+uint32_t slh_keygen_jobs(uint32_t set, uint32_t xmss_levels, uint32_t *jobs, size_t *answer_len);
+
+/*
+ * To do one job of the generation of the key of these seeds, n bytes each, in any thread: writes its answer.
+ * Returns: SLH_DONE; SLH_NO_SUCH_SET, SLH_BAD_CUTTING, SLH_NO_SUCH_JOB, SLH_BAD_SEED_LENGTH, SLH_BAD_OUTPUT_LENGTH.
+ */
+SLH_MUST_USE SLH_API
+uint32_t slh_keygen_job(uint32_t set, uint32_t xmss_levels, const uint8_t *sk_seed, size_t sk_seed_len,
+                        const uint8_t *sk_prf, size_t sk_prf_len, const uint8_t *pk_seed, size_t pk_seed_len,
+                        uint32_t job, uint8_t *answer, size_t answer_len);
+
+/*
+ * To make the secret key of these seeds, from the answers of all jobs, into the 4n bytes of sk. Where each answer is
+ * what slh_keygen_job writes, it is that of slh_keygen. SLH_ANSWERS_DISAGREE where a node does not have the tag of its
+ * job under these seeds and levels. A node that was computed wrongly has it: call slh_check on the key that is made.
+ * Returns: SLH_DONE; SLH_NO_SUCH_SET, SLH_BAD_CUTTING, SLH_BAD_SEED_LENGTH, SLH_BAD_OUTPUT_LENGTH,
+ * SLH_BAD_ANSWERS_LENGTH, SLH_ANSWERS_DISAGREE.
+ */
+SLH_MUST_USE SLH_API
+uint32_t slh_keygen_join(uint32_t set, uint32_t xmss_levels, const uint8_t *sk_seed, size_t sk_seed_len,
+                         const uint8_t *sk_prf, size_t sk_prf_len, const uint8_t *pk_seed, size_t pk_seed_len,
+                         const uint8_t *answers, size_t answers_len, uint8_t *sk, size_t sk_len);
+
+#ifdef __cplusplus
+}
+#endif
+
+#endif
