@@ -5,7 +5,7 @@ import "C"
 
 import "sync"
 
-// xmssLevels returns the levels by which the XMSS trees of a signature are cut, so that four workers share them evenly
+// xmssLevels returns the levels by which the XMSS trees of a signature are cut, as suits four workers
 // (docs/BENCHMARKS.md). FORS trees are not cut: each is one job.
 func (set Set) xmssLevels() C.uint32_t {
 	switch set {
@@ -13,8 +13,10 @@ func (set Set) xmssLevels() C.uint32_t {
 		return 4
 	case SLH_DSA_SHA2_256S:
 		return 3
+	case SLH_DSA_SHA2_256F:
+		return 1
 	default:
-		return 2
+		return 0
 	}
 }
 

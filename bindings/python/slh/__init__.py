@@ -433,7 +433,7 @@ class _Work:
     def __init__(self, secret: SecretKey) -> None:
         self.set, self.secret = secret.set, secret.to_bytes()
         # The levels of XMSS trees and of FORS trees that suit four workers (docs/BENCHMARKS.md).
-        self.cut = (self.set, {1: 4, 3: 4, 5: 3}.get(self.set, 2), 0)
+        self.cut = (self.set, {1: 4, 3: 4, 5: 3, 6: 1}.get(self.set, 0), 0)
         jobs, start_len, answers_len = ctypes.c_uint32(), ctypes.c_size_t(), ctypes.c_size_t()
         _done("slh_sign_jobs", *self.cut, jobs, start_len, answers_len)
         self.jobs = jobs.value

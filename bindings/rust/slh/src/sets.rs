@@ -74,8 +74,8 @@ macro_rules! parameter_set {
 }
 
 parameter_set!(SlhDsaSha2_128s, SLH_DSA_SHA2_128S, "SLH-DSA-SHA2-128s", 16, 7856, 4);
-parameter_set!(SlhDsaSha2_128f, SLH_DSA_SHA2_128F, "SLH-DSA-SHA2-128f", 16, 17088, 2);
+parameter_set!(SlhDsaSha2_128f, SLH_DSA_SHA2_128F, "SLH-DSA-SHA2-128f", 16, 17088, 0);
 parameter_set!(SlhDsaSha2_192s, SLH_DSA_SHA2_192S, "SLH-DSA-SHA2-192s", 24, 16224, 4);
-parameter_set!(SlhDsaSha2_192f, SLH_DSA_SHA2_192F, "SLH-DSA-SHA2-192f", 24, 35664, 2);
+parameter_set!(SlhDsaSha2_192f, SLH_DSA_SHA2_192F, "SLH-DSA-SHA2-192f", 24, 35664, 0);
 parameter_set!(SlhDsaSha2_256s, SLH_DSA_SHA2_256S, "SLH-DSA-SHA2-256s", 32, 29792, 3);
-parameter_set!(SlhDsaSha2_256f, SLH_DSA_SHA2_256F, "SLH-DSA-SHA2-256f", 32, 49856, 2);
+parameter_set!(SlhDsaSha2_256f, SLH_DSA_SHA2_256F, "SLH-DSA-SHA2-256f", 32, 49856, 1);
