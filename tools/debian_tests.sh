@@ -54,10 +54,10 @@ in_a_root() {
     timeout 120 unshare -rm bash -e -c '
         mount -t tmpfs none "$0/over"
         cd "$0/over"
-        mkdir -p root/{debs,sources,try,tmp,proc,dev} upper work
+        mkdir -p root/{debs,sources,try,tmp,proc,dev} upper scratch
         for it in usr etc var; do
-            mkdir upper/$it work/$it root/$it
-            mount -t overlay none -o "userxattr,lowerdir=/$it,upperdir=$PWD/upper/$it,workdir=$PWD/work/$it" root/$it
+            mkdir upper/$it scratch/$it root/$it
+            mount -t overlay none -o "userxattr,lowerdir=/$it,upperdir=$PWD/upper/$it,workdir=$PWD/scratch/$it" root/$it
         done
         for it in bin sbin lib lib32 lib64; do [ ! -L /$it ] || cp -a /$it root/; done
         mount --bind "$0/debs" root/debs
