@@ -33,6 +33,7 @@ import shutil
 import subprocess
 import sys
 import tempfile
+import time
 
 import kit
 from kit import ROOT, USES
@@ -236,9 +237,11 @@ def try_edits(crate, some, kept):
                     it.write(text)
             how = {"stdin": subprocess.DEVNULL, "stdout": subprocess.PIPE, "stderr": subprocess.STDOUT}
             words = [kit.RATTLE, "check", *kit.words(crate), "--jobs", "1", "--only", refused, "--incremental", kept]
+            start = time.monotonic()
             ran = subprocess.run(words, cwd=copy, text=True, errors="replace", **how)
             found.append((crate, path, *verdict(ran.returncode, ran.stdout, refused, texts)))
-            print(f"{crate}/{os.path.basename(path)}: {'refused' if found[-1][2] else 'FAILED'}: {found[-1][3]}", flush=True)
+            told = f"{'refused' if found[-1][2] else 'FAILED'} in {time.monotonic() - start:.0f} s: {found[-1][3]}"
+            print(f"{crate}/{os.path.basename(path)}: {told}", flush=True)
     return found
 
 
