@@ -5,8 +5,8 @@ import "C"
 
 import "sync"
 
-// xmssLevels returns the levels by which the XMSS trees of a signature are cut, as suits four workers
-// (docs/BENCHMARKS.md). FORS trees are not cut: each is one job.
+// xmssLevels returns the levels by which the XMSS trees of a signature are cut: those that docs/BENCHMARKS.md has for
+// four workers, whatever their number. FORS trees are not cut: each is one job.
 func (set Set) xmssLevels() C.uint32_t {
 	switch set {
 	case SLH_DSA_SHA2_128S, SLH_DSA_SHA2_192S:
@@ -22,9 +22,9 @@ func (set Set) xmssLevels() C.uint32_t {
 
 const forsLevels = C.uint32_t(0)
 
-// signJobs returns the signature that a start begins, which a call writes. That many goroutines do its jobs
-// (docs/LIBRARY.md, "Signing with threads of your own"). A key whose root is not the one that its seeds give signs
-// nothing: AnswersDisagree.
+// signJobs returns the signature that a start begins, which a call writes. That many goroutines do its jobs, or as many
+// as there are jobs (docs/LIBRARY.md, "Signing with threads of your own"). A key whose root is not the one that its
+// seeds give signs nothing: AnswersDisagree.
 func (secret *SecretKey) signJobs(workers int, begin func(start []byte) C.uint32_t) ([]byte, error) {
 	set, levels := C.uint32_t(secret.set), secret.set.xmssLevels()
 	var jobs C.uint32_t
@@ -54,6 +54,9 @@ func (secret *SecretKey) answer(workers int, start []byte, jobs C.uint32_t, answ
 		queue <- job
 	}
 	close(queue)
+	if workers > len(queue) {
+		workers = len(queue)
+	}
 	errs := make([]error, workers)
 	var running sync.WaitGroup
 	for worker := range errs {

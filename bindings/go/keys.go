@@ -21,41 +21,49 @@ type Options struct {
 	Hash crypto.Hash
 	// Deterministic asks for no randomizer (FIPS 205, section 9.2), which is worse where faults are feared.
 	Deterministic bool
-	// Workers is the number of goroutines that compute a signature, where it is above 1. SecretKey.HashSignDigest, and
-	// Sign of a digest, take one alone. Verifying does not look at it.
+	// Workers is the number of goroutines that compute a signature, where it is above 1. No more start than the
+	// signature has jobs. Under a key that Check finds invalid they are refused as AnswersDisagree, where one alone
+	// makes a signature that is not valid. SecretKey.HashSignDigest, and Sign of a digest, take one alone. Verifying
+	// does not look at it.
 	Workers int
 }
 
-// HashFunc returns Hash, so that *Options are crypto.SignerOpts.
-func (options *Options) HashFunc() crypto.Hash {
-	if options == nil {
-		return 0
-	}
+// HashFunc returns Hash, so that Options and *Options are crypto.SignerOpts.
+func (options Options) HashFunc() crypto.Hash {
 	return options.Hash
 }
 
-func (options *Options) context() []byte {
+// value returns the options, and the zero value for nil.
+func (options *Options) value() Options {
 	if options == nil {
-		return nil
+		return Options{}
 	}
-	return options.Context
+	return *options
 }
 
-func (options *Options) workers() int {
-	if options == nil {
-		return 1
+// optionsOf returns what opts say: all of Options and *Options, and of others the hash function.
+func optionsOf(opts crypto.SignerOpts) Options {
+	switch it := opts.(type) {
+	case nil:
+		return Options{}
+	case Options:
+		return it
+	case *Options:
+		return it.value()
+	default:
+		return Options{Hash: opts.HashFunc()}
 	}
-	return options.Workers
 }
 
 // randomizer draws n bytes from a source, by default crypto/rand, or none for the deterministic variant.
-func (options *Options) randomizer(source io.Reader, n int) ([]byte, error) {
-	if options != nil && options.Deterministic {
+func (options Options) randomizer(source io.Reader, n int) ([]byte, error) {
+	if options.Deterministic {
 		return nil, nil
 	}
 	return draw(source, n)
 }
 
+// draw reads bytes from a source, or from crypto/rand where that is nil. A source that fails has its error wrapped.
 func draw(source io.Reader, count int) ([]byte, error) {
 	if source == nil {
 		source = rand.Reader
@@ -105,10 +113,11 @@ func (public *PublicKey) Equal(other crypto.PublicKey) bool {
 // options.Hash is not 0 the message is a digest, as for Sign. Bytes of another length than the set's signatures, and a
 // context of over 255 bytes, are invalid.
 func (public *PublicKey) Verify(message, signature []byte, options *Options) error {
-	if options.HashFunc() != 0 {
-		return public.HashVerifyDigest(functions[options.HashFunc()], message, signature, options)
+	chosen := options.value()
+	if chosen.Hash != 0 {
+		return public.HashVerifyDigest(functions[chosen.Hash], message, signature, options)
 	}
-	context := options.context()
+	context := chosen.Context
 	return done(C.slh_verify(C.uint32_t(public.set), at(public.bytes), size(public.bytes), at(message), size(message),
 		at(context), size(context), at(signature), size(signature)))
 }
@@ -116,7 +125,7 @@ func (public *PublicKey) Verify(message, signature []byte, options *Options) err
 // HashVerify verifies a signature of the pre-hash form, with the message (Algorithm 25). It returns nil where it is
 // valid, and else ErrInvalid. It is refused as NoSuchFunction.
 func (public *PublicKey) HashVerify(function Function, message, signature []byte, options *Options) error {
-	context := options.context()
+	context := options.value().Context
 	return done(C.slh_hash_verify(C.uint32_t(public.set), C.uint32_t(function), at(public.bytes), size(public.bytes),
 		at(message), size(message), at(context), size(context), at(signature), size(signature)))
 }
@@ -124,7 +133,7 @@ func (public *PublicKey) HashVerify(function Function, message, signature []byte
 // HashVerifyDigest verifies a signature of the pre-hash form, with the message's digest. It returns nil where it is
 // valid, and else ErrInvalid. It is refused as NoSuchFunction, and as BadDigestLength.
 func (public *PublicKey) HashVerifyDigest(function Function, digest, signature []byte, options *Options) error {
-	context := options.context()
+	context := options.value().Context
 	return done(C.slh_hash_verify_digest(C.uint32_t(public.set), C.uint32_t(function), at(public.bytes),
 		size(public.bytes), at(digest), size(digest), at(context), size(context), at(signature), size(signature)))
 }
@@ -153,7 +162,7 @@ func NewSecretKey(set Set, bytes []byte) (*SecretKey, error) {
 }
 
 // Generate makes a key (Algorithm 21). Its seeds come from the source, or from crypto/rand where that is nil. It is
-// refused as NoSuchSet.
+// refused as NoSuchSet. Where the source fails, the error is no Refusal, and wraps the source's.
 func Generate(source io.Reader, set Set) (*SecretKey, error) {
 	lengths, err := set.Lengths()
 	if err != nil {
@@ -227,21 +236,22 @@ func (secret *SecretKey) Check() error {
 
 // Sign signs a message in the pure form (Algorithm 22) where opts are nil or opts.HashFunc() is 0. Else the message is
 // a digest under that hash function, and is signed in the pre-hash form, as HashSignDigest does. The options are those
-// of *Options, or the default where opts are of another type. The randomizer comes from the source, or from crypto/rand
-// where that is nil. It is refused as ContextTooLong where the context has over 255 bytes, as NoSuchFunction and as
-// BadDigestLength.
+// of Options or *Options, or the default where opts are of another type. The randomizer comes from the source, or from
+// crypto/rand where that is nil. It is refused as ContextTooLong where the context has over 255 bytes, as
+// NoSuchFunction and as BadDigestLength, and by Workers above 1 as AnswersDisagree under a key that Check finds
+// invalid. Where the source fails, the error is no Refusal, and wraps the source's.
 func (secret *SecretKey) Sign(source io.Reader, message []byte, opts crypto.SignerOpts) ([]byte, error) {
-	options, _ := opts.(*Options)
-	if opts != nil && opts.HashFunc() != 0 {
-		return secret.HashSignDigest(source, functions[opts.HashFunc()], message, options)
+	options := optionsOf(opts)
+	if options.Hash != 0 {
+		return secret.HashSignDigest(source, functions[options.Hash], message, &options)
 	}
 	randomizer, err := options.randomizer(source, secret.lengths.N)
 	if err != nil {
 		return nil, err
 	}
-	context := options.context()
-	if options.workers() > 1 {
-		return secret.signJobs(options.workers(), func(start []byte) C.uint32_t {
+	context := options.Context
+	if options.Workers > 1 {
+		return secret.signJobs(options.Workers, func(start []byte) C.uint32_t {
 			return C.slh_sign_start(C.uint32_t(secret.set), at(secret.bytes), size(secret.bytes), at(message),
 				size(message), at(context), size(context), at(randomizer), size(randomizer), at(start), size(start))
 		})
@@ -253,17 +263,19 @@ func (secret *SecretKey) Sign(source io.Reader, message []byte, opts crypto.Sign
 }
 
 // HashSign signs a message in the pre-hash form (Algorithm 23), with a digest that this computes. A function that is
-// weaker than the set makes a weaker signature. It is refused as ContextTooLong and as NoSuchFunction.
+// weaker than the set makes a weaker signature. It is refused as ContextTooLong and as NoSuchFunction, and by Workers
+// above 1 as AnswersDisagree under a key that Check finds invalid. Where the source fails, the error is that of Sign.
 func (secret *SecretKey) HashSign(
 	source io.Reader, function Function, message []byte, options *Options,
 ) ([]byte, error) {
-	randomizer, err := options.randomizer(source, secret.lengths.N)
+	chosen := options.value()
+	randomizer, err := chosen.randomizer(source, secret.lengths.N)
 	if err != nil {
 		return nil, err
 	}
-	context := options.context()
-	if options.workers() > 1 {
-		return secret.signJobs(options.workers(), func(start []byte) C.uint32_t {
+	context := chosen.Context
+	if chosen.Workers > 1 {
+		return secret.signJobs(chosen.Workers, func(start []byte) C.uint32_t {
 			return C.slh_hash_sign_start(C.uint32_t(secret.set), C.uint32_t(function), at(secret.bytes),
 				size(secret.bytes), at(message), size(message), at(context), size(context), at(randomizer),
 				size(randomizer), at(start), size(start))
@@ -277,15 +289,17 @@ func (secret *SecretKey) HashSign(
 }
 
 // HashSignDigest signs a message in the pre-hash form (Algorithm 23) by its digest, for messages that are read in
-// pieces. It is refused as HashSign, and as BadDigestLength where the digest has another length than the function's.
+// pieces. It is refused as ContextTooLong, as NoSuchFunction, and as BadDigestLength where the digest has another
+// length than the function's. Where the source fails, the error is that of Sign.
 func (secret *SecretKey) HashSignDigest(
 	source io.Reader, function Function, digest []byte, options *Options,
 ) ([]byte, error) {
-	randomizer, err := options.randomizer(source, secret.lengths.N)
+	chosen := options.value()
+	randomizer, err := chosen.randomizer(source, secret.lengths.N)
 	if err != nil {
 		return nil, err
 	}
-	context := options.context()
+	context := chosen.Context
 	return secret.signature(func(sig []byte) C.uint32_t {
 		return C.slh_hash_sign_digest(C.uint32_t(secret.set), C.uint32_t(function), at(secret.bytes),
 			size(secret.bytes), at(digest), size(digest), at(context), size(context), at(randomizer), size(randomizer),

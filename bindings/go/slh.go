@@ -6,6 +6,9 @@
 //	signature, err := secret.Sign(nil, message, nil)
 //	err = public.Verify(message, signature, nil)
 //
+// The first nil of Generate and Sign is the source of random bytes, and stands for crypto/rand. The last one of Sign
+// and Verify stands for Options{}.
+//
 // The names are those of libslh: docs/LIBRARY.md of its repository says what each call does and what is proved of it.
 // A call that is refused returns a Refusal, with libslh's number and name. Verify and Check return nil where the
 // signature or the key is valid, and ErrInvalid where it is not.
@@ -98,7 +101,7 @@ var functions = map[crypto.Hash]Function{
 // ErrInvalid says that a signature is not valid, or that the root of a secret key is not the one that its seeds give.
 var ErrInvalid = errors.New("slh: invalid")
 
-// A Refusal is the number of the reason why a call was refused, libslh's.
+// A Refusal is the number of the reason why a call was refused, libslh's: errors.Is(err, slh.ContextTooLong).
 type Refusal uint32
 
 // The refusals that calls of this package return.

@@ -10,10 +10,12 @@ import (
 	"encoding/json"
 	"errors"
 	"fmt"
+	"math"
 	"os"
 	"path/filepath"
 	"strings"
 	"testing"
+	"testing/iotest"
 )
 
 const fast = SLH_DSA_SHA2_128F
@@ -342,8 +344,61 @@ func TestRefusals(t *testing.T) {
 	expectRefusal(t, err, BadDigestLength, 16, "BadDigestLength")
 	err = secret.PublicKey().HashVerifyDigest(SLH_SHA2_256, make([]byte, 31), nil, nil)
 	expectRefusal(t, err, BadDigestLength, 16, "BadDigestLength")
-	_, err = wrongRoot(t, secret).Sign(nil, []byte("letter"), &Options{Workers: 2})
+}
+
+func TestAWrongRootSignsNothingValid(t *testing.T) {
+	wrong := wrongRoot(t, generate(t))
+	_, err := wrong.Sign(nil, []byte("letter"), &Options{Workers: 2})
 	expectRefusal(t, err, AnswersDisagree, 25, "AnswersDisagree")
+	_, err = wrong.HashSign(nil, SLH_SHA2_256, []byte("letter"), &Options{Workers: 2})
+	expectRefusal(t, err, AnswersDisagree, 25, "AnswersDisagree")
+	signature := sign(t, wrong, "letter", nil)
+	if err := wrong.PublicKey().Verify([]byte("letter"), signature, nil); !errors.Is(err, ErrInvalid) {
+		t.Error(err)
+	}
+}
+
+func TestOptionsAreValuesAndPointers(t *testing.T) {
+	secret, letter := generate(t), []byte("letter")
+	options := Options{Context: []byte("letters"), Deterministic: true}
+	for _, hash := range []crypto.Hash{0, crypto.SHA256} {
+		options.Hash = hash
+		message := letter
+		if hash != 0 {
+			message = digest(hash, letter)
+		}
+		byValue, err := secret.Sign(nil, message, options)
+		if err != nil {
+			t.Fatal(err)
+		}
+		byPointer, err := secret.Sign(nil, message, &options)
+		if err != nil || !bytes.Equal(byValue, byPointer) {
+			t.Error(hash, "signs otherwise by a pointer", err)
+		}
+		if err := secret.PublicKey().Verify(message, byValue, &options); err != nil {
+			t.Error(hash, err)
+		}
+	}
+}
+
+func TestMoreWorkersThanJobs(t *testing.T) {
+	secret := generate(t)
+	one := sign(t, secret, "letter", &Options{Deterministic: true})
+	if !bytes.Equal(one, sign(t, secret, "letter", &Options{Deterministic: true, Workers: math.MaxInt})) {
+		t.Error("many workers sign otherwise")
+	}
+}
+
+func TestAFailedSourceIsNoRefusal(t *testing.T) {
+	secret, failed := generate(t), errors.New("no bytes")
+	_, generated := Generate(iotest.ErrReader(failed), fast)
+	_, signed := secret.Sign(iotest.ErrReader(failed), []byte("letter"), nil)
+	for _, err := range []error{generated, signed} {
+		var refusal Refusal
+		if !errors.Is(err, failed) || errors.As(err, &refusal) {
+			t.Error(err)
+		}
+	}
 }
 
 func TestSecretsAreNotPrinted(t *testing.T) {
