@@ -6,8 +6,8 @@
 //	signature, err := secret.Sign(nil, message, nil)
 //	err = public.Verify(message, signature, nil)
 //
-// The first nil of Generate and Sign is the source of random bytes, and stands for crypto/rand. The last one of Sign
-// and Verify stands for Options{}.
+// The first argument of Generate and Sign is the source of random bytes, where nil stands for crypto/rand. The last one
+// of Sign and Verify are Options, where nil stands for Options{}.
 //
 // The names are those of libslh: docs/LIBRARY.md of its repository says what each call does and what is proved of it.
 // A call that is refused returns a Refusal, with libslh's number and name. Verify and Check return nil where the

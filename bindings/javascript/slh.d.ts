@@ -1,6 +1,9 @@
 /**
  * SLH-DSA (FIPS 205) with SHA-2: keys, signing and verifying, over the WebAssembly module slh.wasm. The names are those
  * of libslh: docs/LIBRARY.md of its repository says what each call does and what is proved of it.
+ *
+ * Each call throws a TypeError that names what is wanted where an argument is of another kind, as the text
+ * "SLH-DSA-SHA2-128f" for a set, and where options have a name that is not one of theirs.
  */
 
 /** libslh's number of a parameter set (FIPS 205, section 11, Table 2). */

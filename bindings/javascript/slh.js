@@ -9,8 +9,8 @@
  *     publicKey.verify(message, signature); // true
  *
  * The names are those of libslh: docs/LIBRARY.md of its repository says what each call does and what is proved of it.
- * Bytes are Uint8Arrays. A call that is refused throws a Refusal, with libslh's number and name. `verify` and `check`
- * return true or false.
+ * Bytes are Uint8Arrays. A call that is refused throws a Refusal, with libslh's number and name, and one that is given
+ * an argument of another kind, or an option of another name, a TypeError. `verify` and `check` return true or false.
  *
  * Each signature has a fresh randomizer from crypto.getRandomValues, unless one is given or `deterministic: true` asks
  * for none. What a call was handed is overwritten in the module's memory when it returns; its stack, and the arrays of
@@ -44,6 +44,8 @@ const PAGE = 65536;
 
 const NAMES = ["", "128s", "128f", "192s", "192f", "256s", "256f"];
 const NONE = new Uint8Array(0);
+const SIGN_OPTIONS = ["context", "randomizer", "deterministic"];
+const VERIFY_OPTIONS = ["context"];
 
 /** A call was refused: `number` and `name` are libslh's, as 2 and "ContextTooLong". */
 export class Refusal extends Error {
@@ -82,16 +84,12 @@ class Calls {
         this.#first = aligned(Number(wasm.__heap_base.value));
     }
 
-    /** Calls with numbers as they are, and with bytes and rooms as a pointer and a length. Returns the number. */
-    call(name, ...given) {
-        const words = [];
+    /** Calls with numbers, and with bytes and rooms as a pointer and a length each. Returns the number. */
+    call(name, numbers, ...given) {
+        const words = [...numbers];
         const placed = [];
         let end = this.#first;
         for (const it of given) {
-            if (typeof it === "number") {
-                words.push(checkedNumber(it));
-                continue;
-            }
             const bytes = it instanceof Room ? it.bytes : checkedBytes(it);
             placed.push({ it, bytes, at: end });
             words.push(BigInt(end));
@@ -112,31 +110,31 @@ class Calls {
     }
 
     /** Calls, and returns whether it is done, or false where it says invalid. Else it throws a Refusal. */
-    judge(name, ...given) {
-        const result = this.call(name, ...given);
+    judge(name, numbers, ...given) {
+        const result = this.call(name, numbers, ...given);
         if (result === DONE) return true;
         if (result === INVALID) return false;
         throw this.refusal(result);
     }
 
     /** Calls one that writes bytes into its last argument, and returns them. */
-    write(name, length, ...given) {
+    write(name, length, numbers, ...given) {
         const room = new Room(length);
-        const result = this.call(name, ...given, room);
+        const result = this.call(name, numbers, ...given, room);
         if (result !== DONE) throw this.refusal(result);
         return room.bytes;
     }
 
     refusal(number) {
         const room = new Room(MAX_NAME);
-        const isOne = this.call("slh_refusal_name", number, room) === DONE;
+        const isOne = this.call("slh_refusal_name", [number], room) === DONE;
         const letters = room.bytes.subarray(0, room.bytes.indexOf(0));
         return new Refusal(number, isOne ? String.fromCharCode(...letters) : "NoSuchRefusal");
     }
 
     lengths(set) {
         const rooms = [new NumberRoom(), new NumberRoom(), new NumberRoom(), new NumberRoom()];
-        const result = this.call("slh_lengths", set, ...rooms);
+        const result = this.call("slh_lengths", [checkedSet(set)], ...rooms);
         if (result !== DONE) throw this.refusal(result);
         const [publicKey, secretKey, signature, n] = rooms.map((it) => it.value);
         return { publicKey, secretKey, signature, n };
@@ -187,8 +185,28 @@ function checkedBytes(it) {
     return it;
 }
 
-function checkedNumber(it) {
+function checkedNumber(it, wanted, example) {
+    if (!Number.isInteger(it)) throw new TypeError(`${wanted} is needed, as ${example}`);
     if (it >>> 0 !== it) throw new RangeError(`${it} is not a number of 32 bits`);
+    return it;
+}
+
+function checkedSet(it) {
+    return checkedNumber(it, "a parameter set", "SLH_DSA_SHA2_128F");
+}
+
+function checkedFunction(it) {
+    return checkedNumber(it, "a pre-hash function", "SLH_SHA2_256");
+}
+
+/** Options, which have these names alone: a misspelt one is not passed over. */
+function checkedOptions(it, names) {
+    if (typeof it !== "object" || it === null || ArrayBuffer.isView(it)) {
+        throw new TypeError("options are needed, as { context }");
+    }
+    for (const name of Object.keys(it)) {
+        if (!names.includes(name)) throw new TypeError(`there is no option ${name}`);
+    }
     return it;
 }
 
@@ -218,16 +236,21 @@ class PublicKey {
         return Uint8Array.from(this.#bytes);
     }
 
-    verify(message, signature, { context = NONE } = {}) {
-        return this.#calls.judge("slh_verify", this.#set, this.#bytes, message, context, signature);
+    verify(message, signature, options = {}) {
+        return this.#verify("slh_verify", [], message, signature, options);
     }
 
-    hashVerify(hash, message, signature, { context = NONE } = {}) {
-        return this.#calls.judge("slh_hash_verify", this.#set, hash, this.#bytes, message, context, signature);
+    hashVerify(hash, message, signature, options = {}) {
+        return this.#verify("slh_hash_verify", [checkedFunction(hash)], message, signature, options);
     }
 
-    hashVerifyDigest(hash, digest, signature, { context = NONE } = {}) {
-        return this.#calls.judge("slh_hash_verify_digest", this.#set, hash, this.#bytes, digest, context, signature);
+    hashVerifyDigest(hash, digest, signature, options = {}) {
+        return this.#verify("slh_hash_verify_digest", [checkedFunction(hash)], digest, signature, options);
+    }
+
+    #verify(call, hash, text, signature, options) {
+        const { context = NONE } = checkedOptions(options, VERIFY_OPTIONS);
+        return this.#calls.judge(call, [this.#set, ...hash], this.#bytes, text, context, signature);
     }
 
     toString() {
@@ -261,12 +284,12 @@ class SecretKey {
 
     public() {
         const { publicKey } = this.#calls.lengths(this.#set);
-        const bytes = this.#calls.write("slh_public", publicKey, this.#set, this.#bytes);
+        const bytes = this.#calls.write("slh_public", publicKey, [this.#set], this.#bytes);
         return new PublicKey(this.#calls, this.#set, bytes);
     }
 
     check() {
-        return this.#calls.judge("slh_check", this.#set, this.#bytes);
+        return this.#calls.judge("slh_check", [this.#set], this.#bytes);
     }
 
     sign(message, options = {}) {
@@ -274,18 +297,18 @@ class SecretKey {
     }
 
     hashSign(hash, message, options = {}) {
-        return this.#sign("slh_hash_sign", [hash], message, options);
+        return this.#sign("slh_hash_sign", [checkedFunction(hash)], message, options);
     }
 
     hashSignDigest(hash, digest, options = {}) {
-        return this.#sign("slh_hash_sign_digest", [hash], digest, options);
+        return this.#sign("slh_hash_sign_digest", [checkedFunction(hash)], digest, options);
     }
 
     #sign(call, hash, text, options) {
-        const { context = NONE } = options;
+        const { context = NONE } = checkedOptions(options, SIGN_OPTIONS);
         const randomizer = this.#calls.randomizer(this.#set, options);
         const { signature } = this.#calls.lengths(this.#set);
-        return this.#calls.write(call, signature, this.#set, ...hash, this.#bytes, text, context, randomizer);
+        return this.#calls.write(call, signature, [this.#set, ...hash], this.#bytes, text, context, randomizer);
     }
 
     toString() {
@@ -306,7 +329,7 @@ class Library {
     }
 
     version() {
-        return this.#calls.call("slh_version");
+        return this.#calls.call("slh_version", []);
     }
 
     lengths(set) {
@@ -320,7 +343,7 @@ class Library {
 
     keygen(set, skSeed, skPrf, pkSeed) {
         const { secretKey } = this.lengths(set);
-        return this.secretKey(set, this.#calls.write("slh_keygen", secretKey, set, skSeed, skPrf, pkSeed));
+        return this.secretKey(set, this.#calls.write("slh_keygen", secretKey, [set], skSeed, skPrf, pkSeed));
     }
 
     secretKey(set, bytes) {

@@ -172,6 +172,62 @@ test("what is not valid is refused", () => {
     assert.throws(() => secret.sign("letter"), TypeError);
 });
 
+test("arguments of another kind are told by what is wanted", () => {
+    const set = /a parameter set is needed, as SLH_DSA_SHA2_128F/;
+    const hash = /a pre-hash function is needed, as SLH_SHA2_256/;
+    const data = new Uint8Array(64);
+    for (const wrong of ["SLH-DSA-SHA2-128f", data, undefined, null, true, 2n, 2.5, NaN]) {
+        const calls = [
+            () => slh.lengths(wrong),
+            () => slh.generate(wrong),
+            () => slh.keygen(wrong, data.subarray(48), data.subarray(48), data.subarray(48)),
+            () => slh.secretKey(wrong, data),
+            () => slh.publicKey(wrong, data),
+        ];
+        for (const call of calls) assert.throws(call, { name: "TypeError", message: set });
+        for (const call of [
+            () => secret.hashSign(wrong, letter),
+            () => secret.hashSignDigest(wrong, data.subarray(32)),
+            () => publicKey.hashVerify(wrong, letter, data),
+            () => publicKey.hashVerifyDigest(wrong, data.subarray(32), data),
+        ]) {
+            assert.throws(call, { name: "TypeError", message: hash });
+        }
+    }
+    const bytesNeeded = { name: "TypeError", message: /bytes are needed, as a Uint8Array/ };
+    for (const wrong of ["letter", 7, undefined, [1, 2]]) {
+        assert.throws(() => secret.sign(wrong), bytesNeeded);
+        assert.throws(() => publicKey.verify(letter, wrong), bytesNeeded);
+        assert.throws(() => publicKey.verify(wrong, data), bytesNeeded);
+        assert.throws(() => slh.secretKey(SLH_DSA_SHA2_128F, wrong), bytesNeeded);
+    }
+    assert.throws(() => secret.sign(letter, { context: 7 }), bytesNeeded);
+    assert.throws(() => secret.sign(letter, { randomizer: 7 }), bytesNeeded);
+});
+
+test("options of other names are refused", () => {
+    const context = bytes("letters");
+    const signature = secret.sign(letter);
+    const [digest, hashed] = [new Uint8Array(32), secret.hashSign(SLH_SHA2_256, letter)];
+    const signing = [
+        (options) => secret.sign(letter, options),
+        (options) => secret.hashSign(SLH_SHA2_256, letter, options),
+        (options) => secret.hashSignDigest(SLH_SHA2_256, digest, options),
+    ];
+    const verifying = [
+        (options) => publicKey.verify(letter, signature, options),
+        (options) => publicKey.hashVerify(SLH_SHA2_256, letter, hashed, options),
+        (options) => publicKey.hashVerifyDigest(SLH_SHA2_256, digest, hashed, options),
+    ];
+    for (const call of [...signing, ...verifying]) {
+        assert.throws(() => call({ ctx: context }), { name: "TypeError", message: /no option ctx/ });
+        for (const options of [context, "letters", 7, true, null]) assert.throws(() => call(options), TypeError);
+    }
+    for (const call of verifying) {
+        assert.throws(() => call({ deterministic: true }), { name: "TypeError", message: /no option deterministic/ });
+    }
+});
+
 test("messages may be longer than the memory", async () => {
     const other = await load(module);
     const long = new Uint8Array(5_000_000).fill(7);
