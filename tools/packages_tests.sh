@@ -61,6 +61,8 @@ with_python() {
         "$work/again"
     one "python: both have the same bits" cmp "$work/wheels/$name" "$work/again/$name"
     one "python: the wheel lists what it has" lists_all "$work/wheels/$name"
+    one "python: a relative path of the library is told" misses_library "SLH_PREFIX has to be the absolute path" \
+        env SLH_PREFIX=prefix "$venv/bin/pip" wheel --no-index -w "$work/none" "$package"
     one "python: the wheel is installed" "$venv/bin/pip" install --no-index "$work/wheels/$name"
     one "python: the installed package passes its tests" "$venv/bin/python" -m unittest discover -s "$package/tests"
 }
@@ -89,12 +91,18 @@ with_rust() {
     one "rust: the example signs by threads, over the library of pkg-config" says valid 0 env -u SLH_PREFIX \
         CARGO_TARGET_DIR="$work/cargo" PKG_CONFIG_PATH="$prefix/lib/pkgconfig" cargo run -q --locked --offline \
         "${manifest[@]}" --example sign_threads 2 "$work/letter"
-    one "rust: without a library the build says so" misses_library env -u SLH_PREFIX -u PKG_CONFIG_PATH \
-        PKG_CONFIG_LIBDIR="$work/none" CARGO_TARGET_DIR="$work/cargo" cargo build --locked --offline "${manifest[@]}"
+    one "rust: without a library the build says so" misses_library 'libslh is not found: set SLH_PREFIX' \
+        env -u SLH_PREFIX -u PKG_CONFIG_PATH PKG_CONFIG_LIBDIR="$work/none" CARGO_TARGET_DIR="$work/cargo" \
+        cargo build --locked --offline "${manifest[@]}"
+    one "rust: a relative path of the library is told" misses_library "SLH_PREFIX has to be an absolute path" \
+        env SLH_PREFIX=prefix CARGO_TARGET_DIR="$work/cargo" cargo build --locked --offline "${manifest[@]}"
 }
 
+# Whether a build fails, and says this.
 misses_library() {
-    ! "$@" >"$work/built" 2>&1 && grep -q 'libslh is not found: set SLH_PREFIX' "$work/built"
+    local said=$1
+    shift
+    ! "$@" >"$work/built" 2>&1 && grep -qF -- "$said" "$work/built"
 }
 
 with_go() {

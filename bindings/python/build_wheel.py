@@ -3,7 +3,8 @@
     SLH_PREFIX=PREFIX pip wheel --no-index bindings/python
     SLH_PREFIX=PREFIX python3 bindings/python/build_wheel.py FOLDER
 
-PREFIX is a folder that tools/library.sh has installed into. The same files give the same wheel, bit for bit.
+PREFIX is the absolute path of a folder that tools/library.sh has installed into. The same files give the same wheel, bit
+for bit.
 """
 
 from __future__ import annotations
@@ -35,6 +36,18 @@ Generator: build_wheel.py
 Root-Is-Purelib: false
 Tag: {tag}
 """
+
+
+def installed_prefix() -> pathlib.Path:
+    """The folder that SLH_PREFIX names. pip builds in this folder, where a relative path names another one."""
+    named = os.environ.get("SLH_PREFIX", "")
+    prefix = pathlib.Path(named)
+    if not prefix.is_absolute() or not (prefix / "include" / "slh_verify.h").is_file():
+        sys.exit(
+            "build_wheel.py: SLH_PREFIX has to be the absolute path of the folder that tools/library.sh has installed"
+            f" into, and is {named!r}"
+        )
+    return prefix
 
 
 def installed_version(prefix: pathlib.Path) -> str:
@@ -77,9 +90,7 @@ def build_wheel(
     metadata_directory: str | None = None,
 ) -> str:
     """Writes the wheel into a folder, and returns its name."""
-    if "SLH_PREFIX" not in os.environ:
-        sys.exit("build_wheel.py: SLH_PREFIX has to name the folder that tools/library.sh has installed into")
-    prefix = pathlib.Path(os.environ["SLH_PREFIX"]).resolve()
+    prefix = installed_prefix()
     version = installed_version(prefix)
     files = contents(prefix, version)
     path = f"slh-{version}.dist-info/RECORD"

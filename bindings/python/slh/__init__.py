@@ -6,11 +6,15 @@
     signature = secret.sign(message)
     public.verify(message, signature)
 
-The names are those of libslh: docs/LIBRARY.md of its repository says what each call does and what is proved of it.
-A call that is refused raises Refusal, with libslh's name and number. `verify` and `check` return nothing, and raise
-Invalid where the signature or the key is not valid.
+Messages, contexts, keys and signatures are bytes. The names are those of libslh: docs/LIBRARY.md of its repository says
+what each call does and what is proved of it.
 
-Each signature has a fresh randomizer from the system, unless one is given or `deterministic=True` asks for none.
+There are two exceptions, neither of which is a kind of the other. `verify` and `check` return None, and raise Invalid
+where the answer is no: the signature or the key is not valid. Refusal, a ValueError with libslh's `number` and `name`,
+says that a call was wrong. An argument of another type is a TypeError.
+
+Each signature has a fresh randomizer from the system, unless one is given or `deterministic=True` asks for none. So two
+signatures of one message differ, and both are valid.
 Calls release the interpreter lock while they compute, so that threads compute at the same time. This module can't
 erase keys: Python keeps and copies bytes as it likes.
 """
@@ -117,33 +121,32 @@ def _load() -> ctypes.CDLL:
 _library = _load()
 
 
-def _address(given: Bytes | ctypes.Array[ctypes.c_char]) -> tuple[typing.Any, ctypes.c_size_t]:
-    """The pointer and the length that a call takes for bytes."""
-    if isinstance(given, ctypes.Array):
-        return given, ctypes.c_size_t(len(given))
+def _checked_bytes(given: Bytes) -> bytes:
+    """Bytes for a call. A number in their place would move the arguments behind it."""
     if not isinstance(given, (bytes, bytearray, memoryview)):
         raise TypeError(f"bytes are needed, not {type(given).__name__}")
-    held = bytes(given)
-    return held, ctypes.c_size_t(len(held))
+    return bytes(given)
 
 
-def _number(given: int) -> ctypes.c_uint32:
-    """A number for a call. ctypes alone would cut longer ones to 32 bits."""
+def _checked_number(given: int, kind: type[enum.IntEnum]) -> int:
+    """A number for a call, which stands for a Set or a Function. ctypes alone would cut longer ones to 32 bits."""
+    if not isinstance(given, int):
+        raise TypeError(f"an slh.{kind.__name__} is needed, not {type(given).__name__}")
     if not 0 <= given < 1 << 32:
         raise OverflowError(f"{given} is not a number of 32 bits")
-    return ctypes.c_uint32(given)
+    return given
 
 
-def _call(name: str, *arguments: typing.Any) -> int:
-    """Calls with each number as it is, each reference as it is, and bytes as a pointer and a length."""
+def _call(name: str, *arguments: int | bytes | ctypes.Array[ctypes.c_char] | ctypes._SimpleCData[int]) -> int:
+    """Calls with each number as it is, a reference to each room for one, and bytes as a pointer and a length."""
     words: list[typing.Any] = []
     for it in arguments:
         if isinstance(it, int):
-            words.append(_number(it))
+            words.append(ctypes.c_uint32(it))
         elif isinstance(it, ctypes._SimpleCData):
             words.append(ctypes.byref(it))
         else:
-            words.extend(_address(it))
+            words.extend((it, ctypes.c_size_t(len(it))))
     return int(getattr(_library, name)(*words))
 
 
@@ -165,7 +168,7 @@ def _refusal_name(number: int) -> str:
 
 def _lengths(set: int) -> Lengths:
     found = [ctypes.c_size_t() for _ in range(4)]
-    _done("slh_lengths", set, *found)
+    _done("slh_lengths", _checked_number(set, Set), *found)
     return Lengths(*(it.value for it in found))
 
 
@@ -182,9 +185,18 @@ def _randomizer(n: int, given: Bytes | None, deterministic: bool) -> bytes:
         return b""
     if given is None:
         return _random(n)
-    if len(given) != n:
+    held = _checked_bytes(given)
+    if len(held) != n:
         raise Refusal(_BAD_RANDOMIZER_LENGTH)
-    return bytes(given)
+    return held
+
+
+def _key_bytes(data: Bytes, length: int) -> bytes:
+    """The bytes of a key, which has so many."""
+    held = _checked_bytes(data)
+    if len(held) != length:
+        raise Refusal(_BAD_LENGTH)
+    return held
 
 
 def version() -> int:
@@ -199,9 +211,8 @@ class PublicKey:
 
     def __init__(self, set: int, data: Bytes) -> None:
         """Takes the bytes of a public key. Raises Refusal: NoSuchSet; BadLength unless there are 2n of them."""
-        if len(data) != _lengths(set).public_key:
-            raise Refusal(_BAD_LENGTH)
-        self._set, self._bytes = Set(set), bytes(data)
+        length = _lengths(set).public_key
+        self._set, self._bytes = Set(set), _key_bytes(data, length)
 
     @property
     def set(self) -> Set:
@@ -217,21 +228,25 @@ class PublicKey:
 
         Bytes of another length than the set's signatures and a context of over 255 bytes are invalid.
         """
-        _done("slh_verify", self._set, self._bytes, message, context, signature)
+        self._verify("slh_verify", (), message, context, signature)
 
     def hash_verify(self, function: int, message: Bytes, signature: Bytes, context: Bytes = b"") -> None:
         """Verifies a signature of the pre-hash form, with the message (Algorithm 25).
 
         Raises Invalid unless it is valid. Raises Refusal: NoSuchFunction.
         """
-        _done("slh_hash_verify", self._set, function, self._bytes, message, context, signature)
+        self._verify("slh_hash_verify", (_checked_number(function, Function),), message, context, signature)
 
     def hash_verify_digest(self, function: int, digest: Bytes, signature: Bytes, context: Bytes = b"") -> None:
         """Verifies a signature of the pre-hash form, with the message's digest. Raises Invalid unless it is valid.
 
         Raises Refusal: NoSuchFunction; BadDigestLength where the digest has another length than the function's.
         """
-        _done("slh_hash_verify_digest", self._set, function, self._bytes, digest, context, signature)
+        self._verify("slh_hash_verify_digest", (_checked_number(function, Function),), digest, context, signature)
+
+    def _verify(self, call: str, function: tuple[int, ...], text: Bytes, context: Bytes, signature: Bytes) -> None:
+        given = [_checked_bytes(it) for it in (text, context, signature)]
+        _done(call, self._set, *function, self._bytes, *given)
 
     def __eq__(self, other: object) -> bool:
         if not isinstance(other, PublicKey):
@@ -255,9 +270,8 @@ class SecretKey:
 
         Raises Refusal: NoSuchSet; BadLength unless there are 4n bytes.
         """
-        if len(data) != _lengths(set).secret_key:
-            raise Refusal(_BAD_LENGTH)
-        self._set, self._bytes = Set(set), bytes(data)
+        length = _lengths(set).secret_key
+        self._set, self._bytes = Set(set), _key_bytes(data, length)
 
     @classmethod
     def generate(cls, set: int) -> SecretKey:
@@ -272,7 +286,7 @@ class SecretKey:
         Raises Refusal: NoSuchSet, BadSeedLength.
         """
         secret = ctypes.create_string_buffer(_lengths(set).secret_key)
-        _done("slh_keygen", set, sk_seed, sk_prf, pk_seed, secret)
+        _done("slh_keygen", set, *(_checked_bytes(it) for it in (sk_seed, sk_prf, pk_seed)), secret)
         return cls(set, secret.raw)
 
     @property
@@ -322,7 +336,8 @@ class SecretKey:
 
         A function that is weaker than the set makes a weaker signature. Raises Refusal: as `sign`, and NoSuchFunction.
         """
-        return self._sign("slh_hash_sign", (function,), message, context, randomizer, deterministic)
+        by = (_checked_number(function, Function),)
+        return self._sign("slh_hash_sign", by, message, context, randomizer, deterministic)
 
     def hash_sign_digest(
         self,
@@ -337,7 +352,8 @@ class SecretKey:
 
         Raises Refusal: as `hash_sign`, and BadDigestLength where the digest has another length than the function's.
         """
-        return self._sign("slh_hash_sign_digest", (function,), digest, context, randomizer, deterministic)
+        by = (_checked_number(function, Function),)
+        return self._sign("slh_hash_sign_digest", by, digest, context, randomizer, deterministic)
 
     def _sign(
         self,
@@ -349,9 +365,10 @@ class SecretKey:
         deterministic: bool,
     ) -> bytes:
         lengths = _lengths(self._set)
+        given = [_checked_bytes(it) for it in (text, context)]
         opt_rand = _randomizer(lengths.n, randomizer, deterministic)
         signature = ctypes.create_string_buffer(lengths.signature)
-        _done(call, self._set, *function, self._bytes, text, context, opt_rand, signature)
+        _done(call, self._set, *function, self._bytes, *given, opt_rand, signature)
         return signature.raw
 
     def __eq__(self, other: object) -> bool:
@@ -371,12 +388,16 @@ class Signer:
         with slh.Signer(workers=4) as signer:
             signature = signer.sign(secret, message)
 
-    A signature is cut into jobs (docs/LIBRARY.md, "Signing with threads of your own"), which the workers do. It is the
-    one that `SecretKey.sign` makes. Any number of threads may sign by one Signer at once.
+    A signature is cut into jobs (docs/LIBRARY.md, "Signing with threads of your own"), which the workers do. With the
+    same randomizer, or with none, it is byte for byte the one that `SecretKey` makes. A secret key that `check` finds
+    invalid is refused as AnswersDisagree, where `SecretKey` makes a signature that is not valid. Digests are signed by
+    `SecretKey.hash_sign_digest` alone. Any number of threads may sign by one Signer at once.
     """
 
     def __init__(self, workers: int) -> None:
-        """Keeps that many threads, at least 1, until `close`."""
+        """Keeps up to that many threads, at least 1, until `close`. No more start than a signature has jobs."""
+        if workers < 1:
+            raise ValueError(f"workers are at least 1, not {workers}")
         self._pool = concurrent.futures.ThreadPoolExecutor(workers, thread_name_prefix="slh")
         self._workers = workers
 
@@ -390,10 +411,7 @@ class Signer:
         deterministic: bool = False,
     ) -> bytes:
         """Signs a message in the pure form (Algorithm 22). Raises Refusal: as `SecretKey.sign`."""
-        opt_rand = _randomizer(_lengths(secret.set).n, randomizer, deterministic)
-        work = _Work(secret)
-        _done("slh_sign_start", secret.set, work.secret, message, context, opt_rand, work.start)
-        return work.done_by(self._pool, self._workers)
+        return self._sign("slh_sign_start", secret, (), message, context, randomizer, deterministic)
 
     def hash_sign(
         self,
@@ -406,9 +424,23 @@ class Signer:
         deterministic: bool = False,
     ) -> bytes:
         """Signs a message in the pre-hash form (Algorithm 23). Raises Refusal: as `SecretKey.hash_sign`."""
+        by = (_checked_number(function, Function),)
+        return self._sign("slh_hash_sign_start", secret, by, message, context, randomizer, deterministic)
+
+    def _sign(
+        self,
+        call: str,
+        secret: SecretKey,
+        function: tuple[int, ...],
+        message: Bytes,
+        context: Bytes,
+        randomizer: Bytes | None,
+        deterministic: bool,
+    ) -> bytes:
+        given = [_checked_bytes(it) for it in (message, context)]
         opt_rand = _randomizer(_lengths(secret.set).n, randomizer, deterministic)
         work = _Work(secret)
-        _done("slh_hash_sign_start", secret.set, function, work.secret, message, context, opt_rand, work.start)
+        _done(call, secret.set, *function, work.secret, *given, opt_rand, work.start)
         return work.done_by(self._pool, self._workers)
 
     def close(self) -> None:
@@ -432,7 +464,7 @@ class _Work:
 
     def __init__(self, secret: SecretKey) -> None:
         self.set, self.secret = secret.set, secret.to_bytes()
-        # The levels of XMSS trees and of FORS trees that suit four workers (docs/BENCHMARKS.md).
+        # The levels of XMSS trees, those that docs/BENCHMARKS.md has for four workers, and of FORS trees.
         self.cut = (self.set, {1: 4, 3: 4, 5: 3, 6: 1}.get(self.set, 0), 0)
         jobs, start_len, answers_len = ctypes.c_uint32(), ctypes.c_size_t(), ctypes.c_size_t()
         _done("slh_sign_jobs", *self.cut, jobs, start_len, answers_len)
@@ -458,7 +490,7 @@ class _Work:
         numbers = iter(range(self.jobs))
         futures: list[concurrent.futures.Future[None]] = []
         try:
-            for _ in range(workers):
+            for _ in range(min(workers, self.jobs)):
                 futures.append(pool.submit(self.work, numbers))
             for it in futures:
                 it.result()

@@ -188,14 +188,62 @@ class Calls(unittest.TestCase):
         self.refused(16, "BadDigestLength", self.secret.hash_sign_digest, 2, digest)
         self.refused(16, "BadDigestLength", self.public.hash_verify_digest, 2, digest, b"")
         self.assertRaises(OverflowError, self.secret.hash_sign, (1 << 32) + 2, b"letter")
-        self.assertRaises(TypeError, self.secret.sign, "letter")
-        self.assertRaises(ValueError, slh.Signer, 0)
 
-    def test_a_wrong_key_is_not_signed_with_by_jobs(self) -> None:
+    def test_arguments_of_another_kind_are_told_by_what_is_wanted(self) -> None:
+        function, digest, data = slh.Function.SLH_SHA2_256, bytes(32), self.public.to_bytes()
+        wanted = "an slh.Set is needed, not "
+        for call, given in (
+            (slh.SecretKey.generate, ("SLH-DSA-SHA2-128f",)),
+            (slh.SecretKey.keygen, (data, data, data, data)),
+            (slh.SecretKey, (self.secret.to_bytes(), FAST)),
+            (slh.PublicKey, (data, FAST)),
+        ):
+            self.assertRaisesRegex(TypeError, wanted, call, *given)
+        wanted = "an slh.Function is needed, not "
+        with slh.Signer(workers=1) as signer:
+            for call, given in (
+                (self.secret.hash_sign, ("SHA2-256", b"letter")),
+                (self.secret.hash_sign, (b"letter", function)),
+                (self.secret.hash_sign_digest, (digest, function)),
+                (signer.hash_sign, (self.secret, b"letter", function)),
+                (self.public.hash_verify, (b"letter", function, b"")),
+                (self.public.hash_verify_digest, (digest, function, b"")),
+            ):
+                self.assertRaisesRegex(TypeError, wanted, call, *given)
+            for wrong in ("letter", 5, None, [1]):
+                for call, given in (
+                    (slh.SecretKey.keygen, (FAST, wrong, digest, digest)),
+                    (slh.SecretKey, (FAST, wrong)),
+                    (slh.PublicKey, (FAST, wrong)),
+                    (self.secret.sign, (wrong,)),
+                    (self.secret.sign, (b"letter", wrong)),
+                    (self.secret.hash_sign, (function, wrong)),
+                    (self.secret.hash_sign_digest, (function, wrong)),
+                    (signer.sign, (self.secret, wrong)),
+                    (signer.hash_sign, (self.secret, function, b"letter", wrong)),
+                    (self.public.verify, (wrong, b"")),
+                    (self.public.verify, (b"letter", wrong)),
+                    (self.public.hash_verify, (function, b"letter", b"", wrong)),
+                    (self.public.hash_verify_digest, (function, digest, wrong)),
+                ):
+                    self.assertRaisesRegex(TypeError, "bytes are needed, not ", call, *given)
+        self.assertRaisesRegex(TypeError, "bytes are needed, not str", self.secret.sign, b"letter", randomizer="16")
+
+    def test_any_number_of_workers_makes_the_same_signature(self) -> None:
+        alone = self.secret.sign(b"letter", deterministic=True)
+        for workers in (1, 3, 1 << 40):
+            with slh.Signer(workers=workers) as signer:
+                self.assertEqual(signer.sign(self.secret, b"letter", deterministic=True), alone)
+        self.assertRaisesRegex(ValueError, "workers are at least 1, not 0", slh.Signer, 0)
+
+    def test_a_wrong_key_signs_nothing_valid(self) -> None:
         wrong = bytearray(self.secret.to_bytes())
         wrong[-1] ^= 1
-        with slh.Signer(workers=2) as signer:
-            self.refused(25, "AnswersDisagree", signer.sign, slh.SecretKey(FAST, wrong), b"letter")
+        secret = slh.SecretKey(FAST, wrong)
+        for workers in (1, 2):
+            with slh.Signer(workers=workers) as signer:
+                self.refused(25, "AnswersDisagree", signer.sign, secret, b"letter")
+        self.assertRaises(slh.Invalid, secret.public().verify, b"letter", secret.sign(b"letter"))
 
     def test_secrets_are_not_printed(self) -> None:
         for text in (repr(self.secret), str(self.secret), f"{self.secret}"):
