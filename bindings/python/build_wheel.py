@@ -3,8 +3,8 @@
     SLH_PREFIX=PREFIX pip wheel --no-index bindings/python
     SLH_PREFIX=PREFIX python3 bindings/python/build_wheel.py FOLDER
 
-PREFIX is the absolute path of a folder that tools/library.sh has installed into. The same files give the same wheel, bit
-for bit.
+PREFIX is the absolute path of a folder that tools/library.sh has installed into. The same files give the same wheel,
+bit for bit.
 """
 
 from __future__ import annotations

@@ -12,8 +12,9 @@ const FORS_LEVELS: u32 = 0;
 /// What computes each signature under a key by several threads. [`SecretKey::workers`] makes one.
 ///
 /// A signature is cut into jobs (docs/LIBRARY.md, "Signing with threads of your own"), which the threads do; they end
-/// before the call returns. It is the signature that [`SecretKey`] makes in one thread. A key whose root is not the one
-/// that its seeds give signs nothing: `AnswersDisagree`.
+/// before the call returns. No more threads start than there are jobs. With the same randomizer, or with none, the
+/// signature is byte for byte that of [`SecretKey`] in one thread. A key that [`check`](SecretKey::check) finds invalid
+/// is refused as `AnswersDisagree`.
 #[derive(Clone, Copy, Debug)]
 pub struct Workers<'a, P: ParameterSet> {
     secret: &'a SecretKey<P>,
@@ -36,6 +37,7 @@ impl<'a, P: ParameterSet> Workers<'a, P> {
 
     /// Has the threads do all jobs, each of which has the room for its answer.
     fn answer(&self, start: &[u8], shares: Vec<(u32, &mut [u8])>) -> Result<(), Error> {
+        let count = self.count.min(shares.len());
         let queue = Mutex::new(shares.into_iter());
         let next = || queue.lock().expect("no thread panics while it takes a job").next();
         let work = || {
@@ -45,7 +47,7 @@ impl<'a, P: ParameterSet> Workers<'a, P> {
             Ok(())
         };
         thread::scope(|scope| {
-            let others: Vec<_> = (1..self.count).map(|_| scope.spawn(work)).collect();
+            let others: Vec<_> = (1..count).map(|_| scope.spawn(work)).collect();
             others.into_iter().fold(work(), |all, other| all.and(other.join().expect("no job panics")))
         })
     }

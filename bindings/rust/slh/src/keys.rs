@@ -71,13 +71,18 @@ fn certainly_done(result: u32) {
 /// What signs messages under a key: a [`SecretKey`] in one thread, [`Workers`] in several.
 pub trait Signer<P: ParameterSet> {
     /// Signs in the pure form (Algorithm 22). Refused: `ContextTooLong` for a context of over 255 bytes;
-    /// `BadRandomizerLength` for a given randomizer that does not have n bytes.
+    /// `BadRandomizerLength` for a given randomizer that does not have n bytes. `Error::RandomFailed` where the system
+    /// gives no random bytes for a randomizer.
+    ///
+    /// Under a key that [`check`](SecretKey::check) finds invalid, a [`SecretKey`] makes a signature that is not valid,
+    /// and any number of [`Workers`] is refused as `AnswersDisagree`.
     fn sign_with(&self, message: &[u8], options: Options<'_>) -> Result<Signature<P>, Error>;
 
-    /// Signs in the pre-hash form (Algorithm 23), with a digest that this computes. It is refused as `sign_with`.
+    /// Signs in the pre-hash form (Algorithm 23), with a digest that this computes. Errors are those of `sign_with`.
     fn hash_sign(&self, function: Function, message: &[u8], options: Options<'_>) -> Result<Signature<P>, Error>;
 
-    /// Signs in the pure form, under the empty context and with a fresh randomizer.
+    /// Signs in the pure form, under the empty context and with a fresh randomizer. `Error::RandomFailed` where the
+    /// system gives none; under a key that `check` finds invalid as `sign_with`.
     fn sign(&self, message: &[u8]) -> Result<Signature<P>, Error> {
         self.sign_with(message, Options::default())
     }
@@ -178,8 +183,9 @@ impl<P: ParameterSet> SecretKey<P> {
         done(unsafe { slh_sys::slh_check(P::NUMBER, sk.as_ptr(), sk.len()) })
     }
 
-    /// Signs in the pre-hash form (Algorithm 23) by a message's digest, for messages that are read in pieces. Refused
-    /// as `sign_with`, and as `BadDigestLength` where the digest has another length than the function's.
+    /// Signs in the pre-hash form (Algorithm 23) by a message's digest, for messages that are read in pieces. Errors are
+    /// those of [`sign_with`](Signer::sign_with), and `BadDigestLength` where the digest has another length than the
+    /// function's.
     pub fn hash_sign_digest(
         &self,
         function: Function,
@@ -207,7 +213,7 @@ impl<P: ParameterSet> SecretKey<P> {
         })
     }
 
-    /// What signs under this key by that many threads, at least 1, this one among them.
+    /// What signs under this key by that many threads, this one among them. 0 and 1 are this one alone.
     pub fn workers(&self, count: usize) -> Workers<'_, P> {
         Workers::new(self, count)
     }

@@ -15,7 +15,8 @@
 //! ```
 //!
 //! The names are those of libslh: docs/LIBRARY.md of its repository says what each call does and what is proved of it.
-//! A refusal has libslh's number and name. A key and a signature have their set, and so their length, as their type.
+//! A refusal has libslh's number and name. `matches!(verdict, Err(Error::Invalid))` tells what is not valid. A key and
+//! a signature have their set, and so their length, as their type.
 //!
 //! Each signature has a fresh randomizer from the system, unless [`Options`] say otherwise. Secret keys are not
 //! printed, and are overwritten when they are dropped; what calls leave on the stack is not.

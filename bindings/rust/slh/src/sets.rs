@@ -34,7 +34,7 @@ pub trait ParameterSet: private::Sealed + Copy + Debug + Eq + Send + Sync + 'sta
     type PublicKeyBytes: Bytes;
     /// The bytes of a secret key, an array of 4n.
     type SecretKeyBytes: Bytes;
-    /// The levels of XMSS trees by which one signature is shared out to workers (docs/BENCHMARKS.md).
+    /// The levels of XMSS trees by which a signature is shared out: those of docs/BENCHMARKS.md for four workers.
     #[doc(hidden)]
     const XMSS_LEVELS: u32;
 }

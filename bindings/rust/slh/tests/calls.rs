@@ -102,16 +102,20 @@ fn wrong_lengths_are_refused() {
 }
 
 #[test]
-fn workers_do_not_sign_with_a_wrong_root() {
+fn a_wrong_root_signs_nothing_valid() {
     let wrong = with_a_wrong_root(&generated());
-    assert!(is_refused(wrong.workers(2).sign(b"letter"), 25, "AnswersDisagree"));
+    for count in [0, 1, 2] {
+        assert!(is_refused(wrong.workers(count).sign(b"letter"), 25, "AnswersDisagree"));
+    }
+    let alone = wrong.sign(b"letter").unwrap();
+    assert!(matches!(wrong.public().verify(b"letter", &alone), Err(Error::Invalid)));
 }
 
 #[test]
 fn any_number_of_workers_makes_the_same_signature() {
     let secret = generated();
     let alone = secret.sign_with(b"letter", DETERMINISTIC).unwrap();
-    for count in [0, 1, 3, 300] {
+    for count in [0, 1, 3, usize::MAX] {
         assert!(secret.workers(count).sign_with(b"letter", DETERMINISTIC).unwrap() == alone);
     }
 }
