@@ -1,5 +1,5 @@
-/* SHA-256 (FIPS 180-4) over pieces, for examples/verify_image.c: begin, any number of pieces, end. It stands for the one
-   that your device has, as hardware or from your vendor, which is faster. */
+/* SHA-256 (FIPS 180-4) over pieces, for examples/verify_image.c: begin, any number of pieces, end. It is not proved. It
+   stands for the one that your device has, as hardware or from your vendor, which is faster. */
 #ifndef SHA256_H
 #define SHA256_H
 

@@ -1,8 +1,10 @@
 /* Verifies an image under a public key that is compiled in, as a device does: the image is read in blocks and hashed,
    and never stands in memory whole. verify_image IMAGE SIGNATURE ends with status 0 where the signature is valid.
 
-   public_key.h has the bytes of the public key:   xxd -i < image.pub > public_key.h
-   The image is signed in the pre-hash form, by slh_hash_sign_digest or slh_hash_sign with SLH_SHA2_256. */
+   public_key.h has the bytes of the public key, of which a key file of slh has the digits in line 3:
+     sed -n 3p public.key | xxd -r -p | xxd -i > public_key.h
+   The image is signed in the pre-hash form with SHA2-256: by slh_hash_sign_digest, slh_hash_sign or slh sign --prehash.
+   SET is the one of the key: change it and the two lengths for another. */
 #include <slh_verify.h>
 
 #include <stdio.h>
@@ -11,9 +13,11 @@
 
 #define SET SLH_DSA_SHA2_128F
 
-static const uint8_t pk[SLH_DSA_SHA2_128F_PUBLIC_KEY] = {
+static const uint8_t pk[] = {
 #include "public_key.h"
 };
+/* An array of -1 elements, which no compiler takes, unless public_key.h has just the bytes of a public key. */
+typedef char public_key_has_its_length[sizeof pk == SLH_DSA_SHA2_128F_PUBLIC_KEY ? 1 : -1];
 
 /* The SHA-256 of a file, block by block. Whether all of it was read. */
 static int hash_file(const char *path, uint8_t digest[32]) {

@@ -78,7 +78,8 @@ END
 }
 
 # Compiles the example that verifies over an ARCHIVE, and runs it by RUN: an image of the vectors is valid, a damaged one
-# invalid (1), and a signature that is too long, or a file that is missing, is refused (2).
+# invalid (1), and a signature that is too long, or a file that is missing, is refused (2). With a public key that has
+# another length, as the text of a key file, it does not compile.
 verify_example() {
     local of=$1 archive=$2 run=$3
     shift 3
@@ -86,6 +87,17 @@ verify_example() {
     one "the example that verifies compiles on $of" "$@" -std=c99 "${strict[@]}" -I "$work" \
         "$here/examples/verify_image.c" "$archive" -o "$work/verify_image"
     one "the example that verifies on $of" judges_images "$run" "$work/verify_image"
+    one "the example that verifies takes just a public key's bytes on $of" takes_whole_keys "$@"
+}
+
+# Whether the example that verifies compiles with the public key of the image, and not where a byte of it is missing or
+# another follows.
+takes_whole_keys() {
+    local compile=("$@" -std=c99 -I "$work/other" -c "$here/examples/verify_image.c" -o "$work/other/verify_image.o")
+    mkdir -p "$work/other"
+    cp "$work/public_key.h" "$work/other/" && "${compile[@]}" || return
+    cut -d , -f 2- <"$work/public_key.h" >"$work/other/public_key.h" && ! "${compile[@]}" || return
+    sed 's/^/7,/' "$work/public_key.h" >"$work/other/public_key.h" && ! "${compile[@]}"
 }
 
 judges_images() {

@@ -158,6 +158,25 @@ is_built_where_asked() {
         [ ! -s "$work/out" ] && grep -q 'dist/x86-64-v2/slh is damaged' "$work/err"
 }
 
+# ./slh is found through symbolic links to it and to its folder, from any folder.
+links_are_followed() {
+    copy_anew && ln -sfn "$copy" "$work/folder" && ln -sf folder/slh "$work/first" && ln -sf first "$work/second" || return
+    bare bash -c 'cd / && "$0" params' "$work/second" && [ "$(wc -l <"$work/out")" = 6 ] && [ ! -s "$work/err" ] &&
+        bare bash -c 'cd "$0/.." && PATH=.:$PATH && second params' "$work/folder" && [ "$(wc -l <"$work/out")" = 6 ]
+}
+
+# Status 1 says that a signature is invalid. What is wrong with the installation ends with 2.
+faults_of_installation_have_status_2() {
+    local level
+    copy_anew && rm "$copy/tools/released.sh" && refuses "released.sh" ./slh params || return
+    for level in x86-64-v2 x86-64-v3; do
+        copy_anew && chmod -x "$copy/dist/$level/slh" && refuses "$level/slh" env SLH_CPU=$level ./slh params || return
+    done
+    copy_anew
+    stubbed env SLH_BUILD=1 ./slh params
+    [ $? = 2 ] && [ -f "$work/called" ] && [ ! -s "$work/out" ]
+}
+
 # A change of a test is no change of the sources.
 tests_are_no_sources() {
     copy_anew && echo '// changed' >>"$copy/crates/slh_par_tests/src/lib.rt" &&
@@ -199,7 +218,7 @@ count_what_is_made() {
 }
 
 mkdir "$stub"
-printf '#!/bin/sh\ntouch "%s"\nexit 3\n' "$work/called" >"$stub/rt"
+printf '#!/bin/sh\ntouch "%s"\nexit 1\n' "$work/called" >"$stub/rt"
 chmod +x "$stub/rt"
 if command -v rt >/dev/null && PATH=$without_rt command -v rt >/dev/null; then
     echo "SKIPPED: rt is in $without_rt"
@@ -216,6 +235,8 @@ if [ -f "$work/made/BUILD" ]; then
     one "the libraries of other machines are installed" other_targets_are_installed
     one "other sources are told, and built where rt is" other_sources_are_told
     one "the program is built where that is asked for" is_built_where_asked
+    one "./slh is found through links" links_are_followed
+    one "a fault of the installation has status 2" faults_of_installation_have_status_2
     one "a change of a test changes no sources" tests_are_no_sources
     one "a level that the processor lacks is refused" refuses "SLH_CPU is x86-64-v2 or x86-64-v3" env SLH_CPU=v4 ./slh params
     if can_unshare; then

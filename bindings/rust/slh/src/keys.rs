@@ -183,9 +183,9 @@ impl<P: ParameterSet> SecretKey<P> {
         done(unsafe { slh_sys::slh_check(P::NUMBER, sk.as_ptr(), sk.len()) })
     }
 
-    /// Signs in the pre-hash form (Algorithm 23) by a message's digest, for messages that are read in pieces. Errors are
-    /// those of [`sign_with`](Signer::sign_with), and `BadDigestLength` where the digest has another length than the
-    /// function's.
+    /// Signs in the pre-hash form (Algorithm 23) by a message's digest, for messages that are read in pieces. Errors
+    /// are those of [`sign_with`](Signer::sign_with), and `BadDigestLength` where the digest has another length than
+    /// the function's.
     pub fn hash_sign_digest(
         &self,
         function: Function,
