@@ -27,6 +27,17 @@ else
 fi
 export PYTHONDONTWRITEBYTECODE=1 PYTHONNOUSERSITE=1
 
+# Of a language, the Nth that docs/PACKAGES.md lists: its line of imports, and its calls, as they stand in a column of the
+# first table.
+imports_of() {
+    sed -n '/^## The calls/,/^|/s/^    //p' "$here/docs/PACKAGES.md" | sed -n "$1p"
+}
+
+calls_of() {
+    sed -n '/^## The calls/,/^What the calls answer/s/^| [a-z]/&/p' "$here/docs/PACKAGES.md" |
+        awk -F'|' -v column=$(($1 + 2)) '{ n = split($column, part, "`"); for (i = 2; i <= n; i += 2) print part[i] }'
+}
+
 with_cmake() {
     local built=$work/cmake name
     make_image
@@ -65,6 +76,15 @@ with_python() {
         env SLH_PREFIX=prefix "$venv/bin/pip" wheel --no-index -w "$work/none" "$package"
     one "python: the wheel is installed" "$venv/bin/pip" install --no-index "$work/wheels/$name"
     one "python: the installed package passes its tests" "$venv/bin/python" -m unittest discover -s "$package/tests"
+    page_in_python >"$work/page.py"
+    one "python: the calls of docs/PACKAGES.md" says done 0 "$venv/bin/python" "$work/page.py"
+}
+
+page_in_python() {
+    imports_of 3
+    echo 'message, context, random, digest = b"letter", b"letters", bytes(16), bytes(32)'
+    calls_of 3
+    echo 'print("done")'
 }
 
 # Whether RECORD of a wheel lists each of its files, with its SHA-256 and length.
@@ -91,11 +111,29 @@ with_rust() {
     one "rust: the example signs by threads, over the library of pkg-config" says valid 0 env -u SLH_PREFIX \
         CARGO_TARGET_DIR="$work/cargo" PKG_CONFIG_PATH="$prefix/lib/pkgconfig" cargo run -q --locked --offline \
         "${manifest[@]}" --example sign_threads 2 "$work/letter"
+    page_in_rust
+    one "rust: the calls of docs/PACKAGES.md" says done 0 env CARGO_TARGET_DIR="$work/cargo" SLH_PREFIX="$prefix" \
+        cargo run -q --offline --manifest-path "$work/page/Cargo.toml"
     one "rust: without a library the build says so" misses_library 'libslh is not found: set SLH_PREFIX' \
         env -u SLH_PREFIX -u PKG_CONFIG_PATH PKG_CONFIG_LIBDIR="$work/none" CARGO_TARGET_DIR="$work/cargo" \
         cargo build --locked --offline "${manifest[@]}"
     one "rust: a relative path of the library is told" misses_library "SLH_PREFIX has to be an absolute path" \
         env SLH_PREFIX=prefix CARGO_TARGET_DIR="$work/cargo" cargo build --locked --offline "${manifest[@]}"
+}
+
+# Writes a program as a user has it, in a folder of its own.
+page_in_rust() {
+    mkdir -p "$work/page/src"
+    printf '%s\n' '[package]' 'name = "page"' 'edition = "2021"' '[dependencies]' \
+        "slh = { path = \"$here/bindings/rust/slh\" }" >"$work/page/Cargo.toml"
+    {
+        imports_of 1
+        echo 'fn main() -> Result<(), Error> {'
+        echo 'let (message, context, random, digest) = (b"letter", b"letters", [0; 16], [0; 32]);'
+        calls_of 1
+        echo 'assert!(secret.as_bytes() == sk && public.as_bytes() == pk && signature.as_bytes() == sig);'
+        echo 'println!("done"); Ok(()) }'
+    } >"$work/page/src/main.rs"
 }
 
 # Whether a build fails, and says this.
@@ -106,17 +144,36 @@ misses_library() {
 }
 
 with_go() {
-    one "go: layout" is_laid_out "$here/bindings/go"
-    one "go: vet" in_go go vet ./...
-    one "go: the package passes its tests" in_go go test -count=1 ./...
+    local package=$here/bindings/go page=$work/gopage
+    one "go: layout" is_laid_out "$package"
+    one "go: vet" in_go "$package" go vet ./...
+    one "go: the package passes its tests" in_go "$package" go test -count=1 ./...
+    mkdir -p "$page"
+    page_in_go >"$page/main.go"
+    one "go: a program takes the package" in_go "$page" go mod init page
+    one "go: it names the clone" in_go "$page" go mod edit -require pipitscreen/slh@v0.2.0 \
+        -replace pipitscreen/slh="$package"
+    one "go: the calls of docs/PACKAGES.md" says done 0 in_go "$page" go run .
+}
+
+page_in_go() {
+    printf 'package main\nimport "bytes"\nimport "fmt"\n'
+    imports_of 2
+    echo 'func main() {'
+    echo 'message, context, random, digest := []byte("letter"), []byte("letters"), make([]byte, 16), make([]byte, 32)'
+    calls_of 2 | sed '/err/s/$/; if err != nil { panic(err) }/'
+    echo 'fmt.Println("done") }'
 }
 
 is_laid_out() {
     [ -z "$(gofmt -l "$1")" ]
 }
 
+# Runs a command of Go in a folder.
 in_go() {
-    (cd "$here/bindings/go" && env CGO_ENABLED=1 CGO_CFLAGS="-I$prefix/include" CGO_LDFLAGS="-L$prefix/lib" \
+    local folder=$1
+    shift
+    (cd "$folder" && env CGO_ENABLED=1 CGO_CFLAGS="-I$prefix/include" CGO_LDFLAGS="-L$prefix/lib" \
         GOCACHE="$work/go" GOPATH="$work/gopath" GOFLAGS=-mod=readonly GOPROXY=off "$@")
 }
 
@@ -134,7 +191,18 @@ const signature = secret.sign(message);
 console.log(secret.check() && secret.public().verify(message, signature) ? "valid" : "invalid");
 END
     one "javascript: the package finds its module" says valid 0 "${node[@]}" --no-warnings "$work/lines.mjs"
+    page_in_javascript >"$work/page.mjs"
+    one "javascript: the calls of docs/PACKAGES.md" says done 0 "${node[@]}" --no-warnings "$work/page.mjs"
     one "javascript: the types name what is exported" types_name_all
+}
+
+page_in_javascript() {
+    echo 'import assert from "node:assert";'
+    imports_of 4
+    echo 'const [message, context] = ["letter", "letters"].map((it) => new TextEncoder().encode(it));'
+    echo 'const [random, digest] = [new Uint8Array(16), new Uint8Array(32)];'
+    calls_of 4 | sed -E 's/^((publicKey|secret)\.[a-zA-Z]*\(.*);$/assert(\1);/'
+    echo 'console.log("done");'
 }
 
 # Whether slh.d.ts declares just the values that slh.js exports.
