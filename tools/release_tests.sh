@@ -38,7 +38,7 @@ stubbed() {
     without_rt=$stub:/usr/bin:/bin bare "$@"
 }
 
-# README's commands, but for the number of workers; and those of LIBRARY, whose C program then signs a file.
+# README's commands, and those of LIBRARY, whose C program then signs a file.
 signs_and_links() {
     cat <<'END'
 set -e
@@ -48,8 +48,10 @@ echo "Dear reader," > letter.txt
 openssl rand -hex 48 > seeds
 ./slh keygen --set SLH-DSA-SHA2-128f < seeds > secret.key
 ./slh public --key secret.key > public.key
-./slh sign --key secret.key --message letter.txt > letter.sig
+./slh sign --key secret.key --message letter.txt --random "$(openssl rand -hex 16)" > letter.sig
 ./slh verify --key public.key --message letter.txt --signature letter.sig
+./slh sign --key secret.key --message letter.txt --workers 4 > same.sig
+./slh sign --key secret.key --message letter.txt | cmp - same.sig
 tools/library.sh prefix
 cc examples/sign_file.c -I prefix/include prefix/lib/libslh.a -o sign_file
 ./sign_file README.md
