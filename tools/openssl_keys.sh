@@ -3,7 +3,8 @@
 # the lines of docs/LIBRARY.md, "Keys to and from OpenSSL". For each of the six sets: a key that OpenSSL made is consistent
 # and has the public key that OpenSSL says, and comes back as the same PEM; a key that `slh` made is one to OpenSSL, with
 # the public key that `slh` says; in both directions a deterministic signature is the same bytes by both, a randomized one
-# is valid, and a signature of another message is not.
+# is valid, and a signature of another message is not. It also runs the commands of docs/QUESTIONS.md for CI and for PEM
+# files, as they stand, in a folder that has a secret key already.
 #
 # usage: tools/openssl_keys.sh [PROGRAM]
 #
@@ -74,6 +75,56 @@ signatures_agree() {
         says invalid 1 "$program" verify --key public.key --message other --signature theirs
 }
 
+# The Nth block of commands that stands under a heading of docs/QUESTIONS.md.
+commands_of() {
+    awk -v heading="## $1" -v wanted="$2" '
+        /^## / { is_here = $0 == heading; block = 0 }
+        is_here && /^    / && !was_block { block++ }
+        is_here && /^    / && block == wanted { print substr($0, 5) }
+        { was_block = /^    / }' "$here/docs/QUESTIONS.md"
+}
+
+# Runs such a block in the folder `questions`, where `slh` is on the path. What it prints is its own.
+run_commands() {
+    (cd questions && PATH=$PWD/bin:$PATH bash -c "$(commands_of "$@")")
+}
+
+ci=$(grep -m 1 '^## .* CI?$' "$here/docs/QUESTIONS.md" | cut -c 4-)
+pem=$(grep -m 1 '^## .* OpenSSL?$' "$here/docs/QUESTIONS.md" | cut -c 4-)
+
+signs_in_ci() {
+    mkdir -p questions/bin && ln -sf "$program" questions/bin/slh && echo release >questions/release.tar.gz &&
+        run_commands "$ci" 1 && cp questions/secret.key kept.key &&
+        SLH_SECRET_KEY=$(cat kept.key) says valid 0 run_commands "$ci" 2 &&
+        (cd questions && sha256sum --check --ignore-missing SHA256SUMS) && is_kept
+}
+
+# Whether the secret key that was there is as it was, and the one of the CI is gone.
+is_kept() {
+    cmp kept.key questions/secret.key && [ ! -e questions/ci.key ]
+}
+
+other_secrets_are_not_published() {
+    "$openssl" rand -hex 48 | "$program" keygen --set SLH-DSA-SHA2-128s >other.key &&
+        SLH_SECRET_KEY=$(cat other.key) says invalid 1 run_commands "$ci" 2 && is_kept &&
+        ! SLH_SECRET_KEY= run_commands "$ci" 2 && is_kept
+}
+
+goes_to_pem_and_back() {
+    run_commands "$pem" 1 && says "Key is valid" 0 "$openssl" pkey -in questions/secret.pem -noout -check &&
+        says consistent 0 run_commands "$pem" 2 && cmp kept.key questions/from_pem.key && is_kept
+}
+
+other_prefixes_are_seen_by_openssl() {
+    sed '/^-----/d' questions/secret.pem | base64 -d | xxd -p -c 0 | sed 's/3040314/3040315/' | xxd -r -p >other.der &&
+        says "" 1 "$openssl" pkey -inform DER -in other.der -noout -check
+}
+
+bad_pem_changes_no_key() {
+    sed -i 's/$/\r/' questions/secret.pem && ! run_commands "$pem" 2 && is_kept && rm questions/secret.pem &&
+        ! run_commands "$pem" 2 && is_kept
+}
+
 if ! "$openssl" list -signature-algorithms 2>/dev/null | grep -q SLH-DSA-SHA2-128f; then
     echo "keys from and to OpenSSL: SKIPPED, since $openssl has no SLH-DSA"
     end_counts
@@ -94,4 +145,9 @@ done <<END_OF_SETS
 256s 32
 256f 32
 END_OF_SETS
+one "QUESTIONS signs a release in CI" signs_in_ci
+one "QUESTIONS publishes nothing under another secret, or none" other_secrets_are_not_published
+one "QUESTIONS takes a key to PEM and back" goes_to_pem_and_back
+one "QUESTIONS tells how another prefix is seen" other_prefixes_are_seen_by_openssl
+one "QUESTIONS changes no key by a bad PEM file" bad_pem_changes_no_key
 end_counts
