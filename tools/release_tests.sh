@@ -38,7 +38,7 @@ stubbed() {
     without_rt=$stub:/usr/bin:/bin bare "$@"
 }
 
-# README's commands, and those of LIBRARY, whose C program then signs a file.
+# README's commands, and those of LIBRARY, whose C programs then sign a file and verify an image.
 signs_and_links() {
     cat <<'END'
 set -e
@@ -55,6 +55,11 @@ openssl rand -hex 48 > seeds
 tools/library.sh prefix
 cc examples/sign_file.c -I prefix/include prefix/lib/libslh.a -o sign_file
 ./sign_file README.md
+cp README.md image
+./slh sign --key secret.key --prehash SHA2-256 --message image > image.sig
+sed -n 3p public.key | xxd -r -p | xxd -i > public_key.h
+cc examples/verify_image.c -I . -I prefix/include prefix/lib/libslh_verify.a -o verify_image
+./verify_image image image.sig
 END
 }
 
@@ -63,6 +68,7 @@ has_signed() {
     diff "$work/out" - <<END && [ ! -s "$work/err" ] && [ -s "$copy/README.md.sig" ]
 valid
 installed in $1/prefix: the release $(cat "$here/VERSION")
+valid
 valid
 END
 }
@@ -162,7 +168,7 @@ is_built_where_asked() {
 
 # ./slh is found through symbolic links to it and to its folder, from any folder.
 links_are_followed() {
-    copy_anew && ln -sfn "$copy" "$work/folder" && ln -sf folder/slh "$work/first" && ln -sf first "$work/second" || return
+    copy_anew && ln -s "$copy" "$work/folder" && ln -s folder/slh "$work/first" && ln -s first "$work/second" || return
     bare bash -c 'cd / && "$0" params' "$work/second" && [ "$(wc -l <"$work/out")" = 6 ] && [ ! -s "$work/err" ] &&
         bare bash -c 'cd "$0/.." && PATH=.:$PATH && second params' "$work/folder" && [ "$(wc -l <"$work/out")" = 6 ]
 }
