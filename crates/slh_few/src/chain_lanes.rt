@@ -143,7 +143,7 @@ pub(crate) fn run_secrets(seeds: &Seeds, at: Place, counts: &ChainNumbers, out: 
     let lanes = SeededLanes::new(seeds.set, seeds.pk_seed);
     let n = seeds.set.n();
     let count = seeds.set.len();
-    let order = by_steps(counts, count);
+    let order = by_steps(counts, seeds.set.w() - 1, count);
     for turn in 0..count.div_ceil(8) {
         let group = group_at(&order, 8 * turn);
         let secrets = secret_lanes(&lanes, seeds.sk_seed, at, &group);
@@ -172,7 +172,7 @@ pub(crate) fn run_values(
     let lanes = SeededLanes::new(public.set, public.pk_seed);
     let n = public.set.n();
     let count = public.set.len();
-    let order = by_steps(counts, count);
+    let order = by_steps(counts, public.set.w() - 1, count);
     for turn in 0..count.div_ceil(8) {
         let used = (count - 8 * turn).min(8);
         let group = group_at(&order, 8 * turn);
