@@ -31,6 +31,7 @@ fn run_part(function: &str, row: &mut Row) -> bool {
         "lanes_f" => lanes::lanes_f(row),
         "lanes_prf" => lanes::lanes_prf(row),
         "lanes_h" => lanes::lanes_h(row),
+        "lanes_t" => lanes::lanes_t(row),
         "lanes_chains" => lanes::lanes_chains(row),
         "lanes_compress" => lanes::lanes_compress(row),
         "digits" => wots::digits_row(row),

@@ -1,11 +1,11 @@
-//! F, PRF, H, chains and SHA-256's compression in eight lanes.
+//! F, PRF, H, T, chains and SHA-256's compression in eight lanes.
 ghost use Rattle.std.specs.Prelude.{◌<◌};
 
 use crate::params::adrs_of;
 use crate::row::Row;
 use slh_lanes::{
-    LaneAdrs, LaneNodes, SeededLanes, SeededTreeLanes, Words, adrs_lanes, compress, consecutive,
-    lane_node, node_lanes, set_chains, set_hashes, set_lane,
+    LaneAdrs, LaneNodes, LaneStream, SeededLanes, SeededTreeLanes, Words, adrs_lanes, compress,
+    consecutive, lane_node, node_lanes, set_chains, set_hashes, set_lane,
 };
 use slh_params::ParamSet;
 
@@ -65,6 +65,22 @@ pub fn lanes_h(row: &mut Row) {
     let (left, right) = (nodes_of(row, set), nodes_of(row, set));
     let lanes = SeededTreeLanes::new(&SeededLanes::new(set, &pk_seed));
     are_nodes(row, &lanes.h(&adrs, &left, &right), set);
+}
+
+/// A set, PK.seed, eight addresses, a number of nodes, eight nodes, eight others; T in each lane of so many nodes, which
+/// are its node of the first eight and that of the others by turns.
+pub fn lanes_t(row: &mut Row) {
+    let set = row.set();
+    let pk_seed = row.bytes();
+    let adrs = adrs_of_lanes(row);
+    let count = row.below(1 << 20);
+    let (first, other) = (nodes_of(row, set), nodes_of(row, set));
+    let lanes = SeededTreeLanes::new(&SeededLanes::new(set, &pk_seed));
+    let mut stream = LaneStream::new(&lanes, &adrs);
+    for i in 0..count {
+        stream.absorb(if i % 2 == 0 { &first } else { &other });
+    }
+    are_nodes(row, &stream.finish(), set);
 }
 
 /// A set, PK.seed, eight addresses, eight nodes; the chains run on from the nodes after 2 steps, for 13 steps, and after
