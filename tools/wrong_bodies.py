@@ -15,7 +15,8 @@ An edit is a file crates/NAME/wrong/EDIT.edit with lines
     old: TEXT            a text that stands once in the file, on one line
     new: TEXT            what stands in its place (more pairs may follow, each for the text that the earlier ones left)
 
-A copy of the crate is edited, and the function checked over the libraries that `rt ci`, or a check, has built. Refused
+The functions that a crate's edits turn are first checked as they are, over the libraries that `rt ci`, or a check, has
+built. Then a copy of the crate is edited for each edit, and its function checked over what that check has kept. Refused
 is an edit whose check says that the proof of this function is missing: a name that is not there, a text that can't be
 read, or another function whose proof is missing without it, is an edit to mend. tools/wrong_bodies.txt lists for each
 crate the sum of what its edits' answers depend on, at which every edit was seen refused: its own files but comments, the
@@ -218,55 +219,79 @@ def verdict(status, said, refused, changed):
     return True, proofs[0][:160]
 
 
-def try_edits(crate, some, kept):
-    """Tries edits of a crate in turn, each over what the checks of those before it left in the folder `kept`."""
+def check(crate, folder, functions, kept, jobs):
+    """A check of functions of the crate whose sources stand in a folder, over what `kept` has, and its output."""
+    only = [word for name in functions for word in ("--only", name)]
+    words = [kit.RATTLE, "check", *kit.words(crate), "--jobs", str(jobs), *only, "--incremental", kept]
+    how = {"stdin": subprocess.DEVNULL, "stdout": subprocess.PIPE, "stderr": subprocess.STDOUT}
+    return subprocess.run(words, cwd=folder, text=True, errors="replace", **how)
+
+
+def prepare(crate, some, kept, jobs):
+    """Checks in the crate as it is what edits of it turn, so that each edit is one function more to check. Says what is
+    wrong where that fails."""
+    own = os.path.join(ROOT, "crates", crate, "out", "incremental")
+    shutil.copytree(own, kept) if os.path.isdir(own) else os.mkdir(kept)
     if kit.lacking(crate):
-        return [(crate, it, False, f"not tried: {kit.lacking(crate)[0]} is not built (rt ci builds it)") for it in some]
+        return f"{kit.lacking(crate)[0]} is not built (rt ci builds it)"
+    functions = sorted({read_edit(crate, path)[0] for path in some} - {""})
+    ran = check(crate, os.path.join(ROOT, "crates", crate), functions, kept, jobs)
+    return "" if ran.returncode == 0 else f"without an edit it is not proved: {ran.stdout[-300:]}"
+
+
+def try_edit(crate, path, kept):
+    """Tries an edit over what `kept` has: whether it is refused, and what was said."""
+    refused, texts, why = read_edit(crate, path)
+    if why:
+        return False, f"BAD EDIT: {why}"
+    with tempfile.TemporaryDirectory(prefix="rt-edit-") as copy:
+        for part in PARTS:
+            if os.path.isdir(os.path.join(ROOT, "crates", crate, part)):
+                shutil.copytree(os.path.join(ROOT, "crates", crate, part), f"{copy}/{part}")
+        for file, text in texts.items():
+            with open(f"{copy}/{file}", "w", encoding="utf-8") as it:
+                it.write(text)
+        ran = check(crate, copy, [refused], kept, 1)
+    return verdict(ran.returncode, ran.stdout, refused, texts)
+
+
+def try_edits(crate, some, kept):
+    """Tries edits of a crate in turn."""
     found = []
     for path in some:
-        refused, texts, why = read_edit(crate, path)
-        if why:
-            found.append((crate, path, False, f"BAD EDIT: {why}"))
-            continue
-        with tempfile.TemporaryDirectory(prefix="rt-edit-") as copy:
-            for part in PARTS:
-                if os.path.isdir(os.path.join(ROOT, "crates", crate, part)):
-                    shutil.copytree(os.path.join(ROOT, "crates", crate, part), f"{copy}/{part}")
-            for file, text in texts.items():
-                with open(f"{copy}/{file}", "w", encoding="utf-8") as it:
-                    it.write(text)
-            how = {"stdin": subprocess.DEVNULL, "stdout": subprocess.PIPE, "stderr": subprocess.STDOUT}
-            words = [kit.RATTLE, "check", *kit.words(crate), "--jobs", "1", "--only", refused, "--incremental", kept]
-            start = time.monotonic()
-            ran = subprocess.run(words, cwd=copy, text=True, errors="replace", **how)
-            found.append((crate, path, *verdict(ran.returncode, ran.stdout, refused, texts)))
-            told = f"{'refused' if found[-1][2] else 'FAILED'} in {time.monotonic() - start:.0f} s: {found[-1][3]}"
-            print(f"{crate}/{os.path.basename(path)}: {told}", flush=True)
+        start = time.monotonic()
+        found.append((crate, path, *try_edit(crate, path, kept)))
+        told = f"{'refused' if found[-1][2] else 'FAILED'} in {time.monotonic() - start:.0f} s: {found[-1][3]}"
+        print(f"{crate}/{os.path.basename(path)}: {told}", flush=True)
     return found
 
 
 def try_all(runs, jobs):
-    """Tries the edits of each crate, so many at once: its first one, and over what that one kept the others."""
+    """Tries the edits of each crate, so many at once, each over what a check of the crate as it is has kept."""
     with tempfile.TemporaryDirectory(prefix="rt-edits-") as room, concurrent.futures.ThreadPoolExecutor(jobs) as pool:
 
-        def first(crate):
-            kept, own = f"{room}/{crate}", os.path.join(ROOT, "crates", crate, "out", "incremental")
-            shutil.copytree(own, kept) if os.path.isdir(own) else os.mkdir(kept)
-            return try_edits(crate, runs[crate][:1], kept)
+        def begin(crate):
+            start = time.monotonic()
+            why = prepare(crate, runs[crate], f"{room}/{crate}", max(1, jobs // len(runs)))
+            print(f"{crate}: {why or f'checked as it is in {time.monotonic() - start:.0f} s'}", flush=True)
+            return why
 
-        def others(crate, part):
+        def go_on(crate, part):
             kept = f"{room}/{crate} {part}"
             shutil.copytree(f"{room}/{crate}", kept)
-            return try_edits(crate, runs[crate][1 + part :: jobs], kept)
+            found = try_edits(crate, runs[crate][part::jobs], kept)
+            shutil.rmtree(kept)
+            return found
 
-        parts = [(crate, part) for crate, some in runs.items() for part in range(min(jobs, len(some) - 1))]
-        found = [it for ran in pool.map(first, runs) for it in ran]
-        return found + [it for ran in pool.map(lambda it: others(*it), parts) for it in ran]
+        failed = dict(zip(runs, pool.map(begin, runs)))
+        found = [(crate, path, False, f"not tried: {why}") for crate, why in failed.items() if why for path in runs[crate]]
+        parts = [(it, part) for it in runs if not failed[it] for part in range(min(jobs, len(runs[it])))]
+        return found + [it for ran in pool.map(lambda it: go_on(*it), parts) for it in ran]
 
 
 def drawn(runs, seed):
-    """Edits by crate: those of runs, and of crates drawn at random as many as make them an eighth of all. A crate's first
-    edit costs the most, so crates are drawn, and not edits; of the last crate only the edits that are wanted still."""
+    """Edits by crate: those of runs, and of crates drawn at random as many as make them an eighth of all. The check of the
+    crate as it is costs more than an edit, so crates are drawn, and not edits; of the last one only what is wanted still."""
     left = -(-sum(len(edits(name)) for name in USES) // SHARE) - sum(map(len, runs.values()))
     draw, others = random.Random(seed), [name for name in USES if name not in runs and edits(name)]
     for name in draw.sample(others, len(others)):
