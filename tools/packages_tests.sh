@@ -151,7 +151,7 @@ with_go() {
     mkdir -p "$page"
     page_in_go >"$page/main.go"
     one "go: a program takes the package" in_go "$page" go mod init page
-    one "go: it names the clone" in_go "$page" go mod edit -require pipitscreen/slh@v0.2.0 \
+    one "go: it names the clone" in_go "$page" go mod edit -require "pipitscreen/slh@v$(cat "$here/VERSION")" \
         -replace pipitscreen/slh="$package"
     one "go: the calls of docs/PACKAGES.md" says done 0 in_go "$page" go run .
 }

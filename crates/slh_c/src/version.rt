@@ -4,7 +4,7 @@ ghost use Rattle.std.specs.Prelude.{◌≡◌};
 /// second, and its third.
 #[unsafe(no_mangle)]
 pub extern "C" fn slh_version() -> u32
-    ensures version { result ≡ 2000 }
+    ensures version { result ≡ 2001 }
 {
-    2_000
+    2_001
 }
