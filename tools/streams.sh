@@ -1,18 +1,19 @@
 #!/usr/bin/env bash
-# Runs the built program over real files, pipes and broken streams, and reads its help.
+# Runs the built program over real files, pipes, broken and interrupted streams, and reads its help.
 #
 # usage: tools/streams.sh [PROGRAM]
 #
 # PROGRAM is the program (default: crates/slh/out/slh, which `rt ci` leaves built). Each run is judged by its status, by
 # all that it writes to standard output, and by all that it writes to standard error. Keys are of SLH-DSA-SHA2-128f and
 # the seeds 00, 01, 02, ..; the public key and the digest of the signature of "abc" are those of another implementation.
-# The last line has the counts, and the status is 0 where nothing failed.
+# The last line has the counts, and the status is 0 where nothing failed. It needs a C compiler, as CC or cc.
 set -u
 here=$(cd "$(dirname "${BASH_SOURCE[0]}")/.." && pwd)
 program=${1:-$here/crates/slh/out/slh}
 program=$(cd "$(dirname "$program")" && pwd)/$(basename "$program")
 work=$(mktemp -d)
 trap 'rm -rf "$work"' EXIT
+"${CC:-cc}" -O2 -shared -fPIC -o "$work/interrupt.so" "$here/tools/interrupt.c" -ldl || exit 1
 cd "$work" || exit 1
 source "$here/tools/counts.sh"
 
@@ -233,6 +234,42 @@ run verify --key public --message abc --signature sig_of_context --context "${co
 check "and no other context" ended 1 "" invalid
 run $sign --context "${context}a5"
 check "a context of 256 bytes" refused "2 ContextTooLong"
+
+# ---- reads and writes that a signal interrupts: the output is whole all the same
+
+# Runs the program with these arguments, and interrupts its reads and writes.
+run_interrupted() {
+    rm -f interrupted
+    INTERRUPTED=interrupted LD_PRELOAD=$work/interrupt.so run "$@"
+}
+
+# A write of the last run was interrupted, and the command tells by its status that the run ended so.
+was_interrupted() { [ -e interrupted ] && "$@"; }
+
+run --help
+cp output help
+printf '%s%s\n' "${seeds:64}" "$root" >root
+while read -r file words; do
+    run_interrupted $words <seeds
+    check "$words, interrupted" was_interrupted wrote "$file"
+done <<END
+table params
+root root --set $set
+secret keygen --set $set
+secret keygen --set $set --workers 2 --xmss-levels 1
+public public --key secret
+consistent check --key secret
+secret upgrade --key secret_1
+sig $sign
+sig $sign --workers 2
+valid verify --key public --message abc --signature sig
+no_tests vectors --file tests
+help --help
+END
+run_interrupted verify --key public --message zeros --signature sig
+check "an invalid signature, interrupted" was_interrupted ended 1 "" invalid
+run_interrupted --nothing
+check "a refusal, interrupted" was_interrupted refused "31 BadWords"
 
 # ---- threads: as many as workers, the first one among them
 printf 'slh-dsa-secret 1\nSLH-DSA-SHA2-128s\n%s990ce6298792b128846a8e4a3a68954c\n' "$seeds" >secret_128s
