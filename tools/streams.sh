@@ -1,5 +1,5 @@
 #!/usr/bin/env bash
-# Runs the built program over real files, pipes, broken and interrupted streams, and reads its help.
+# Runs the built program over real files, pipes, broken and interrupted streams, counts its threads and reads its help.
 #
 # usage: tools/streams.sh [PROGRAM]
 #
@@ -272,24 +272,50 @@ run_interrupted --nothing
 check "a refusal, interrupted" was_interrupted refused "31 BadWords"
 
 # ---- threads: as many as workers, the first one among them
-printf 'slh-dsa-secret 1\nSLH-DSA-SHA2-128s\n%s990ce6298792b128846a8e4a3a68954c\n' "$seeds" >secret_128s
+
+# Work for some seconds: trees of 4,096 leaves of long chains, and tests by the hundred.
+long=custom:16,8,12,6,1,1
+printf 'slh-dsa-secret 2\n%s\n%s%s\n' $long "$seeds" "$root" >long_secret
+digits() { printf "%0$1d" 0; }
+long_test='{"kind":"keygen","set":"SLH-DSA-SHA2-256s","skSeed":"'$(digits 64)'","skPrf":"'$(digits 64)
+long_test+='","pkSeed":"'$(digits 64)'","sk":"'$(digits 256)'","pk":"'$(digits 128)'"}'
+{
+    printf '['
+    for ((k = 1; k < 300; k++)); do printf '%s,' "$long_test"; done
+    printf '%s]' "$long_test"
+} >long_tests
+
+# The program with the other arguments comes to that many threads, and no more. It is looked at 60 times at most, and 10
+# times from then on.
 has_threads() {
-    local most=0 now pid
-    "$program" sign --key secret_128s --message abc --xmss-levels 4 --fors-levels 4 $2 >/dev/null 2>&1 &
+    local wanted=$1 most=0 after=0 threads pid
+    shift
+    "$program" "$@" <seeds >/dev/null 2>&1 &
     pid=$!
-    for ((k = 0; k < 60; k++)); do
-        now=$(find "/proc/$pid/task" -mindepth 1 -maxdepth 1 2>/dev/null | wc -l)
-        [ "$now" -le $most ] || most=$now
+    for ((k = 0; k < 60 && after < 10; k++)); do
+        threads=("/proc/$pid/task"/*)
+        [ -e "${threads[0]}" ] || threads=()
+        [ ${#threads[@]} -le $most ] || most=${#threads[@]}
+        [ $most -lt "$wanted" ] || after=$((after + 1))
         sleep 0.01
     done
     kill "$pid" 2>/dev/null
     wait "$pid" 2>/dev/null
-    [ $most = "$1" ]
+    echo "none, for it was killed" >status
+    echo "$most threads" >errors
+    [ $most = "$wanted" ]
 }
-check "one thread without --workers" has_threads 1 ""
-check "one thread for one worker" has_threads 1 "--workers 1"
-check "three threads for three workers" has_threads 3 "--workers 3"
-check "nine threads for nine workers" has_threads 9 "--workers 9"
+
+while read -r words; do
+    check "one thread without --workers: $words" has_threads 1 $words
+    for workers in 1 3 9; do
+        check "as many threads for --workers $workers: $words" has_threads $workers $words --workers $workers
+    done
+done <<END
+sign --key long_secret --message abc --xmss-levels 8
+keygen --set $long --xmss-levels 8
+vectors --file long_tests
+END
 
 # ---- help, whose sentences no clause states
 
