@@ -208,17 +208,31 @@ run verify --key public --message <(cat much) --signature sig_of_much --prehash 
 check "the same in the pre-hash form" wrote valid
 {
     printf '['
-    for ((k = 1; k < 1200; k++)); do printf '%s,' "$test_of_none"; done
+    for ((k = 1; k < 6000; k++)); do printf '%s,' "$test_of_none"; done
     printf '%s]' "$test_of_none"
 } >many
 {
-    for ((k = 1; k <= 1200; k++)); do echo "test $k verify $set pass"; done
-    echo "passed 1200 failed 0"
+    for ((k = 1; k <= 6000; k++)); do echo "test $k verify $set pass"; done
+    echo "passed 6000 failed 0"
 } >report
 run vectors --file many
-check "a vector file of 1,200 tests" wrote report
+check "a vector file of 6,000 tests" wrote report
 run vectors --file many --workers 3
 check "the same by three workers" wrote report
+# As many jobs as the options can ask for: 18,688 of a signature, 256 for each of 9 XMSS trees and 64 FORS trees, and
+# 256 of a key. Of no other valid record a signature has more.
+most=custom:16,4,8,9,8,64
+run keygen --set $most <seeds
+cp output secret_of_most
+run sign --key secret_of_most --message abc
+cp output sig_of_most
+check "sign in 73 jobs" [ "$(cat status)" = 0 -a "$(wc -c <output)" = 15424 ]
+for workers in 1 64; do
+    run sign --key secret_of_most --message abc --xmss-levels 8 --fors-levels 8 --workers $workers
+    check "the same in 18,688 jobs, --workers $workers" wrote sig_of_most
+    run keygen --set $most --xmss-levels 8 --fors-levels 8 --workers $workers <seeds
+    check "its key in 256 jobs, --workers $workers" wrote secret_of_most
+done
 {
     printf '[%.0s' {1..100000}
     printf ']%.0s' {1..100000}
