@@ -5,13 +5,15 @@
 #
 # usage: tools/limits.sh [PROGRAM]
 #
-# PROGRAM is crates/slh/out/slh without it. The last line has the counts, and the status is 0 where nothing failed.
+# PROGRAM is crates/slh/out/slh without it. The last line has the counts, and the status is 0 where nothing failed. It
+# needs a C compiler, as CC or cc.
 set -u
 here=$(cd "$(dirname "${BASH_SOURCE[0]}")/.." && pwd)
 program=$(realpath "${1:-$here/crates/slh/out/slh}")
 vectors=$here/vectors
 work=$(mktemp -d)
 trap 'rm -rf "$work"' EXIT
+"${CC:-cc}" -O2 -shared -fPIC -o "$work/refuse_threads.so" "$here/tools/refuse_threads.c" -ldl || exit 1
 cd "$work" || exit 1
 source "$here/tools/counts.sh"
 echo "slh: 1 NoMemory" >no_memory
@@ -64,6 +66,24 @@ sweep() {
     fi
 }
 
+# Tells whether a command is right under the least limit of the stack.
+tell_least_stack() {
+    tell "ulimit -s 192: $*" "$([ "$(under -s 192 "$@" 2>/dev/null)" = right ] && echo yes || echo no)"
+}
+
+# The same of a command with 64 workers where each of their 63 threads is refused, so that the first thread does all.
+# The calls that ask for threads nest 6 deep and take some 800 bytes of stack each. Nested 63 deep they would take some
+# 50,000, for which 192 KB has room as well; so the bytes between the requests are looked at, too.
+tell_without_threads() {
+    local came threads deepest answer=no
+    : >refused
+    came=$(REFUSED=refused LD_PRELOAD=$work/refuse_threads.so under -s 192 "$@" 2>/dev/null)
+    threads=$(wc -l <refused)
+    deepest=$(sort -n refused | tail -n 1)
+    [ "$came" = right ] && [ "$threads" = 63 ] && [ "$deepest" -lt 6000 ] && answer=yes
+    tell "ulimit -s 192 and $threads threads refused, $deepest bytes apart at most: $*: $came" $answer
+}
+
 set=SLH-DSA-SHA2-128f
 python3 -c 'print(bytes(range(48)).hex())' >seeds
 printf 'a message\n' >message
@@ -74,13 +94,15 @@ printf 'a message\n' >message
 python3 -c 'print("[" + "{\"a\":" * 126 + "1" + "}" * 126 + "]")' >deep.json
 
 # Each command, with 64 workers where it takes workers, under the least limit of the stack, and under every limit below
-# it.
+# it; and those with 64 workers again where no thread can be had.
 many="--workers 64 --xmss-levels 3 --fors-levels 3"
 while read -r words; do
     # shellcheck disable=SC2086
     want $words
     # shellcheck disable=SC2086
-    tell "ulimit -s 192: $words" "$([ "$(under -s 192 $words 2>/dev/null)" = right ] && echo yes || echo no)"
+    tell_least_stack $words
+    # shellcheck disable=SC2086
+    [[ $words != *"--workers 64"* ]] || tell_without_threads $words
 done <<END
 params
 root --set $set
@@ -101,8 +123,8 @@ while read -r name n; do
     "$program" keygen --set "$name" <seeds >"key_of_$name"
     signing=(sign --key "key_of_$name" --message message --workers 64)
     want "${signing[@]}"
-    tell "ulimit -s 192: sign $name by 64 workers" \
-        "$([ "$(under -s 192 "${signing[@]}" 2>/dev/null)" = right ] && echo yes || echo no)"
+    tell_least_stack "${signing[@]}"
+    tell_without_threads "${signing[@]}"
 done <<END
 SLH-DSA-SHA2-128s 16
 SLH-DSA-SHA2-192f 24
