@@ -84,7 +84,7 @@ impl<'s, 'h> SeededForsTree<'s, 'h> {
     #[tactic(auto, unfolding(crate::specs::Trees::fors_tree_of))]
     pub(crate) fn node(&self, lanes: &SeededTreeLanes, z: u32, i: u32) -> Node
         requires lanes { IsSeededTreeLanes lanes.now (params self.now.tree.seeds.set) self.now.tree.seeds.pk_seed.now }
-        requires height { z < (params self.now.tree.seeds.set).a }
+        requires height { z ≤ (params self.now.tree.seeds.set).a }
         requires within { past_leaf z i ≤ 2 ^ (params self.now.tree.seeds.set).a }
         ensures { result.items ≡ node (fors_tree_of self.now.tree) z i }
     {

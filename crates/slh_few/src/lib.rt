@@ -8,6 +8,7 @@ mod base_w;
 mod chain_lanes;
 mod chain_order;
 mod fors;
+mod fors_blocks;
 mod fors_climb;
 mod fors_lanes;
 mod fors_parts;

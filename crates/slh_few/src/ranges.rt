@@ -9,13 +9,14 @@ ghost use Rattle.slh_few.specs.KeptChains.{kept_chains_len, kept_chains};
 ghost use Rattle.slh_few.specs.Xmss.{xmss_tree};
 ghost use Rattle.slh_few.specs.Fors.{fors_tree};
 
+use crate::fors_blocks::block_height;
 use crate::fors_tree::SeededForsTree;
 use crate::kept_chains::wots_pk_keeping;
 use crate::key_lanes::{eight_pks_keeping, first_of_eight};
 use crate::place::{Place, Seeds};
 use crate::xmss::{KnownLeavesTree, SeededXmssTree};
 use slh_hash::{SeededHash, SeededTreeHash};
-use slh_lanes::SeededLanes;
+use slh_lanes::{SeededLanes, SeededTreeLanes};
 use slh_tree::{Cover, Leaves, PathRec, hash_range};
 
 /// The cover of the leaves from `lo` to `hi`, `hi` left out, of tree `tree` of layer `layer`. The record, of a leaf of
@@ -136,5 +137,8 @@ pub fn fors_range(
     let lanes = SeededLanes::new(seeds.set, seeds.pk_seed);
     let joins = SeededTreeHash::new(seeds.set, seeds.pk_seed);
     let tree = SeededForsTree::new(&seeded, &lanes, &joins, seeds, idx_tree, idx_leaf, tree_no);
+    if let Some(z) = block_height(lo, hi) {
+        return tree.hash_block(&SeededTreeLanes::new(&lanes), z, lo, hi, rec);
+    }
     hash_range(&tree, lo, hi, rec)
 }

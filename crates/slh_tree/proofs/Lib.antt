@@ -2,6 +2,7 @@ pub mod Branch
 pub mod Authentic
 pub mod PathBytes
 pub mod Blocks
+pub mod BlockNodes
 pub mod Joins
 pub mod FromEnd
 pub mod Covers

@@ -13,7 +13,7 @@ mod tree;
 
 pub use cover::{Cover, Placed, covers_are_unique, covers_read_from_the_end};
 pub use gathering::gather;
-pub use paths::{climb, node_over, path};
+pub use paths::{climb, node_over, parent, path};
 pub use range::{hash_range, root};
 pub use record::PathRec;
 pub use stack::Stack;

@@ -26,7 +26,7 @@ pub fn path<T: Tree>(tree: &T, idx: u32, out: &mut [u8])
 
 /// The node of height `z` at index `i`, made from its own leaves alone.
 pub fn node_over<T: Tree>(tree: &T, z: u32, i: u32) -> Node
-    requires height { z < (T.tree tree.now).height }
+    requires height { z ≤ (T.tree tree.now).height }
     requires within { past_leaf z i ≤ 2 ^ (T.tree tree.now).height }
     ensures { result.items ≡ node (T.tree tree.now) z i }
 {
@@ -40,7 +40,7 @@ pub fn node_over<T: Tree>(tree: &T, z: u32, i: u32) -> Node
 
 /// The parent of the node of height `level` over leaf `idx`, from that node and its sibling.
 #[tactic(auto, using(crate::proofs::Branch::parent_below))]
-fn parent<T: Tree>(tree: &T, idx: u32, level: u32, node: &Node, sibling: &Node) -> Node
+pub fn parent<T: Tree>(tree: &T, idx: u32, level: u32, node: &Node, sibling: &Node) -> Node
     requires index { idx < 2 ^ (T.tree tree.now).height }
     requires level { level < (T.tree tree.now).height }
     requires high { level < 14 }

@@ -53,6 +53,13 @@ impl PathRec {
         self.height
     }
 
+    /// The leaf whose path it is.
+    pub fn leaf(&self) -> u32
+        ensures { result ≡ self.now.leaf }
+    {
+        self.leaf
+    }
+
     /// Keeps the node where it is one of the path's, below the tree's height.
     pub fn note(&mut self, placed: &Placed)
         ensures height { self.new.height ≡ self.old.height }

@@ -1,10 +1,10 @@
 -- The leaves below one node have a cover of that node alone.
-use Rattle.std.proofs.Common.{◌≡◌, ℕ, ◌*◌, ◌^◌, ◌%◌, ◌<◌, ◌≤◌, lit<, arith, ap}
+use Rattle.std.proofs.Common.{◌≡◌, ℕ, ◌*◌, ◌^◌, ◌%◌, ◌≤◌, lit<, arith, ap}
 use Rattle.std.proofs.lemmas.Nat.{one_shl}
 use Rattle.std.proofs.Math.Nat.{pow-le-pow_right}
 use Rattle.slh_tree.proofs.paths.node_over.Goals as goal
 
-size_is : (z h : ℕ) → z < h → h ≤ 14 → (1 * 2 ^ z) % 2 ^ 32 ≡ 2 ^ z
+size_is : (z h : ℕ) → z ≤ h → h ≤ 14 → (1 * 2 ^ z) % 2 ^ 32 ≡ 2 ^ z
 size_is z h l m = one_shl z 32 (omega arith)
 
 few_leaves : (h : ℕ) → h ≤ 14 → 2 ^ h ≤ 16384

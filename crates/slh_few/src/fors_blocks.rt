@@ -1,0 +1,112 @@
+//! The leaves of a FORS tree below one node: the nodes over them eight at a time (FIPS 205, section 8.2).
+ghost use Rattle.std.specs.Prelude.{◌≡◌, ℕ, ◌/◌, ◌^◌, ◌<◌, ◌≤◌, IfSome, [], ◌∷◌};
+ghost use Rattle.slh_params.specs.ParamSet.{params};
+ghost use Rattle.slh_lanes.specs.TreeLanes.{IsSeededTreeLanes};
+ghost use Rattle.slh_tree.specs.Tree.{node};
+ghost use Rattle.slh_tree.specs.declared.cover.Placed.{Placed};
+ghost use Rattle.slh_tree.specs.Cover.{IsCover, IsNodeOf, first_leaf, past_leaf};
+ghost use Rattle.slh_tree.specs.Record.{Gains, LiesInRange};
+ghost use Rattle.slh_few.specs.Trees.{fors_tree_of};
+
+use crate::fors_tree::SeededForsTree;
+use arrayvec::ArrayVec;
+use slh_lanes::SeededTreeLanes;
+use slh_params::Node;
+use slh_tree::{Cover, PathRec, Placed, Tree, parent};
+
+/// The least and the most height of a node over eight leaves or more in any set.
+const LEAST_HEIGHT: u32 = 3;
+
+const MOST_HEIGHT: u32 = 14;
+
+/// The height of the node, if there is one, whose leaves are those from `lo` to `hi`, and are eight or more.
+pub(crate) fn block_height(lo: u32, hi: u32) -> Option<u32>
+    requires order { lo < hi }
+    requires small { hi ≤ 2 ^ MOST_HEIGHT }
+    ensures { IfSome result (λ z. (first_leaf z (lo / 2 ^ z) ≡ lo) × (past_leaf z (lo / 2 ^ z) ≡ hi)) }
+{
+    let z = (hi - lo).trailing_zeros();
+    if z < LEAST_HEIGHT || MOST_HEIGHT < z {
+        return None;
+    }
+    let i = lo >> z;
+    if i << z == lo && (i + 1) << z == hi {
+        Some(z)
+    } else {
+        None
+    }
+}
+
+impl<'s, 'h> SeededForsTree<'s, 'h> {
+    /// The node of height `z` over the record's leaf. The record gains the nodes of its path below that height.
+    #[tactic(auto, unfolding(crate::specs::Trees::fors_tree_of))]
+    fn node_over_own_leaf(&self, lanes: &SeededTreeLanes, z: u32, rec: &mut PathRec) -> Node
+        requires lanes { IsSeededTreeLanes lanes.now (params self.now.tree.seeds.set) self.now.tree.seeds.pk_seed.now }
+        requires height { z ≤ (params self.now.tree.seeds.set).a }
+        requires index { rec.old.leaf < 2 ^ (params self.now.tree.seeds.set).a }
+        requires same_height { rec.old.height ≡ (params self.now.tree.seeds.set).a }
+        ensures node { result.items ≡ node (fors_tree_of self.now.tree) z (rec.old.leaf / 2 ^ z) }
+        ensures gained { Gains (fors_tree_of self.now.tree) (λ j. j < z) rec.old rec.new }
+    {
+        let leaf = rec.leaf();
+        let mut node = self.leaf(leaf);
+        for level in 0..z {
+            let i = (leaf >> level) ^ 1;
+            let sibling = Placed {
+                z: level,
+                i,
+                node: self.node(lanes, level, i),
+            };
+            rec.note(&sibling);
+            node = parent(self, leaf, level, &node, &sibling.node);
+        }
+        node
+    }
+
+    /// The node of height `z` at index `i`. The record gains the nodes of its path that lie in it.
+    fn noted_node(&self, lanes: &SeededTreeLanes, z: u32, i: u32, rec: &mut PathRec) -> Placed
+        requires lanes { IsSeededTreeLanes lanes.now (params self.now.tree.seeds.set) self.now.tree.seeds.pk_seed.now }
+        requires height { z ≤ (params self.now.tree.seeds.set).a }
+        requires within { past_leaf z i ≤ 2 ^ (params self.now.tree.seeds.set).a }
+        requires same_height { rec.old.height ≡ (params self.now.tree.seeds.set).a }
+        ensures node { result.node.items ≡ node (fors_tree_of self.now.tree) z i }
+        ensures z { result.z ≡ z }
+        ensures i { result.i ≡ i }
+        ensures gained { Gains (fors_tree_of self.now.tree) (LiesInRange (first_leaf z i) (past_leaf z i) rec.old.leaf) rec.old rec.new }
+    {
+        let node = if rec.leaf() >> z == i {
+            self.node_over_own_leaf(lanes, z, rec)
+        } else {
+            self.node(lanes, z, i)
+        };
+        let placed = Placed { z, i, node };
+        rec.note(&placed);
+        placed
+    }
+
+    /// What `hash_range` of `slh_tree` gives of the leaves from `lo` to `hi`, those below a node of height `z`.
+    #[tactic(auto, unfolding(crate::specs::Trees::fors_tree_of))]
+    pub(crate) fn hash_block(
+        &self,
+        lanes: &SeededTreeLanes,
+        z: u32,
+        lo: u32,
+        hi: u32,
+        rec: &mut PathRec,
+    ) -> Cover
+        requires lanes { IsSeededTreeLanes lanes.now (params self.now.tree.seeds.set) self.now.tree.seeds.pk_seed.now }
+        requires height { z ≤ (params self.now.tree.seeds.set).a }
+        requires within { hi ≤ 2 ^ (params self.now.tree.seeds.set).a }
+        requires from { first_leaf z (lo / 2 ^ z) ≡ lo }
+        requires to { past_leaf z (lo / 2 ^ z) ≡ hi }
+        requires same_height { rec.old.height ≡ (params self.now.tree.seeds.set).a }
+        ensures cover { IsCover (fors_tree_of self.now.tree) lo hi result.nodes.items }
+        ensures lo { result.lo ≡ lo }
+        ensures hi { result.hi ≡ hi }
+        ensures gained { Gains (fors_tree_of self.now.tree) (LiesInRange lo hi rec.old.leaf) rec.old rec.new }
+    {
+        let mut nodes = ArrayVec::new();
+        nodes.push(self.noted_node(lanes, z, lo >> z, rec));
+        Cover { lo, hi, nodes }
+    }
+}
