@@ -9,7 +9,8 @@
 #include <stdlib.h>
 
 #define SET SLH_DSA_SHA2_128F
-enum { XMSS_LEVELS = 1, FORS_LEVELS = 1, MOST_THREADS = 64, N = SLH_DSA_SHA2_128F_N };
+/* No tree is cut: the eight leaves of an XMSS tree of this set are made at once. */
+enum { XMSS_LEVELS = 0, FORS_LEVELS = 0, MOST_THREADS = 64, N = SLH_DSA_SHA2_128F_N };
 enum { SK = SLH_DSA_SHA2_128F_SECRET_KEY, PK = SLH_DSA_SHA2_128F_PUBLIC_KEY };
 
 /* One signature in work: what all jobs are given, the room for their answers, and the number of the next job. */

@@ -6,8 +6,8 @@ use std::sync::atomic::{AtomicU32, Ordering};
 use std::{env, error::Error, fs, io, io::Read, thread};
 
 const SET: u32 = 2; // SLH_DSA_SHA2_128F
-const XMSS: u32 = 1; // each XMSS tree is cut into two ranges,
-const FORS: u32 = 1; // and so is each FORS tree
+const XMSS: u32 = 0; // no XMSS tree is cut, since the eight leaves of one are made at once,
+const FORS: u32 = 0; // and no FORS tree
 const SK: usize = 64;
 const N: usize = 16;
 
