@@ -1,6 +1,6 @@
 #!/usr/bin/env python3
-"""Writes docs/CONTRACTS.md from the sources: for each crate the calls that other crates have, the names of the clauses
-of their contracts, and the wrong bodies that the prover has to refuse, as edits in must-fail/ (tried by `rt ci`) and
+"""Writes docs/CONTRACTS.md from the sources: for each file of each crate the calls that other crates have, the names of
+the clauses of their contracts, and the wrong bodies that the prover has to refuse, as edits in must-fail/ (tried by `rt ci`) and
 wrong/ (tried by tools/wrong_bodies.py). A private function is listed where an edit turns it. It also looks whether the
 code on docs/CALLING.md is that of crates/slh_letter and crates/slh_examples, and its lines of crates.txt.
 
@@ -21,14 +21,14 @@ HEAD = """# Every call, its clauses and its wrong bodies
 `tools/contracts.py` writes this page from the sources, and the test command fails where it differs.
 [PROVED.md](PROVED.md) says what the clauses come to.
 
-The table has for each crate the calls that it gives to others, the names of their clauses, which stand on the function
-in `crates/NAME/src`, and the wrong bodies that the prover refuses: {edits} edits in `crates/NAME/wrong`, which
-`tools/wrong_bodies.py` tries, and {few} in `crates/NAME/must-fail`, which `rt ci` tries. A private function stands here
-where an edit turns it: the calls above it rest on what it promises. "X as T" is a type's method of the trait T, with
-the trait's clauses. Calls with no edit and the same clauses share a row, below the others. "none": the function is safe
-and returns, as all do, and no more is said of it.
+The table has for each crate the calls that it gives to others, by their files in `crates/NAME/src`, and the names of
+their clauses, which stand on the function there. Behind a function's name stand the wrong bodies of it that the prover
+refuses: {edits} edits in `crates/NAME/wrong`, which `tools/wrong_bodies.py` tries, and {few} in `crates/NAME/must-fail`,
+which `rt ci` tries. A private function stands here where an edit turns it: the calls above it rest on what it promises.
+"X as T" is a type's method of the trait T, with the trait's clauses. "none": the function is safe and returns, as all
+do, and no more is said of it.
 
-| function | clauses | wrong bodies |
+| file | functions, and their wrong bodies | clauses |
 |---|---|---|
 """
 
@@ -107,22 +107,24 @@ def clauses_of(name, clauses):
 
 
 def rows_of(crate):
-    """The rows of a crate, "" where it has no calls: its name, then a row for each function that an edit turns, and one
-    for all other calls of the same clauses."""
-    rows, others, turned = [], {}, {}
+    """The rows of a crate, "" where it has no calls: its name, then for each file a row for all functions that an edit
+    turns, or that other crates can call, whose clauses have the same names."""
+    rows, turned = [], {}
     for edit, path, line in edits(crate):
         above = [name for number, name, _, _ in functions(crate, path) if number <= line]
         turned.setdefault((path, above[-1] if above else ""), []).append(edit)
     for path in sources(crate):
+        alike = {}
         for _, name, is_public, clauses in functions(crate, path):
-            said, by = clauses_of(name, clauses), turned.pop((path, name), [])
-            if by:
+            by = turned.pop((path, name), [])
+            if by or is_public:
                 private = "" if is_public or " as " in name else ", private"
-                rows.append(f"| `{name}`{private} | {said} | {quoted(by)} |")
-            elif is_public:
-                others.setdefault(said, []).append(name)
-    rows += [f"| the file `{path}` | | {quoted(by)} |" for (path, _), by in turned.items()]
-    rows += [f"| {quoted(names)} | {said} | |" for said, names in others.items()]
+                said = f"`{name}`{private}" + (f": {quoted(by)}" if by else "")
+                alike.setdefault(clauses_of(name, clauses), []).append(said)
+        if (path, "") in turned:
+            alike.setdefault("", []).append(f"the file itself: {quoted(turned.pop((path, '')))}")
+        file = path.removeprefix("src/")
+        rows += [f"| `{file}` | {'; '.join(some)} | {clauses} |" for clauses, some in alike.items()]
     return "\n".join([f"| **{crate}** | | |", *rows]) + "\n" if rows else ""
 
 

@@ -1,12 +1,12 @@
 #!/usr/bin/env python3
 """Tries wrong bodies: edits of the sources, each of which the prover has to refuse.
 
-usage: tools/wrong_bodies.py [CRATE..]      all edits of these crates
+usage: tools/wrong_bodies.py CRATE[/EDIT]..  all edits of these crates, or one of a crate
        tools/wrong_bodies.py --all          all edits
        tools/wrong_bodies.py --changed      all edits of each crate that is not as the list says
        tools/wrong_bodies.py --gate [SEED]  these, and edits of some more crates, drawn by SEED or at random, until they
                                             are an eighth of all
-       --write with any of these            writes the list anew for each crate whose edits were all refused
+       --write with any of these            writes the list anew for each crate whose edits were all tried and refused
 
 An edit is a file crates/NAME/wrong/EDIT.edit with lines
 
@@ -303,7 +303,7 @@ def drawn(runs, seed):
 
 def arguments():
     parser = argparse.ArgumentParser(description="Tries wrong bodies, each of which the prover has to refuse.")
-    parser.add_argument("crate", nargs="*", choices=[*USES, []], help="crates whose edits are tried")
+    parser.add_argument("crate", nargs="*", metavar="CRATE[/EDIT]", help="crates whose edits are tried, or edits")
     parser.add_argument("--all", action="store_true", help="all edits")
     parser.add_argument("--changed", action="store_true", help="the edits of each crate that is not as listed")
     parser.add_argument("--gate", nargs="?", const=random.randrange(1_000_000), type=int, metavar="SEED", help="these, and an eighth of the others")
@@ -312,21 +312,31 @@ def arguments():
     return parser.parse_args()
 
 
+def edits_of(words):
+    """By crate the edits that CRATE or CRATE/EDIT stand for."""
+    found = {}
+    for word in words:
+        crate, _, edit = word.partition("/")
+        some = [it for it in edits(crate) if crate in USES and it in (f"wrong/{edit}.edit", it if not edit else "")]
+        found.setdefault(crate, []).extend(some or sys.exit(f"tools/wrong_bodies.py: there are no edits {word}"))
+    return found
+
+
 def main():
     asked, old = arguments(), listed()
+    asked.crate = edits_of(asked.crate)
     sums = {name: sum_of(name) for name in USES if edits(name)}
     stale = [it for it in {**sums, **old} if sums.get(it) != old.get(it) and (not asked.crate or it in asked.crate)]
-    some = list(asked.crate) or list(sums) if asked.all else list(asked.crate)
-    if asked.changed or asked.gate is not None:
-        some = [name for name in stale if name in sums]
-    runs = {name: edits(name) for name in some if name in sums}
+    some = [name for name in stale if name in sums] if asked.changed or asked.gate is not None else sums if asked.all else ()
+    runs = {**{name: edits(name) for name in some}, **asked.crate}
     if asked.gate is not None:
         runs = drawn(runs, asked.gate)
         print(f"seed {asked.gate}: {', '.join(f'{len(it)} of {name}' for name, it in runs.items())}", flush=True)
     found = try_all(runs, asked.jobs)
     failed = [it for it in found if not it[2]]
     if asked.write:
-        well = {name: sums[name] for name in some if name in sums and not any(it[0] == name for it in failed)}
+        tried = [name for name in runs if set(runs[name]) == set(edits(name))]
+        well = {name: sums[name] for name in tried if not any(it[0] == name for it in failed)}
         new = {name: it for name, it in sorted({**old, **well}.items()) if name in sums}
         with open(LIST, "w") as file:
             file.writelines(f"{name} {it}\n" for name, it in new.items())
