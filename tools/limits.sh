@@ -93,8 +93,8 @@ printf 'a message\n' >message
 # Objects of objects, as deep as they may nest.
 python3 -c 'print("[" + "{\"a\":" * 126 + "1" + "}" * 126 + "]")' >deep.json
 
-# Each command, with 64 workers where it takes workers, under the least limit of the stack, and under every limit below
-# it; and those with 64 workers again where no thread can be had.
+# Each command, with 64 workers where it takes workers, under the least limit of the stack; and those with 64 workers
+# again where no thread can be had. Other limits are gone over below, by `sign` and by two vector files.
 many="--workers 64 --xmss-levels 3 --fors-levels 3"
 while read -r words; do
     # shellcheck disable=SC2086

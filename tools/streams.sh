@@ -299,8 +299,8 @@ long_test+='","pkSeed":"'$(digits 64)'","sk":"'$(digits 256)'","pk":"'$(digits 1
     printf '%s]' "$long_test"
 } >long_tests
 
-# The program with the other arguments comes to that many threads, and no more. It is looked at 60 times at most, and 10
-# times from then on.
+# The program with the other arguments comes to that many threads, and no more. It is looked at 60 times at most, and
+# once it has that many 10 times.
 has_threads() {
     local wanted=$1 most=0 after=0 threads pid
     shift

@@ -16,13 +16,14 @@ An edit is a file crates/NAME/wrong/EDIT.edit with lines
     new: TEXT            what stands in its place (more pairs may follow, each for the text that the earlier ones left)
 
 The functions that a crate's edits turn are first checked as they are, over the libraries that `rt ci`, or a check, has
-built. Then a copy of the crate is edited for each edit, and its function checked over what that check has kept. Refused
-is an edit whose check says that the proof of this function is missing: a name that is not there, a text that can't be
-read, or another function whose proof is missing without it, is an edit to mend. tools/wrong_bodies.txt lists for each
-crate the sum of what its edits' answers depend on, at which every edit was seen refused: its own files but comments, the
-contracts of the crates that it uses, the definitions that all these name, and the prover's logic. A crate that is not as
-listed makes the run fail, but under --write, and under --gate where all its edits are refused. The last line has the
-counts of edits and of listed crates, and the status is 0 where nothing failed.
+built. Then a copy of the crate is edited for each edit, and its function checked over what that check, and those of
+edits before it, have kept. Refused is an edit whose check says that the proof of this function is missing: a name that
+is not there, a text that can't be read, or another function whose proof is missing without it, is an edit to mend.
+tools/wrong_bodies.txt lists for each crate the sum of what its edits' answers depend on, at which every edit was seen
+refused: its own files but comments, the contracts of the crates that it uses, the definitions that all these name, and
+the prover's logic. A crate that is not as listed makes the run fail, but under --write, and under --gate where all its
+edits are refused. The last line has the counts of edits and of listed crates, and the status is 0 where nothing
+failed.
 """
 import argparse
 import concurrent.futures
@@ -267,7 +268,8 @@ def try_edits(crate, some, kept):
 
 
 def try_all(runs, jobs):
-    """Tries the edits of each crate, so many at once, each over what a check of the crate as it is has kept."""
+    """Tries the edits of each crate, so many at once, each over what a check of the crate as it is, and the edits before
+    it in its share, have kept."""
     with tempfile.TemporaryDirectory(prefix="rt-edits-") as room, concurrent.futures.ThreadPoolExecutor(jobs) as pool:
 
         def begin(crate):
@@ -306,7 +308,7 @@ def arguments():
     parser.add_argument("crate", nargs="*", metavar="CRATE[/EDIT]", help="crates whose edits are tried, or edits")
     parser.add_argument("--all", action="store_true", help="all edits")
     parser.add_argument("--changed", action="store_true", help="the edits of each crate that is not as listed")
-    parser.add_argument("--gate", nargs="?", const=random.randrange(1_000_000), type=int, metavar="SEED", help="these, and an eighth of the others")
+    parser.add_argument("--gate", nargs="?", const=random.randrange(1_000_000), type=int, metavar="SEED", help="these, and edits of more crates until they are an eighth of all")
     parser.add_argument("--write", action="store_true", help="writes the list")
     parser.add_argument("--jobs", type=int, default=len(os.sched_getaffinity(0)), help="how many checks run at once")
     return parser.parse_args()
@@ -327,7 +329,8 @@ def main():
     asked.crate = edits_of(asked.crate)
     sums = {name: sum_of(name) for name in USES if edits(name)}
     stale = [it for it in {**sums, **old} if sums.get(it) != old.get(it) and (not asked.crate or it in asked.crate)]
-    some = [name for name in stale if name in sums] if asked.changed or asked.gate is not None else sums if asked.all else ()
+    is_by_list = asked.changed or asked.gate is not None
+    some = [name for name in stale if name in sums] if is_by_list else sums if asked.all else ()
     runs = {**{name: edits(name) for name in some}, **asked.crate}
     if asked.gate is not None:
         runs = drawn(runs, asked.gate)
