@@ -9,8 +9,9 @@ KEY has the 128 bytes of a secret key, and each worker reads it and the library 
 Both signatures are of the deterministic variant, so that they can be compared. One that is given away takes 32 fresh
 random bytes, os.urandom(32), in place of the empty randomizer.
 
-By two workers on one busy machine this took about as long as slh_sign alone, and longer with the build for x86-64-v3.
-Other clusters were not tried.
+On one machine of 4 processors 4 workers made it in 0.39 s where slh_sign alone took 0.68 to 1.25, and built for
+x86-64-v3 in 0.20 where that took 0.22 to 0.31. The answers are 2.2 MB, which between machines go over the network. That
+was not tried.
 """
 import ctypes
 import os
