@@ -125,6 +125,8 @@ def rows_of(crate):
             alike.setdefault("", []).append(f"the file itself: {quoted(turned.pop((path, '')))}")
         file = path.removeprefix("src/")
         rows += [f"| `{file}` | {'; '.join(some)} | {clauses} |" for clauses, some in alike.items()]
+    if turned:
+        sys.exit(f"tools/contracts.py: edits of {crate} turn what is in none of its sources: {turned}")
     return "\n".join([f"| **{crate}** | | |", *rows]) + "\n" if rows else ""
 
 
