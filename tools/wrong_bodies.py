@@ -21,9 +21,9 @@ edits before it, have kept. Refused is an edit whose check says that the proof o
 is not there, a text that can't be read, or another function whose proof is missing without it, is an edit to mend.
 tools/wrong_bodies.txt lists for each crate the sum of what its edits' answers depend on, at which every edit was seen
 refused: its own files but comments, the contracts of the crates that it uses, the definitions that all these name, and
-the prover's logic. A crate that is not as listed makes the run fail, but under --write, and under --gate where all its
-edits are refused. The last line has the counts of edits and of listed crates, and the status is 0 where nothing
-failed.
+the prover's logic. Where a source is broken into lines changes no sum, unless an edit can't be applied then. A crate
+that is not as listed makes the run fail, but under --write, and under --gate where all its edits are refused. The last
+line has the counts of edits and of listed crates, and the status is 0 where nothing failed.
 """
 import argparse
 import concurrent.futures
@@ -47,6 +47,8 @@ SHARE = 8
 NAMES = re.compile(r"(\./)?proofs/.*(has no field|is not in scope|has no `|was not admitted|is no name)")
 # The declaration of a type or a trait.
 TYPE = re.compile(r"^(?:pub(?:\(\w+\))? )?(?:struct|enum|trait|type) (\w+)[^\n;]*(?:;$|.*?^\})", re.M | re.S)
+# A text in quotes, a comment behind code with its line break, or another line break with what indents the next line.
+BREAK = re.compile(r"""'\\?"'|"(?:\\.|[^"\\])*"|//[^\n]*\n|\n\s*""", re.S)
 # What it says of a text that it could not read, where the error is of no declaration or of a name.
 UNREAD = re.compile(r"is not in scope|has no field|is no name|operand is missing|expected the end|cannot continue")
 
@@ -68,6 +70,13 @@ def text_of(crate, path):
 
 def without_comments(text):
     return "\n".join(line for line in text.split("\n") if not re.match(r"\s*(//|--( |$))", line))
+
+
+def without_line_breaks(path, text):
+    """The text of a source file (.rt) with a space for each line break and what indents the next line: where a clause is
+    broken into lines changes no proof. A line break in a text in quotes is a part of the text, and one behind a comment
+    ends it, so these stay; and so do all of another file, where the layout can matter."""
+    return BREAK.sub(lambda it: " " if it[0][0] == "\n" else it[0], text) if path.endswith(".rt") else text
 
 
 def word_of(imported):
@@ -149,12 +158,15 @@ def sum_of(crate):
     made = hashlib.sha256(kit.logic().encode())
     own = [(path, text_of(crate, path)) for path in files(crate, *PARTS, "wrong")]
     for path, text in own:
-        made.update(f"\0{path}\0{text if path.endswith('.edit') else without_comments(text)}".encode())
+        text = text if path.endswith(".edit") else without_line_breaks(path, without_comments(text))
+        made.update(f"\0{path}\0{text}".encode())
+    # An `old:` text stands on one line: an edit that a line break has cut is not as it was seen refused.
+    made.update("".join(read_edit(crate, path)[2] for path in edits(crate)).encode())
     used = [(name, path) for name in USES[crate] if name in USES for path in files(name, "src")]
     told = [contracts_of(without_comments(text_of(*it))) for it in used]
     names = sorted(cited(crate, [text for _, text in own] + told))
     for it, text in [*zip(used, told), *((it, defined(*it)) for it in names)]:
-        made.update(f"\0{'/'.join(it)}\0{text}".encode() if text else b"")
+        made.update(f"\0{'/'.join(it)}\0{without_line_breaks(it[1], text)}".encode() if text else b"")
     return made.hexdigest()
 
 
