@@ -167,7 +167,8 @@ fn with_subcommand<'a>(
     program: Command<'a>,
     made: Result<Command<'a>, AllocError>,
 ) -> Result<Command<'a>, AllocError>
-    ensures { (s : Shape) → IfOk made.entry (CommandIs s) → IfOk result (λ c. app_of c ≡ with_subcommand (app_of program.entry) s) }
+    ensures { (s : Shape) → IfOk made.entry (CommandIs s)
+        → IfOk result (λ c. app_of c ≡ with_subcommand (app_of program.entry) s) }
 {
     program.subcommand(made?)
 }

@@ -122,7 +122,8 @@ impl<A: Allocator> Board<A> {
     /// nobody.
     pub fn stop(&self, seat: &mut Seat)
         requires { seat.old.board ≡ self.now }
-        ensures kept { (seat.new.board ≡ seat.old.board) × (seat.new.drawn ≡ seat.old.drawn) × (seat.new.mark ≡ seat.old.mark) }
+        ensures kept { (seat.new.board ≡ seat.old.board) × (seat.new.drawn ≡ seat.old.drawn)
+            × (seat.new.mark ≡ seat.old.mark) }
         ensures raised { IsTrue seat.new.raised }
     {
         raise(&self.table.shared, &mut seat.seat);

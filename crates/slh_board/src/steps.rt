@@ -77,7 +77,8 @@ pub fn join(
     first: &mut Seat<u8, View>,
     other: Seat<u8, View>,
 )
-    requires table { (table.now.table_id.words ≡ 2) × (first.old.table_id ≡ table.now.table_id) × (other.table_id ≡ table.now.table_id) }
+    requires table { (table.now.table_id.words ≡ 2) × (first.old.table_id ≡ table.now.table_id)
+        × (other.table_id ≡ table.now.table_id) }
     requires stand { (1 ≤ first.old.me.0.seats) × (1 ≤ other.me.0.seats) }
     requires holds_none { other.me.1 ≡ [] }
     ensures same_table { first.new.table_id ≡ first.old.table_id }

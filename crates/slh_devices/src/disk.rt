@@ -21,7 +21,8 @@ pub struct Disk<O: Opener> {
     pub opener: O,
     current: Option<OpenFile<O::File>>,
     pub failures: u64,
-    ghost stands: { IfSome current (λ f. IsLeftFrom (O.bytes_at opener f.path.items) f.at (O.File.remaining f.file)) } by { Prim.hlevel props },
+    ghost stands: { IfSome current (λ f.
+        IsLeftFrom (O.bytes_at opener f.path.items) f.at (O.File.remaining f.file)) } by { Prim.hlevel props },
 }
 
 /// A file that is open at a place.
@@ -67,10 +68,12 @@ impl<O: Opener> Disk<O> {
         ensures bytes { IfOk result (λ n. HasPart (O.bytes_at self.old.opener path.now) at (take n out.new)) }
         ensures end { IfOk result (λ n. n ≡ 0 → 0 < length out.new → EndsBy (O.bytes_at self.old.opener path.now) at) }
         // The next read of the file begins where this one ended.
-        ensures place { IfOk result (λ n. IsSomeAnd self.new.current (λ f. (f.path.items ≡ path.now) × (f.at ≡ at + n))) }
+        ensures place { IfOk result (λ n.
+            IsSomeAnd self.new.current (λ f. (f.path.items ≡ path.now) × (f.at ≡ at + n))) }
         // Where the file is open at that place, it is not opened again.
         ensures goes_on { IfSome self.old.current (λ f. f.path.items ≡ path.now → f.at ≡ at → 0 < at
-            → IsSomeAnd self.new.current (λ g. ReadConsumes (O.File.remaining f.file) (O.File.remaining g.file) result out.new)) }
+            → IsSomeAnd self.new.current (λ g.
+            ReadConsumes (O.File.remaining f.file) (O.File.remaining g.file) result out.new)) }
         ensures same { self.new.opener ≡ self.old.opener }
         ensures failures { self.new.failures ≡ self.old.failures }
     {
@@ -84,7 +87,8 @@ impl<O: Opener> Disk<O> {
     /// Opens the file at `path` at place `at`, unless it is open there.
     fn go_to(&mut self, path: &str, at: u64) -> io::Result<()>
         ensures there { OnOk result (IsSomeAnd self.new.current (λ f. (f.path.items ≡ path.now) × (f.at ≡ at))) }
-        ensures kept { IfSome self.old.current (λ f. f.path.items ≡ path.now → f.at ≡ at → 0 < at → (self.new ≡ self.old) × IsOk result) }
+        ensures kept { IfSome self.old.current (λ f. f.path.items ≡ path.now → f.at ≡ at → 0 < at
+            → (self.new ≡ self.old) × IsOk result) }
         ensures same { self.new.opener ≡ self.old.opener }
         ensures failures { self.new.failures ≡ self.old.failures }
     {
@@ -96,7 +100,8 @@ impl<O: Opener> Disk<O> {
 
     /// Whether the file at `path` is open at place `at`, which is not its start.
     fn is_at(&self, path: &str, at: u64) -> bool
-        ensures { IsTrue result ↔ ((0 < at) × IsSomeAnd self.now.current (λ f. (f.path.items ≡ path.now) × (f.at ≡ at))) }
+        ensures { IsTrue result
+            ↔ ((0 < at) × IsSomeAnd self.now.current (λ f. (f.path.items ≡ path.now) × (f.at ≡ at))) }
     {
         match &self.current {
             Some(open) => at > 0 && open.at == at && open.path.as_slice() == path.as_bytes(),

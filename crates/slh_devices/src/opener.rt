@@ -14,11 +14,13 @@ pub trait Opener {
 
     /// Opens the file at `path` for reading, at its first byte.
     fn open(&self, path: &str) -> io::Result<Self::File>
-        ensures { IfOk result (λ f. IsOpened (bytes_at self.now path.now) (Self.File.stream_position f) (Self.File.stream_bytes f)) };
+        ensures { IfOk result (λ f.
+            IsOpened (bytes_at self.now path.now) (Self.File.stream_position f) (Self.File.stream_bytes f)) };
 
     // Where bytes are known, what is left of an open file is its bytes from its position on.
     ghost left: { (opener : Self) (path whole : List ℕ) → bytes_at opener path ≡ Some whole
-        → (f : Self.File) (bytes : List ℕ) (at : ℕ) → Self.File.stream_bytes f ≡ Some bytes → Self.File.stream_position f ≡ Some at
+        → (f : Self.File) (bytes : List ℕ) (at : ℕ)
+        → Self.File.stream_bytes f ≡ Some bytes → Self.File.stream_position f ≡ Some at
         → Self.File.remaining f ≡ Some (drop at bytes) };
 }
 

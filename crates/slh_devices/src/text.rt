@@ -40,7 +40,8 @@ pub fn put_number<W: Sink>(
     n: u64,
     after: &str,
 ) -> Result<(), WriteFault>
-    ensures puts { Puts (W.state output.old).contents (W.state output.new).contents result (before.now ++ decimal n ++ after.now) }
+    ensures puts { Puts (W.state output.old).contents (W.state output.new).contents result
+        (before.now ++ decimal n ++ after.now) }
     ensures failed { CountsFailure (W.state output.old).failures (W.state output.new).failures result }
 {
     put_bytes(output, before.as_bytes())?;

@@ -38,7 +38,8 @@ struct Begun<'a> {
 fn put_answer(begun: &Begun, job: u32, out: &mut [u8], at: usize)
     requires job { job < jobs begun.now.levels.now }
     requires room { at + len_of begun.now.levels.now job ≤ length out.old }
-    ensures len { length (answer_of begun.now.levels.now begun.now.sk.now begun.now.start.now job) ≡ len_of begun.now.levels.now job }
+    ensures len { length (answer_of begun.now.levels.now begun.now.sk.now begun.now.start.now job)
+        ≡ len_of begun.now.levels.now job }
     ensures answer { take (at + len_of begun.now.levels.now job) out.new
         ≡ take at out.old ++ answer_of begun.now.levels.now begun.now.sk.now begun.now.start.now job }
 {
@@ -109,11 +110,13 @@ fn answer_halves<R: Threads + Sync>(
     let rest = threads - half;
     let mut first_half = ||
         requires { IsSync R.row × (first < middle) × IsRoomFor begun.now.levels.now first middle front.now }
-        ensures { AreAnswersOf begun.entry.now.levels.now begun.entry.now.sk.now begun.entry.now.start.now first middle front.exit.now }
+        ensures { AreAnswersOf begun.entry.now.levels.now begun.entry.now.sk.now begun.entry.now.start.now
+            first middle front.exit.now }
     { answer_by_threads(rt, begun, half, first, middle, front) };
     let mut second_half = ||
         requires { IsSync R.row × (middle < end) × IsRoomFor begun.now.levels.now middle end back.now }
-        ensures { AreAnswersOf begun.entry.now.levels.now begun.entry.now.sk.now begun.entry.now.start.now middle end back.exit.now }
+        ensures { AreAnswersOf begun.entry.now.levels.now begun.entry.now.sk.now begun.entry.now.start.now
+            middle end back.exit.now }
     { answer_by_threads(rt, begun, rest, middle, end, back) };
     join_mut(rt, &mut first_half, &mut second_half);
 }

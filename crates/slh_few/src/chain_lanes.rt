@@ -92,7 +92,8 @@ pub(crate) fn run_lanes(
 ) -> LaneNodes
     requires { (j : ℕ) → j < 8 → slice_index from j + slice_index counts j ≤ MOST_STEPS }
     ensures { (p : Params) (pk : List ℕ) → IsSeededLanes lanes.now p pk → (j : ℕ) → j < 8 → value_at result j p.n
-        ≡ chain_of p pk at (slice_index group.now j) (value_at x.now j p.n) (slice_index from j) (slice_index counts j) }
+        ≡ chain_of p pk at (slice_index group.now j) (value_at x.now j p.n)
+        (slice_index from j) (slice_index counts j) }
 {
     lanes.chains_each(&chain_adrs(at, AdrsType::WotsHash, group), x, from, counts)
 }
@@ -167,7 +168,8 @@ pub(crate) fn run_values(
     requires values { length values.now ≡ len (params public.now.set) * (params public.now.set).n }
     requires out { length out.old ≡ len (params public.now.set) * (params public.now.set).n }
     ensures { let p = params public.now.set in let pk = public.now.pk_seed.now in
-        out.new ≡ end_to_end (λ c. chain_of p pk at c (part p.n values.now c) (slice_index from.now c) (slice_index counts.now c)) (len p) }
+        out.new ≡ end_to_end (λ c. chain_of p pk at c (part p.n values.now c)
+        (slice_index from.now c) (slice_index counts.now c)) (len p) }
 {
     let lanes = SeededLanes::new(public.set, public.pk_seed);
     let n = public.set.n();

@@ -29,7 +29,8 @@ pub fn fors_part_len(set: ParamSet) -> usize
 /// Writes the secret of leaf `i`, then the leaf's path.
 #[tactic(auto, unfolding(crate::specs::Trees::fors_tree_of))]
 fn sign_tree(seeded_tree: &SeededForsTree, lanes: &SeededTreeLanes, i: u32, out: &mut [u8])
-    requires lanes { let seeds = seeded_tree.now.tree.seeds in IsSeededTreeLanes lanes.now (params seeds.set) seeds.pk_seed.now }
+    requires lanes { let seeds = seeded_tree.now.tree.seeds in
+        IsSeededTreeLanes lanes.now (params seeds.set) seeds.pk_seed.now }
     requires leaf { i < 2 ^ (params seeded_tree.now.tree.seeds.set).a }
     requires out { length out.old ≡ fors_part_len (params seeded_tree.now.tree.seeds.set) }
     ensures { let t = seeded_tree.now.tree in let p = params t.seeds.set in
@@ -53,7 +54,8 @@ fn put_tree(
     out: &mut [u8],
     start: usize,
 )
-    requires lanes { let seeds = seeded_tree.now.tree.seeds in IsSeededTreeLanes lanes.now (params seeds.set) seeds.pk_seed.now }
+    requires lanes { let seeds = seeded_tree.now.tree.seeds in
+        IsSeededTreeLanes lanes.now (params seeds.set) seeds.pk_seed.now }
     requires leaf { i < 2 ^ (params seeded_tree.now.tree.seeds.set).a }
     requires out { start + fors_part_len (params seeded_tree.now.tree.seeds.set) ≤ length out.old }
     ensures { let t = seeded_tree.now.tree in let p = params t.seeds.set in
@@ -106,7 +108,8 @@ pub fn fors_sign(seeds: &Seeds, idx_tree: u64, idx_leaf: u32, md: &[u8], out: &m
 fn root_from(seeded_tree: &SeededForsTree, i: u32, sig: &[u8]) -> Node
     requires leaf { i < 2 ^ (params seeded_tree.now.tree.seeds.set).a }
     requires sig { length sig.now ≡ fors_part_len (params seeded_tree.now.tree.seeds.set) }
-    requires state { IsSeeded seeded_tree.now.seeded.now (params seeded_tree.now.tree.seeds.set) seeded_tree.now.tree.seeds.pk_seed.now }
+    requires state { IsSeeded seeded_tree.now.seeded.now
+        (params seeded_tree.now.tree.seeds.set) seeded_tree.now.tree.seeds.pk_seed.now }
     ensures value { let t = seeded_tree.now.tree in let p = params t.seeds.set in
         let sk = t.seeds.sk_seed.now in let pk = t.seeds.pk_seed.now in
         result.items ≡ climb_of (fors_tree p sk pk t.idx_tree t.idx_leaf t.tree_no) i
@@ -127,7 +130,8 @@ fn root_at(seeded_tree: &SeededForsTree, i: u32, sig: &[u8]) -> Node
     requires leaf { i < 2 ^ (params seeded_tree.now.tree.seeds.set).a }
     requires sig { let t = seeded_tree.now.tree in let p = params t.seeds.set in
         t.tree_no * fors_part_len p + fors_part_len p ≤ length sig.now }
-    requires state { IsSeeded seeded_tree.now.seeded.now (params seeded_tree.now.tree.seeds.set) seeded_tree.now.tree.seeds.pk_seed.now }
+    requires state { IsSeeded seeded_tree.now.seeded.now
+        (params seeded_tree.now.tree.seeds.set) seeded_tree.now.tree.seeds.pk_seed.now }
     ensures { let t = seeded_tree.now.tree in let p = params t.seeds.set in
         let sk = t.seeds.sk_seed.now in let pk = t.seeds.pk_seed.now in
         let own = part (fors_part_len p) sig.now t.tree_no in

@@ -73,7 +73,8 @@ impl<'s, 'h> SeededForsTree<'s, 'h> {
         ensures node { result.node.items ≡ node (fors_tree_of self.now.tree) z i }
         ensures z { result.z ≡ z }
         ensures i { result.i ≡ i }
-        ensures gained { Gains (fors_tree_of self.now.tree) (LiesInRange (first_leaf z i) (past_leaf z i) rec.old.leaf) rec.old rec.new }
+        ensures gained { Gains (fors_tree_of self.now.tree)
+            (LiesInRange (first_leaf z i) (past_leaf z i) rec.old.leaf) rec.old rec.new }
     {
         let node = if rec.leaf() >> z == i {
             self.node_over_own_leaf(lanes, z, rec)

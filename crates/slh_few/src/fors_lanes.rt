@@ -31,7 +31,8 @@ impl<'a> ForsTree<'a> {
             ≡ (fors_tree p sk pk self.now.idx_tree self.now.idx_leaf self.now.tree_no).join z (i + j)
             (value_at left.now (2 * j) p.n) (value_at left.now (2 * j + 1) p.n) }
         ensures high { let p = params self.now.seeds.set in let sk = self.now.seeds.sk_seed.now in
-            (pk : List ℕ) → IsSeededTreeLanes lanes.now p pk → length pk ≡ p.n → (j : ℕ) → j < 4 → value_at result (j + 4) p.n
+            (pk : List ℕ) → IsSeededTreeLanes lanes.now p pk → length pk ≡ p.n
+            → (j : ℕ) → j < 4 → value_at result (j + 4) p.n
             ≡ (fors_tree p sk pk self.now.idx_tree self.now.idx_leaf self.now.tree_no).join z (i + (j + 4))
             (value_at right.now (2 * j) p.n) (value_at right.now (2 * j + 1) p.n) }
     {

@@ -126,7 +126,8 @@ impl<'a> ForsTree<'a> {
         ensures len { length result.items ≡ count }
         ensures leaves { let p = params self.now.seeds.set in let sk = self.now.seeds.sk_seed.now in
             (pk : List ℕ) → IsSeededLanes lanes.now p pk
-            → AreLeavesFrom (fors_tree p sk pk self.now.idx_tree self.now.idx_leaf self.now.tree_no) first result.items }
+            → AreLeavesFrom (fors_tree p sk pk self.now.idx_tree self.now.idx_leaf self.now.tree_no)
+            first result.items }
     {
         let leaves = self.leaf_lanes(lanes, first);
         first_nodes(&leaves, self.seeds.set.n(), count as usize)
@@ -150,7 +151,8 @@ impl<'a> ForsTree<'a> {
     pub(crate) fn lane_adrs(&self, kind: AdrsType, z: u32, first: u32) -> LaneAdrs
         requires height { z ≤ (params self.now.seeds.set).a }
         requires index { first < 2 ^ ((params self.now.seeds.set).a - z) }
-        ensures { (j : ℕ) → j < 8 → HasAddress result j (address 0 self.now.idx_tree (type_number kind) self.now.idx_leaf z
+        ensures { (j : ℕ) → j < 8
+            → HasAddress result j (address 0 self.now.idx_tree (type_number kind) self.now.idx_leaf z
             (self.now.tree_no * 2 ^ ((params self.now.seeds.set).a - z) + (first + j))) }
     {
         let index = index_in_forest(self.tree_no, self.seeds.set.a() - z, first);
@@ -165,7 +167,8 @@ impl<'a> ForsTree<'a> {
         requires index { i < 2 ^ ((params self.now.seeds.set).a - z) }
         ensures { let p = params self.now.seeds.set in let sk = self.now.seeds.sk_seed.now in
             (pk : List ℕ) → IsSeededTree seeded.now p pk → result.items
-            ≡ (fors_tree p sk pk self.now.idx_tree self.now.idx_leaf self.now.tree_no).join z i l.now.items r.now.items }
+            ≡ (fors_tree p sk pk self.now.idx_tree self.now.idx_leaf self.now.tree_no).join z i
+            l.now.items r.now.items }
     {
         let index = index_in_forest(self.tree_no, self.seeds.set.a() - z, i);
         let adrs = fors_adrs(self.idx_tree, self.idx_leaf, AdrsType::ForsTree, z, index);

@@ -61,7 +61,8 @@ pub(crate) fn put_value(set: ParamSet, kept: &mut [u8], c: usize, j: usize, valu
     ensures set { part (params set).n (part (chain_len (params set)) kept.new c) j ≡ value.now.items }
     ensures others { (i : ℕ) → i ≢ j → part (params set).n (part (chain_len (params set)) kept.new c) i
         ≡ part (params set).n (part (chain_len (params set)) kept.old c) i }
-    ensures chains { (i : ℕ) → i ≢ c → part (chain_len (params set)) kept.new i ≡ part (chain_len (params set)) kept.old i }
+    ensures chains { (i : ℕ) → i ≢ c → part (chain_len (params set)) kept.new i
+        ≡ part (chain_len (params set)) kept.old i }
 {
     let size = kept_chain_len(set);
     let start = c * size;
@@ -78,7 +79,8 @@ fn put_values(set: ParamSet, kept: &mut [u8], c: usize, j: usize, nodes: &LaneNo
         ≡ value_at nodes.now i (params set).n }
     ensures others { (d i : ℕ) → i ≢ j → part (params set).n (part (chain_len (params set)) kept.new d) i
         ≡ part (params set).n (part (chain_len (params set)) kept.old d) i }
-    ensures chains { (d : ℕ) → d < c → part (chain_len (params set)) kept.new d ≡ part (chain_len (params set)) kept.old d }
+    ensures chains { (d : ℕ) → d < c → part (chain_len (params set)) kept.new d
+        ≡ part (chain_len (params set)) kept.old d }
 {
     for i in 0..used {
         put_value(set, kept, c + i, j, &lane_node(nodes, i, set.n()));

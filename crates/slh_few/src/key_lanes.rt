@@ -40,7 +40,8 @@ enum KeyStreams {
 /// The addresses of chain `c` of eight keys, of which the first is at this place.
 fn key_adrs(at: Place, kind: AdrsType, c: u32) -> LaneAdrs
     requires { at.pair + 8 ≤ 2 ^ 32 }
-    ensures { (j : ℕ) → j < 8 → HasAddress result j (wots_address (place at.layer at.tree (at.pair + j)) (type_number kind) c 0) }
+    ensures { (j : ℕ) → j < 8
+        → HasAddress result j (wots_address (place at.layer at.tree (at.pair + j)) (type_number kind) c 0) }
 {
     let mut adrs = adrs_lanes(&wots_adrs(at, kind, c, 0));
     set_pairs(&mut adrs, consecutive(at.pair));
@@ -91,7 +92,8 @@ fn lane_stream(seeds: &Seeds, at: Place) -> LaneStream
 /// T at the addresses of eight keys one after the other, of which the first is at this place, before any end.
 fn streams_alone(seeds: &Seeds, at: Place) -> [TStream; 8]
     requires { at.pair + 8 ≤ 2 ^ 32 }
-    ensures { (j : ℕ) (d : TStream) → j < 8 → HasAbsorbed (slice_index_or result j d) (params seeds.now.set) seeds.now.pk_seed.now
+    ensures { (j : ℕ) (d : TStream) → j < 8
+        → HasAbsorbed (slice_index_or result j d) (params seeds.now.set) seeds.now.pk_seed.now
         (wots_address (place at.layer at.tree (at.pair + j)) WOTS_PK 0 0) [] }
 {
     let seeded = SeededTreeHash::new(seeds.set, seeds.pk_seed);
@@ -123,7 +125,8 @@ fn key_streams(seeds: &Seeds, at: Place) -> KeyStreams
 /// Adds to each T of eight the value of n bytes in its lane.
 fn absorb_alone(streams: &mut [TStream; 8], nodes: &LaneNodes, n: usize)
     requires { n ≤ 32 }
-    ensures { (p : Params) (pk : List ℕ) (a : Address) (x : List ℕ) (j : ℕ) (d : TStream) → j < 8 → HasAbsorbed (slice_index_or streams.old j d) p pk a x
+    ensures { (p : Params) (pk : List ℕ) (a : Address) (x : List ℕ) (j : ℕ) (d : TStream) → j < 8
+        → HasAbsorbed (slice_index_or streams.old j d) p pk a x
         → HasAbsorbed (slice_index_or streams.new j d) p pk a (x ++ value_at nodes.now j n) }
 {
     for j in 0..8 {
@@ -147,7 +150,8 @@ fn absorb_lanes(streams: &mut KeyStreams, nodes: &LaneNodes, n: usize)
 fn finished_alone(streams: [TStream; 8]) -> Leaves
     ensures len { length result.items ≡ 8 }
     ensures values { (p : Params) (pk : List ℕ) (a : Address) (x : List ℕ) (j : ℕ) (e : ArrayVec ℕ) → j < 8
-        → ((d : TStream) → HasAbsorbed (slice_index_or streams j d) p pk a x) → (slice_index_or result.items j e).items ≡ T p pk a x }
+        → ((d : TStream) → HasAbsorbed (slice_index_or streams j d) p pk a x)
+        → (slice_index_or result.items j e).items ≡ T p pk a x }
 {
     let [a, b, c, d, e, f, g, h] = streams;
     Leaves::from([

@@ -9,7 +9,8 @@ use slh_tree::PathRec;
 /// Writes the path's node of height `level` from `start` on, where it is known.
 fn put_known(path: &PathRec, level: u32, out: &mut [u8], start: usize)
     requires { start + length (node_bytes path.now level) ≤ length out.old }
-    ensures { take (start + length (node_bytes path.now level)) out.new ≡ take start out.old ++ node_bytes path.now level }
+    ensures { take (start + length (node_bytes path.now level)) out.new
+        ≡ take start out.old ++ node_bytes path.now level }
 {
     if let Some(node) = path.at(level) {
         put_node(out, start, node);

@@ -37,7 +37,8 @@ impl CategoryHmac {
 
     /// Adds the bytes to the text.
     pub fn update(&mut self, bytes: &[u8])
-        ensures { (p : Params) (key text : List ℕ) → IsKeyed self.old p key text → IsKeyed self.new p key (text ++ bytes.now) }
+        ensures { (p : Params) (key text : List ℕ) → IsKeyed self.old p key text
+            → IsKeyed self.new p key (text ++ bytes.now) }
     {
         self.inner.update(bytes);
     }

@@ -54,7 +54,8 @@ fn h_msg_of<D: HashFunctionOf>(
     out: &mut [u8],
 )
     requires { length out.old ≤ 2 ^ 32 }
-    ensures { out.new ≡ mgf1 D.function (h_msg_seed D.function r.now pk_seed.now pk_root.now (joined parts.now)) (length out.old) }
+    ensures { out.new
+        ≡ mgf1 D.function (h_msg_seed D.function r.now pk_seed.now pk_root.now (joined parts.now)) (length out.old) }
 {
     let mut inner = D::new();
     absorb(&mut inner, &[r, pk_seed, pk_root]);

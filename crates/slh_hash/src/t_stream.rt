@@ -35,7 +35,8 @@ impl SeededTreeHash {
 
     /// T_l (FIPS 205, section 11.2) at an address, before any node.
     pub fn stream(&self, adrs: &Adrs) -> TStream
-        ensures { (p : Params) (pk_seed : List ℕ) → IsSeededTree self.now p pk_seed → HasAbsorbed result p pk_seed adrs.now [] }
+        ensures { (p : Params) (pk_seed : List ℕ) → IsSeededTree self.now p pk_seed
+            → HasAbsorbed result p pk_seed adrs.now [] }
     {
         let mut hasher = self.hasher.copy();
         hasher.update(adrs.compressed());

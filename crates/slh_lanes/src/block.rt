@@ -81,7 +81,8 @@ fn marked(x: &LaneNodes, n: usize) -> [Words; 9]
 pub(crate) fn second_block(n: usize, adrs: &LaneAdrs, x: &LaneNodes) -> [Words; 16]
     requires { (n ≡ 16) ⊎ (n ≡ 24) ⊎ (n ≡ 32) }
     ensures { (j : ℕ) → j < 8 → HasWords
-        (second_block (take 22 (digest_bytes (column j adrs.now) 6)) (take n (digest_bytes (column j x.now) 8))) (column j result) }
+        (second_block (take 22 (digest_bytes (column j adrs.now) 6)) (take n (digest_bytes (column j x.now) 8)))
+        (column j result) }
 {
     tell_all(adrs);
     tell_all(x);

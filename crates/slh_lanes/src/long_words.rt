@@ -77,7 +77,8 @@ pub(crate) fn joined(p: Words, q: Words) -> LongWords
 // The low half of each word of `p`, the word of `q`, and the high half of that of `r`.
 #[inline(always)]
 pub(crate) fn joined_halves(p: Words, q: Words, r: Words) -> LongWords
-    ensures { (j : ℕ) → j < 8 → slice_index result j ≡ joined_halves (slice_index p j) (slice_index q j) (slice_index r j) }
+    ensures { (j : ℕ) → j < 8 → slice_index result j
+        ≡ joined_halves (slice_index p j) (slice_index q j) (slice_index r j) }
 {
     joined(halves(p, q), halves(q, r))
 }

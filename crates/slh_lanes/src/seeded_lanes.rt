@@ -46,7 +46,8 @@ impl<'a> SeededLanes<'a> {
 
     /// F (FIPS 205, section 11.2) in each lane: the hash of its value of n bytes at its address.
     pub fn f(&self, adrs: &LaneAdrs, x: &LaneNodes) -> LaneNodes
-        ensures { (p : Params) (pk : List ℕ) → IsSeededLanes self.now p pk → (j : ℕ) → j < 8 → (a : Address) → HasAddress adrs.now j a
+        ensures { (p : Params) (pk : List ℕ) → IsSeededLanes self.now p pk
+            → (j : ℕ) → j < 8 → (a : Address) → HasAddress adrs.now j a
             → value_at result j p.n ≡ F p pk a (value_at x.now j p.n) }
     {
         if self.pk_seed.len() == self.set.n() {
@@ -58,7 +59,8 @@ impl<'a> SeededLanes<'a> {
 
     /// PRF (section 11.2) in each lane: the secret at its address, from SK.seed of n bytes.
     pub fn prf(&self, sk_seed: &[u8], adrs: &LaneAdrs) -> LaneNodes
-        ensures { (p : Params) (pk : List ℕ) → IsSeededLanes self.now p pk → (j : ℕ) → j < 8 → (a : Address) → HasAddress adrs.now j a
+        ensures { (p : Params) (pk : List ℕ) → IsSeededLanes self.now p pk
+            → (j : ℕ) → j < 8 → (a : Address) → HasAddress adrs.now j a
             → value_at result j p.n ≡ PRF p pk sk_seed.now a }
     {
         if self.pk_seed.len() == self.set.n() && sk_seed.len() == self.set.n() {
@@ -81,7 +83,8 @@ impl<'a> SeededLanes<'a> {
     /// Runs eight chains on from their values after `from` steps, each by `count` steps (section 5, Algorithm 5).
     pub fn chains(&self, adrs: &LaneAdrs, x: &LaneNodes, from: u32, count: u32) -> LaneNodes
         requires { from + count ≤ 2 ^ 32 }
-        ensures { (p : Params) (pk : List ℕ) → IsSeededLanes self.now p pk → (j : ℕ) → j < 8 → (a : Address) → HasAddress adrs.now j a
+        ensures { (p : Params) (pk : List ℕ) → IsSeededLanes self.now p pk
+            → (j : ℕ) → j < 8 → (a : Address) → HasAddress adrs.now j a
             → value_at result j p.n ≡ steps p pk a (value_at x.now j p.n) from count }
     {
         let mut nodes = *x;
@@ -103,7 +106,8 @@ impl<'a> SeededLanes<'a> {
         counts: Words,
     ) -> LaneNodes
         requires { (j : ℕ) → j < 8 → slice_index from j + slice_index counts j ≤ 2 ^ 32 }
-        ensures { (p : Params) (pk : List ℕ) → IsSeededLanes self.now p pk → (j : ℕ) → j < 8 → (a : Address) → HasAddress adrs.now j a
+        ensures { (p : Params) (pk : List ℕ) → IsSeededLanes self.now p pk
+            → (j : ℕ) → j < 8 → (a : Address) → HasAddress adrs.now j a
             → value_at result j p.n ≡ steps p pk a (value_at x.now j p.n) (slice_index from j) (slice_index counts j) }
     {
         let mut nodes = *x;
@@ -120,8 +124,9 @@ impl<'a> SeededLanes<'a> {
     /// In each lane the first n bytes of the digest of PK.seed, zeros, the address and the value of `len` bytes.
     fn digests(&self, adrs: &LaneAdrs, x: &LaneNodes, len: usize) -> LaneNodes
         requires { (len ≡ 16) ⊎ (len ≡ 24) ⊎ (len ≡ 32) }
-        ensures { (p : Params) (pk : List ℕ) → IsSeededLanes self.now p pk → length pk ≡ p.n → (j : ℕ) → j < 8 → (a : Address)
-            → HasAddress adrs.now j a → value_at result j p.n ≡ tweaked_hash SHA_256 p pk a (value_at x.now j len) }
+        ensures { (p : Params) (pk : List ℕ) → IsSeededLanes self.now p pk → length pk ≡ p.n
+            → (j : ℕ) → j < 8 → (a : Address) → HasAddress adrs.now j a
+            → value_at result j p.n ≡ tweaked_hash SHA_256 p pk a (value_at x.now j len) }
     {
         let mut state = splat_all(&self.state);
         compress(&mut state, &second_block(len, adrs, x));
@@ -130,7 +135,8 @@ impl<'a> SeededLanes<'a> {
 
     /// F in one lane after the other, for a PK.seed of another length than n.
     fn f_alone(&self, adrs: &LaneAdrs, x: &LaneNodes) -> LaneNodes
-        ensures { (p : Params) (pk : List ℕ) → IsSeededLanes self.now p pk → (j : ℕ) → j < 8 → (a : Address) → HasAddress adrs.now j a
+        ensures { (p : Params) (pk : List ℕ) → IsSeededLanes self.now p pk
+            → (j : ℕ) → j < 8 → (a : Address) → HasAddress adrs.now j a
             → value_at result j p.n ≡ F p pk a (value_at x.now j p.n) }
     {
         let mut nodes = *x;
@@ -143,7 +149,8 @@ impl<'a> SeededLanes<'a> {
 
     /// PRF in one lane after the other, for a seed of another length than n.
     fn prf_alone(&self, sk_seed: &[u8], adrs: &LaneAdrs) -> LaneNodes
-        ensures { (p : Params) (pk : List ℕ) → IsSeededLanes self.now p pk → (j : ℕ) → j < 8 → (a : Address) → HasAddress adrs.now j a
+        ensures { (p : Params) (pk : List ℕ) → IsSeededLanes self.now p pk
+            → (j : ℕ) → j < 8 → (a : Address) → HasAddress adrs.now j a
             → value_at result j p.n ≡ PRF p pk sk_seed.now a }
     {
         let mut nodes = [Words::splat(0); 8];

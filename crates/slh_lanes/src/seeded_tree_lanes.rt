@@ -72,7 +72,8 @@ fn long_digests(
     right: &LaneNodes,
 ) -> LaneNodes
     requires { (n ≡ 24) ⊎ (n ≡ 32) }
-    ensures { (p : Params) (pk : List ℕ) → p.n ≡ n → length pk ≡ p.n → state.now ≡ compress initial_hash_512 (long_first_block p pk)
+    ensures { (p : Params) (pk : List ℕ) → p.n ≡ n → length pk ≡ p.n
+        → state.now ≡ compress initial_hash_512 (long_first_block p pk)
         → (j : ℕ) → j < 8 → (a : Address) → HasAddress adrs.now j a
         → value_at result j p.n ≡ H p pk a (value_at left.now j p.n) (value_at right.now j p.n) }
 {

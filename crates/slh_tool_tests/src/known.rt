@@ -24,7 +24,8 @@ pub fn verify_known<R: AllocGlobal + Threads + Sync>(
     message: &[u8],
     signature: &[u8],
 ) -> Result<Answer, AllocError>
-    ensures { IfOk result (λ answer. answer.status ≢ 2 → TellsValidity key.now message.now signature.now answer.status answer.output.items) }
+    ensures { IfOk result (λ answer. answer.status ≢ 2
+        → TellsValidity key.now message.now signature.now answer.status answer.output.items) }
 {
     let words = words_of(
         rt.alloc(),

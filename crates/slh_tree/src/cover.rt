@@ -47,10 +47,12 @@ impl Placed {
 /// The law that a cover can as well be read from its last node, each node ending where the one after it begins. It does
 /// nothing: the law is its contract.
 pub fn covers_read_from_the_end()
-    ensures { (t : MerkleTree) (lo hi : ℕ) (nodes : List Placed) → IsCover t lo hi nodes ↔ IsCoverFromEnd t lo hi (reverse nodes) }
+    ensures { (t : MerkleTree) (lo hi : ℕ) (nodes : List Placed) → IsCover t lo hi nodes
+        ↔ IsCoverFromEnd t lo hi (reverse nodes) }
 {}
 
 /// The law that a range of a tree's leaves has one cover. It does nothing: the law is its contract.
 pub fn covers_are_unique()
-    ensures { (t : MerkleTree) (lo hi : ℕ) (nodes others : List Placed) → IsCover t lo hi nodes → IsCover t lo hi others → nodes ≡ others }
+    ensures { (t : MerkleTree) (lo hi : ℕ) (nodes others : List Placed)
+        → IsCover t lo hi nodes → IsCover t lo hi others → nodes ≡ others }
 {}

@@ -46,7 +46,9 @@ pub fn gather<T: Tree>(tree: &T, covers: &[Cover], rec: &mut PathRec) -> Node
     requires leaf { rec.old.leaf < 2 ^ rec.old.height }
     ensures root { result.items ≡ root (T.tree tree.now) }
     ensures gained { Gains (T.tree tree.now) (λ j. LiesInOne covers.now rec.old.leaf j → ⊥) rec.old rec.new }
-    ensures complete { ((j : ℕ) → j < rec.old.height → LiesInOne covers.now rec.old.leaf j → known rec.old j ≡ Some (sibling (T.tree tree.now) rec.old.leaf j)) → (j : ℕ) → j < rec.old.height → known rec.new j ≡ Some (sibling (T.tree tree.now) rec.old.leaf j) }
+    ensures complete { ((j : ℕ) → j < rec.old.height → LiesInOne covers.now rec.old.leaf j
+        → known rec.old j ≡ Some (sibling (T.tree tree.now) rec.old.leaf j))
+        → (j : ℕ) → j < rec.old.height → known rec.new j ≡ Some (sibling (T.tree tree.now) rec.old.leaf j) }
 {
     // For the prover: a tree has a height of at most 14.
     let _highest = tree.height();

@@ -46,7 +46,8 @@ pub fn parent<T: Tree>(tree: &T, idx: u32, level: u32, node: &Node, sibling: &No
     requires high { level < 14 }
     requires node { length node.now.items ≡ (T.tree tree.now).width }
     requires sibling { length sibling.now.items ≡ (T.tree tree.now).width }
-    ensures value { result.items ≡ parent_of (T.tree tree.now) (level + 1) (idx / 2 ^ level) node.now.items sibling.now.items }
+    ensures value { result.items
+        ≡ parent_of (T.tree tree.now) (level + 1) (idx / 2 ^ level) node.now.items sibling.now.items }
     ensures width { length result.items ≡ (T.tree tree.now).width }
 {
     let index = idx >> level;
@@ -67,7 +68,8 @@ pub fn climb<T: Tree>(tree: &T, idx: u32, leaf: &Node, auth: &[u8]) -> Node
     requires path_width { length auth.now ≡ (T.tree tree.now).height * (T.tree tree.now).width }
     ensures climbs { result.items ≡ climb_of (T.tree tree.now) idx leaf.now.items auth.now }
     ensures width { length result.items ≡ (T.tree tree.now).width }
-    ensures authentic { leaf.now.items ≡ (T.tree tree.now).leaf idx → auth.now ≡ path (T.tree tree.now) idx → result.items ≡ root (T.tree tree.now) }
+    ensures authentic { leaf.now.items ≡ (T.tree tree.now).leaf idx → auth.now ≡ path (T.tree tree.now) idx
+        → result.items ≡ root (T.tree tree.now) }
 {
     let width = leaf.len();
     let mut node = copy_of(leaf);

@@ -22,7 +22,8 @@ pub fn hash_range<T: Tree>(tree: &T, lo: u32, hi: u32, rec: &mut PathRec) -> Cov
     ensures cover { IsCover (T.tree tree.now) lo hi result.nodes.items }
     ensures lo { result.lo ≡ lo }
     ensures hi { result.hi ≡ hi }
-    ensures block { (z i : ℕ) → lo ≡ first_leaf z i → hi ≡ past_leaf z i → (p : Placed) × (result.nodes.items ≡ p ∷ []) × (p.z ≡ z) × (p.i ≡ i) }
+    ensures block { (z i : ℕ) → lo ≡ first_leaf z i → hi ≡ past_leaf z i
+        → (p : Placed) × (result.nodes.items ≡ p ∷ []) × (p.z ≡ z) × (p.i ≡ i) }
     ensures few { length result.nodes.items ≤ 2 * (T.tree tree.now).height }
     ensures gained { Gains (T.tree tree.now) (LiesInRange lo hi rec.old.leaf) rec.old rec.new }
 {

@@ -64,8 +64,11 @@ impl PathRec {
     pub fn note(&mut self, placed: &Placed)
         ensures height { self.new.height ≡ self.old.height }
         ensures leaf { self.new.leaf ≡ self.old.leaf }
-        ensures noted { placed.now.z < self.old.height → placed.now.i ≡ sibling_index self.old.leaf placed.now.z → known self.new placed.now.z ≡ Some placed.now.node.items }
-        ensures kept { (j : ℕ) → (j ≡ placed.now.z → j < self.old.height → placed.now.i ≡ sibling_index self.old.leaf j → ⊥) → known self.new j ≡ known self.old j }
+        ensures noted { placed.now.z < self.old.height → placed.now.i ≡ sibling_index self.old.leaf placed.now.z
+            → known self.new placed.now.z ≡ Some placed.now.node.items }
+        ensures kept { (j : ℕ)
+            → (j ≡ placed.now.z → j < self.old.height → placed.now.i ≡ sibling_index self.old.leaf j → ⊥)
+            → known self.new j ≡ known self.old j }
     {
         if placed.z < self.height && placed.i == (self.leaf >> placed.z) ^ 1 {
             self.keep(placed.z, &placed.node);
@@ -97,7 +100,8 @@ impl PathRec {
         requires leaf { other.now.leaf ≡ self.old.leaf }
         ensures height { self.new.height ≡ self.old.height }
         ensures leaf { self.new.leaf ≡ self.old.leaf }
-        ensures taken { (j : ℕ) → j < self.old.height → MatchOption (known other.now j) (known self.new j ≡ known self.old j) (λ _. known self.new j ≡ known other.now j) }
+        ensures taken { (j : ℕ) → j < self.old.height → MatchOption (known other.now j)
+            (known self.new j ≡ known self.old j) (λ _. known self.new j ≡ known other.now j) }
         ensures above { (j : ℕ) → self.old.height ≤ j → known self.new j ≡ known self.old j }
     {
         for level in 0..self.height() {

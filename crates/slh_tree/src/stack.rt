@@ -75,7 +75,8 @@ impl Stack {
         requires own { IsNodeOf (T.tree tree.now) placed }
         requires follows { (lo : ℕ) × IsCover (T.tree tree.now) lo (first_leaf placed.z placed.i) self.old }
         requires same_height { rec.old.height ≡ (T.tree tree.now).height }
-        ensures cover { (lo : ℕ) → IsCover (T.tree tree.now) lo (first_leaf placed.z placed.i) self.old → IsCover (T.tree tree.now) lo (past_leaf placed.z placed.i) self.new }
+        ensures cover { (lo : ℕ) → IsCover (T.tree tree.now) lo (first_leaf placed.z placed.i) self.old
+            → IsCover (T.tree tree.now) lo (past_leaf placed.z placed.i) self.new }
         ensures gained { (lo : ℕ) → IsCover (T.tree tree.now) lo (first_leaf placed.z placed.i) self.old
             → Gains (T.tree tree.now) (Completes lo placed rec.old.leaf) rec.old rec.new }
     {
@@ -92,7 +93,8 @@ impl Stack {
     /// The nodes as a cover of their leaves. Something was pushed.
     pub fn into_cover(self) -> Cover
         requires some { 0 < length self }
-        requires of_a_tree { (t : MerkleTree) × (lo : ℕ) × (hi : ℕ) × (t.height ≤ 14) × (hi ≤ 2 ^ t.height) × IsCover t lo hi self }
+        requires of_a_tree { (t : MerkleTree) × (lo : ℕ) × (hi : ℕ)
+            × (t.height ≤ 14) × (hi ≤ 2 ^ t.height) × IsCover t lo hi self }
         ensures nodes { result.nodes.items ≡ self }
         ensures range { (t : MerkleTree) (lo hi : ℕ) → IsCover t lo hi self → (result.lo ≡ lo) × (result.hi ≡ hi) }
     {

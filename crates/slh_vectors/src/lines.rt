@@ -16,7 +16,8 @@ fn put_line<W: Sink>(
     test: &Test,
     outcome: Outcome,
 ) -> Result<(), WriteFault>
-    ensures puts { Puts (W.state output.old).contents (W.state output.new).contents result (line_text n (test_view test.now) outcome) }
+    ensures puts { Puts (W.state output.old).contents (W.state output.new).contents result
+        (line_text n (test_view test.now) outcome) }
     ensures failed { CountsFailure (W.state output.old).failures (W.state output.new).failures result }
 {
     put_number(output, "test ", n, " ")?;
@@ -32,7 +33,8 @@ fn put_lines<W: Sink>(
     outcomes: &[Outcome],
 ) -> Result<(), WriteFault>
     requires { length outcomes.now ≡ length tests.now }
-    ensures puts { Puts (W.state output.old).contents (W.state output.new).contents result (lines_from 1 (views tests.now) outcomes.now) }
+    ensures puts { Puts (W.state output.old).contents (W.state output.new).contents result
+        (lines_from 1 (views tests.now) outcomes.now) }
     ensures failed { CountsFailure (W.state output.old).failures (W.state output.new).failures result }
 {
     for (i, test) in tests.iter().enumerate() {
@@ -79,7 +81,8 @@ pub fn report<W: Sink>(
     output: &mut W,
 ) -> Result<(), WriteFault>
     requires { length outcomes.now ≡ length tests.now }
-    ensures puts { Puts (W.state output.old).contents (W.state output.new).contents result (report_text (views tests.now) outcomes.now) }
+    ensures puts { Puts (W.state output.old).contents (W.state output.new).contents result
+        (report_text (views tests.now) outcomes.now) }
     ensures failed { CountsFailure (W.state output.old).failures (W.state output.new).failures result }
 {
     put_lines(output, tests, outcomes)?;

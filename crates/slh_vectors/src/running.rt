@@ -73,7 +73,8 @@ fn signature_of<A: Allocator>(
 ) -> Result<Option<Vec<u8, A>>, VectorFault>
     requires { HasLength randomizer (params key.now.set).n }
     ensures accepted { IfOk result (λ made. IsSome made ↔ HasMessage input.now.form input.now.context.items) }
-    ensures done { IfOk result (λ made. IfSome made (λ bytes. bytes.items ≡ signature_by key.now (message_of (input_view input.now)) randomizer.entry)) }
+    ensures done { IfOk result (λ made. IfSome made (λ bytes. bytes.items
+        ≡ signature_by key.now (message_of (input_view input.now)) randomizer.entry)) }
     ensures refused { IfErr result (λ e. e ≡ NoMemory) }
 {
     let mut made = Vec::new(alloc);
@@ -106,7 +107,8 @@ fn signed(
     requires randomizer { HasLength randomizer (params key.now.set).n }
     requires out { length out.old ≡ sig_len (params key.now.set) }
     ensures accepted { IsOk result ↔ HasMessage input.now.form input.now.context.items }
-    ensures signature { OnOk result (out.new ≡ signature_by key.now (message_of (input_view input.now)) randomizer.entry) }
+    ensures signature { OnOk result (out.new
+        ≡ signature_by key.now (message_of (input_view input.now)) randomizer.entry) }
 {
     let message = input.message.as_slice();
     let context = input.context.as_slice();
