@@ -67,8 +67,8 @@ pub fn lanes_h(row: &mut Row) {
     are_nodes(row, &lanes.h(&adrs, &left, &right), set);
 }
 
-/// A set, PK.seed, eight addresses, a number of nodes, eight nodes, eight others; T in each lane of so many nodes, which
-/// are its node of the first eight and that of the others by turns.
+/// A set, PK.seed, eight addresses, a number of nodes, eight nodes, eight others; T in each lane of so many nodes,
+/// which are its node of the first eight and that of the others by turns.
 pub fn lanes_t(row: &mut Row) {
     let set = row.set();
     let pk_seed = row.bytes();
@@ -83,8 +83,8 @@ pub fn lanes_t(row: &mut Row) {
     are_nodes(row, &stream.finish(), set);
 }
 
-/// A set, PK.seed, eight addresses, eight nodes; the chains run on from the nodes after 2 steps, for 13 steps, and after
-/// 0, 3, 0, 14, 200, 15, 1 and 7 steps, for 0, 1, 15, 1, 55, 0, 2 and 8 steps.
+/// A set, PK.seed, eight addresses, eight nodes; the chains run on from the nodes after 2 steps, for 13 steps, and
+/// after 0, 3, 0, 14, 200, 15, 1 and 7 steps, for 0, 1, 15, 1, 55, 0, 2 and 8 steps.
 pub fn lanes_chains(row: &mut Row) {
     let set = row.set();
     let pk_seed = row.bytes();

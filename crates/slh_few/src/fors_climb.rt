@@ -52,7 +52,8 @@ impl<'a> ForsTree<'a> {
         lanes
     }
 
-    /// Node `place` of each tree's part of a signature, up to the lane `used`: 0 is the secret, the path's nodes follow.
+    /// Node `place` of each tree's part of a signature, up to the lane `used`: 0 is the secret, the path's nodes
+    /// follow.
     fn part_nodes(&self, used: usize, sig: &[u8], place: usize) -> LaneNodes
         requires lanes { used ≤ 8 }
         requires place { place ≤ (params self.now.seeds.set).a }

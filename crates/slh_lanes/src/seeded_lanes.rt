@@ -20,8 +20,8 @@ use crate::words::{Words, add, most};
 use sha2::{Digest, Sha256};
 use slh_params::ParamSet;
 
-/// F, PRF and H of eight addresses under one PK.seed: SHA-256 in eight lanes after its first block, which PK.seed and zeros
-/// fill.
+/// F, PRF and H of eight addresses under one PK.seed: SHA-256 in eight lanes after its first block, which PK.seed and
+/// zeros fill.
 ///
 /// It is made once within a call that hashes often. Contracts see it by the relation `IsSeededLanes`.
 #[derive(Clone, Copy)]
@@ -70,8 +70,8 @@ impl<'a> SeededLanes<'a> {
         }
     }
 
-    /// H (section 11.2) of two nodes of 16 bytes in each lane, the hash of both at its address. Of other nodes, or where
-    /// PK.seed has another length, nothing is said.
+    /// H (section 11.2) of two nodes of 16 bytes in each lane, the hash of both at its address. Of other nodes, or
+    /// where PK.seed has another length, nothing is said.
     pub fn h(&self, adrs: &LaneAdrs, left: &LaneNodes, right: &LaneNodes) -> LaneNodes
         ensures { (p : Params) (pk : List ℕ) → IsSeededLanes self.now p pk → p.n ≡ 16 → length pk ≡ 16
             → (j : ℕ) → j < 8 → (a : Address) → HasAddress adrs.now j a

@@ -47,8 +47,8 @@ impl<'a> SeededTreeLanes<'a> {
         &self.lanes
     }
 
-    /// H (FIPS 205, section 11.2) of two nodes of n bytes in each lane, the hash of both at its address. Where PK.seed has
-    /// another length than n, nothing is said.
+    /// H (FIPS 205, section 11.2) of two nodes of n bytes in each lane, the hash of both at its address. Where PK.seed
+    /// has another length than n, nothing is said.
     pub fn h(&self, adrs: &LaneAdrs, left: &LaneNodes, right: &LaneNodes) -> LaneNodes
         ensures { (p : Params) (pk : List ℕ) → IsSeededTreeLanes self.now p pk → length pk ≡ p.n
             → (j : ℕ) → j < 8 → (a : Address) → HasAddress adrs.now j a

@@ -24,7 +24,8 @@ impl LeafGroup {
         }
     }
 
-    /// Leaf `i`. Where the group has it not, the group becomes that leaf and those after it, up to eight and below `hi`.
+    /// Leaf `i`. Where the group has it not, the group becomes that leaf and those after it, up to eight and below
+    /// `hi`.
     pub(crate) fn leaf<T: Tree>(&mut self, tree: &T, i: u32, hi: u32) -> Node
         requires own { AreLeaves (T.tree tree.now) self.old }
         requires index { i < hi }
