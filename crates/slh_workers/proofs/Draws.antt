@@ -4,7 +4,7 @@ use Rattle.std.specs.List.{All}
 use Rattle.std.proofs.lemmas.List.{map-append, append-nil}
 use Rattle.std.proofs.lemmas.List.Elements.{All-push, All-tail}
 use Rattle.slh_workers.specs.Answers.{numbers, AllRight, AddsAnswer}
-use Rattle.slh_workers.specs.Ends.{IsAnswered}
+use Rattle.slh_workers.specs.Ends.{IsAnswered, IsTold}
 
 -- one above the last number, or low where there is none
 abbrev pub next_above : ℕ → List ℕ → ℕ
@@ -47,3 +47,19 @@ all_answered before after answered e = ([], omega arith, e ∙ sym (append-nil (
 pub last_lost : (number : ℕ) (before after later answered : List ℕ) → after ≡ before ++ answered → later ≡ after ++ number ∷ [] → IsAnswered 1 before later answered
 last_lost number before after later answered was e =
     (number ∷ [], omega arith, e ∙ ap (λ v. v ++ number ∷ []) was)
+
+-- all that was drawn was reported
+pub all_told : (reported : ℕ → Type 0) (before after answered : List ℕ) → All reported answered → after ≡ before ++ answered → IsTold reported 0 before after
+all_told reported before after answered told e = (answered, told, all_answered before after answered e)
+
+-- and so was the last number, which has no answer
+pub last_told : (reported : ℕ → Type 0) (number : ℕ) (before after later answered : List ℕ) → All reported answered → reported number
+    → after ≡ before ++ answered → later ≡ after ++ number ∷ [] → IsTold reported 0 before later
+last_told reported number before after later answered told last was e =
+    all_told reported before later (answered ++ number ∷ []) (All-push reported answered number told last)
+    (e ∙ ap (λ v. v ++ number ∷ []) was ∙ append_assoc before answered (number ∷ []))
+
+-- all but the last number were reported
+pub last_hidden : (reported : ℕ → Type 0) (number : ℕ) (before after later answered : List ℕ) → All reported answered
+    → after ≡ before ++ answered → later ≡ after ++ number ∷ [] → IsTold reported 1 before later
+last_hidden reported number before after later answered told was e = (answered, told, last_lost number before after later answered was e)

@@ -1,5 +1,6 @@
 -- How a worker ended, and what its seat then is.
 use Rattle.std.specs.Prelude.{◌≡◌, ℕ, ◌≤◌, List, ◌++◌, length, true, false}
+use Rattle.std.specs.List.{All}
 use Rattle.slh_board.specs.Seats.{SeatState}
 use Rattle.slh_board.specs.declared.seat.Mark.TheVariants.{Fresh as FreshMark, Done as DoneMark, Stopped as StoppedMark}
 use Rattle.slh_workers.specs.declared.worker.End.{End}
@@ -27,3 +28,14 @@ may_lack NoMemory = 1
 -- what was drawn since before is answered, in its order, but for the last at most few numbers
 abbrev pub IsAnswered : ℕ → List ℕ → List ℕ → List ℕ → Type 0
 IsAnswered few before after answered = (lost : List ℕ) × (length lost ≤ few) × (after ≡ before ++ answered ++ lost)
+
+-- how many of the last numbers drawn the gate may not have been told of
+abbrev pub may_hide : End → ℕ
+may_hide Done = 0
+may_hide Stopped = 0
+may_hide GateStop = 1
+may_hide NoMemory = 0
+
+-- what was drawn since before was reported, but for the last at most few numbers
+abbrev pub IsTold : (ℕ → Type 0) → ℕ → List ℕ → List ℕ → Type 0
+IsTold reported few before after = (told : List ℕ) × All reported told × IsAnswered few before after told

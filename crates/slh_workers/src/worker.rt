@@ -1,13 +1,14 @@
 // One worker at a seat of a board.
-ghost use Rattle.std.specs.Prelude.{◌≡◌, ◌<◌, OnOk, OnErr, Err};
+ghost use Rattle.std.specs.Prelude.{◌≡◌, ◌≢◌, ◌<◌, OnOk, OnErr, Err};
 ghost use Rattle.std.specs.List.{All};
+ghost use Rattle.std.specs.Vec.{vec_capacity, vec_len};
 ghost use Rattle.slh_workers.specs.Answers.{AllRight, AddsAnswer, numbers};
-ghost use Rattle.slh_workers.specs.Ends.{IsFresh, EndFits, IsAnswered, may_lack};
+ghost use Rattle.slh_workers.specs.Ends.{IsFresh, EndFits, IsAnswered, IsTold, may_hide, may_lack};
 
 use crate::fault::RunFault;
 use crate::gate::{Gate, Go};
 use crate::steps::{Steps, Worker};
-use crate::work::{NoMemory, Work};
+use crate::work::Work;
 use slh_board::{Board, Claim, Seat};
 use std::alloc::Allocator;
 
@@ -34,9 +35,10 @@ pub struct WorkerEnd<T, A: Allocator> {
 }
 
 /// What one worker does: it draws jobs by its seat and runs each, until no job is left or the board is stopped. It asks
-/// the gate before each job, and tells it after. Where the gate answers Stop, or a growth of memory is refused, it
-/// stops the board and ends; after Stop `run` and `leave` of that job are not called. The seat is one of the board's,
-/// fresh and not raised, and the board has as many jobs as the work. Waits for nobody.
+/// the gate before each job, and tells it after, also of a job whose run was refused memory. Where the gate answers
+/// Stop, or a growth of memory is refused, it stops the board and ends; after Stop `run` and `leave` of that job are
+/// not called. The seat is one of the board's, fresh and not raised, and the board has as many jobs as the work. Waits
+/// for nobody.
 pub fn work_off<A: Allocator, B: Allocator, W: Work, G: Gate>(
     alloc: A,
     board: &Board<B>,
@@ -58,6 +60,10 @@ pub fn work_off<A: Allocator, B: Allocator, W: Work, G: Gate>(
     // Each job that is answered was reported to the gate under the worker's number, so the gate had admitted it.
     ensures reported { All (G.reported gate.now worker) (numbers result.answers.items) }
 
+    // Each number that the seat drew in this call was so reported, answered or not. Only where the gate answered Stop
+    // may the last one not be.
+    ensures told { IsTold (G.reported gate.now worker) (may_hide result.end) seat.old.drawn seat.new.drawn }
+
     ensures ended { EndFits (G.may_stop gate.now) result.end seat.new }
 {
     work_by_steps(alloc, board, seat, &Worker::new(work, gate, worker))
@@ -77,10 +83,19 @@ fn work_by_steps<A: Allocator, B: Allocator, S: Steps>(
     ensures numbers { IsAnswered (may_lack result.end) seat.old.drawn seat.new.drawn (numbers result.answers.items) }
     ensures right { AllRight (S.is_right steps.now) (S.jobs steps.now) result.answers.items }
     ensures reported { All (S.reported steps.now) (numbers result.answers.items) }
+    ensures told { IsTold (S.reported steps.now) (may_hide result.end) seat.old.drawn seat.new.drawn }
     ensures ended { EndFits (S.may_stop steps.now) result.end seat.new }
 {
     let mut answers = Vec::new(alloc);
     loop {
+        // Room for an answer is made before its job is drawn. So a job is drawn only to be run, and an answer is kept.
+        if answers.reserve(1).is_err() {
+            board.stop(seat);
+            return WorkerEnd {
+                answers,
+                end: End::NoMemory,
+            };
+        }
         let number = match board.claim(seat) {
             Claim::Job(number) => number,
             Claim::Done => {
@@ -107,20 +122,20 @@ fn work_by_steps<A: Allocator, B: Allocator, S: Steps>(
     }
 }
 
-// Runs the job where the gate lets it, and adds its answer. Room for the answer is made first, so that an answer once
-// made is kept.
+// Runs the job where the gate lets it, and adds its answer, for which there is room. A job that was run is reported,
+// whatever came of it.
 fn add_answer<A: Allocator, S: Steps>(
     answers: &mut Vec<(u32, S::Out), A>,
     steps: &S,
     number: u32,
 ) -> Result<(), RunFault>
-    requires { number < S.jobs steps.now }
+    requires job { number < S.jobs steps.now }
+    requires room { vec_len answers.old < vec_capacity answers.old }
     ensures added { OnOk result (AddsAnswer (S.is_right steps.now) number answers.old.items answers.new.items) }
-    ensures reported { OnOk result (S.reported steps.now number) }
+    ensures reported { result ≢ Err RunFault.Stopped → S.reported steps.now number }
     ensures stopped { result ≡ Err RunFault.Stopped → S.may_stop steps.now }
     ensures err { OnErr result (answers.new.items ≡ answers.old.items) }
 {
-    answers.reserve(1).map_err(NoMemory::from)?;
     if steps.enter(number) == Go::Stop {
         return Err(RunFault::Stopped);
     }

@@ -6,8 +6,8 @@ use Rattle.slh_workers.specs.Ends.{IsFresh}
 use Rattle.slh_workers.proofs.Draws.{next_above}
 use Rattle.slh_workers.proofs.worker.work_by_steps.Given as goal
 
-abbrev pub invariant-loop-number : goal.invariant-loop-number
-invariant-loop-number g l =
+abbrev pub invariant-loop-seat : goal.invariant-loop-seat
+invariant-loop-seat g l =
     record {
       mine : l.seat.board ≡ l.board;
       fresh : IsFresh l.seat;
@@ -16,5 +16,5 @@ invariant-loop-number g l =
       reported : All (g.S.Steps.reported l.steps) (numbers l.answers.items);
     }
 
-abbrev pub decreases-loop-number : goal.decreases-loop-number
-decreases-loop-number g l = g.S.Steps.jobs l.steps - next_above 0 l.seat.drawn
+abbrev pub decreases-loop-seat : goal.decreases-loop-seat
+decreases-loop-seat g l = g.S.Steps.jobs l.steps - next_above 0 l.seat.drawn
