@@ -1,4 +1,4 @@
--- A key file is read exactly where it is in the grammar, and what is written is in it.
+-- A key file is read exactly where it is in the grammar, and what is written is in it, so that it is read, too.
 use Rattle.std.proofs.Common.{◌≡◌, ℕ, ◌*◌, ◌==◌, Bool, true, false, not, cond, IsTrue, inr, [], ◌∷◌, ◌++◌, length, Option, Some, None, Result, Ok, Err, refl, sym, ap, ap₂, ◌∙◌, arith, append_assoc, eq-eqb, subst}
 use Rattle.std.proofs.lemmas.Bool.{eqb-true}
 use Rattle.std.proofs.lemmas.Slice.Eq.{bytes_eq-Decides}
@@ -24,7 +24,7 @@ use Rattle.slh_files.specs.declared.key_kind.Version.TheVariants.{One, Two}
 use Rattle.slh_files.specs.declared.key_file.AnyKey.{AnyKey}
 use Rattle.slh_files.specs.declared.key_file.AnyKey.TheVariants as any
 use Rattle.slh_files.specs.Lines.{Text, line, cut_line, last_line}
-use Rattle.slh_files.specs.KeyFile.{IsAnyKeyFile, IsKey, IsKeyFile, after_kind, after_set, allows, any_key_file, or_secret, first_line, key_digits, key_file, key_len, key_line, key_text, set_of_line, version_of, with_rest, ◌>>=◌}
+use Rattle.slh_files.specs.KeyFile.{IsAnyKey, IsAnyKeyFile, IsKey, IsKeyFile, after_kind, after_set, allows, any_key_file, any_key_text, or_secret, first_line, key_digits, key_file, key_len, key_line, key_text, set_of_line, upgraded, version_of, with_rest, ◌>>=◌}
 use Rattle.slh_files.proofs.Cut.{cut_line-Some, cut_line-at, last_line-at, last_line-whole, no_feed}
 use Rattle.slh_files.proofs.Decoding.{digits_no_feed}
 
@@ -272,3 +272,24 @@ any_again file (any.Secret key) f = rw (not_public file key f, file_again Secret
 -- a reader of either kind that gives the key or the first fault accepts exactly the files in the grammar
 pub accepts_any : (file : Text) (r : Result AnyKey FileFault) → r ≡ any_key_file file → (key : AnyKey) → (r ≡ Ok key) ↔ IsAnyKeyFile file key
 accepts_any file r e key = (λ h. any_read file (key_file Public file) key refl (sym e ∙ h), λ f. e ∙ any_again file key f)
+
+-- what is written is read as the key of its kind
+pub either_again : (key : AnyKey) → IsAnyKey key → any_key_file (any_key_text key) ≡ Ok key
+either_again (any.Public key) k = any_again (key_text Public key) (any.Public key) (written Public key k)
+either_again (any.Secret key) k = any_again (key_text Secret key) (any.Secret key) (written Secret key k)
+
+-- a file has a key of its kind
+key_held : (kind : KeyKind) (file : Text) (key : Key) → IsKeyFile kind file key → IsKey kind key
+key_held kind file key f = let facts = decode_of-ok f.digits key.bytes f.spells in record { sized = f.sized; bytes = facts.3 }
+
+any_held : (file : Text) (key : AnyKey) → IsAnyKeyFile file key → IsAnyKey key
+any_held file (any.Public key) f = key_held Public file key f
+any_held file (any.Secret key) f = key_held Secret file key f
+
+-- the file that is written of a file's key is written again
+pub upgraded_again : (file text : Text) → upgraded file ≡ Ok text → upgraded text ≡ Ok text
+upgraded_again file text h =
+    let a = bind_ok (any_key_file file) (λ (key : AnyKey). Ok (any_key_text key)) text h in
+    let held : IsAnyKey a.0 = any_held file a.0 (any_read file (key_file Public file) a.0 refl a.1) in
+    let same : any_key_text a.0 ≡ text = cc a.2 in
+    rw (← same, either_again a.0 held) refl

@@ -114,6 +114,11 @@ key_file kind file = do
 
 -- ---- keys of either kind
 
+-- a key of its kind
+abbrev pub IsAnyKey : AnyKey → Type 0
+IsAnyKey (any.Public key) = IsKey Public key
+IsAnyKey (any.Secret key) = IsKey Secret key
+
 -- the file of a key that is written
 abbrev pub any_key_text : AnyKey → Text
 any_key_text (any.Public key) = key_text Public key
@@ -133,6 +138,12 @@ or_secret (Err fault) secret = Err fault
 -- the key of a file of either kind, or the file's first fault
 abbrev pub any_key_file : Text → Result AnyKey FileFault
 any_key_file file = or_secret (key_file Public file) (key_file Secret file)
+
+-- the file that is written of a file's key, which `slh upgrade` writes
+abbrev pub upgraded : Text → Result Text FileFault
+upgraded file = do
+  key ← any_key_file file
+  Ok (any_key_text key)
 
 -- ---- files that are longer than any key file
 
