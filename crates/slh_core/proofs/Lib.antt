@@ -4,3 +4,4 @@ pub mod Messages
 pub mod Valid
 pub mod Names
 pub mod Assembled
+pub mod Verdicts

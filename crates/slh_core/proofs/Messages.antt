@@ -8,3 +8,10 @@ pub pre_hash_parts : (head ctx oid digest : List ℕ) → length ctx ≤ 255 →
 pre_hash_parts head ctx oid digest h e =
     let fits : length ctx % 256 ≡ length ctx = omega (arith, h) in
     rw (e, fits, append-nil digest, append_assoc ctx oid digest) refl
+
+-- the pure form, as far as the message
+pub pure_front : (front head ctx : List ℕ) → length ctx ≤ 255 → head ≡ 0 ∷ length ctx ∷ []
+    → front ++ head ++ ctx ≡ front ++ (0 ∷ length ctx % 256 ∷ (ctx ++ []))
+pure_front front head ctx h e =
+    let fits : length ctx % 256 ≡ length ctx = omega (arith, h) in
+    rw (e, fits, append-nil ctx, append_assoc front (0 ∷ length ctx ∷ []) ctx) refl

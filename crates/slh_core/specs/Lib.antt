@@ -6,6 +6,7 @@ pub mod Random
 pub mod PreHash
 pub mod PreHashing
 pub mod Messages
+pub mod Verifying
 -- cited by public clauses
 pub use Rattle.slh_params.specs.Params
 pub use Rattle.slh_params.specs.ParamSet

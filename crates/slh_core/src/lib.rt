@@ -17,6 +17,7 @@ pub use randomizer::Randomizer;
 pub use secret_key::SecretKey;
 pub use signing::sign_internal;
 pub use slh_params::ParamSet;
+pub use verifier::Verifier;
 pub use verifying::verify_internal;
 
 /// The steps of signing one by one (FIPS 205, Algorithms 19, 22 and 23), for a signer that makes the trees elsewhere,
@@ -34,6 +35,7 @@ mod cut;
 mod fault;
 mod form;
 mod generation;
+mod inner_hash;
 mod layout;
 mod message_digest;
 mod pre_hash;
@@ -45,4 +47,5 @@ mod random;
 mod randomizer;
 mod secret_key;
 mod signing;
+mod verifier;
 mod verifying;

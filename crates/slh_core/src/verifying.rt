@@ -1,11 +1,11 @@
 //! Verifying a signature of a message that is given in parts (FIPS 205, section 9.3).
 ghost use Rattle.std.specs.Prelude.{◌≡◌, ◌*◌, ◌↔◌, IsTrue, length};
-ghost use Rattle.slh_params.specs.Params.{m};
+ghost use Rattle.slh_params.specs.Params.{m, sig_len};
 ghost use Rattle.slh_params.specs.ParamSet.{params};
 ghost use Rattle.slh_hash.specs.Keyed.{joined};
 ghost use Rattle.slh_few.specs.Xmss.{xmss_sig_len};
 ghost use Rattle.slh_core.specs.Keys.{pk_root};
-ghost use Rattle.slh_core.specs.Signatures.{fors_sig_len, root_of_parts, IsValid};
+ghost use Rattle.slh_core.specs.Signatures.{fors_sig_len, get_sig_fors, get_sig_ht, root_of_parts, IsValid};
 
 use crate::cut::{MOST_DIGEST_LEN, cut_digest};
 use crate::layout::fors_sig_len;
@@ -39,6 +39,19 @@ fn verify_digest(pk: &PublicKey, digest: &[u8], sig_fors: &[u8], sig_ht: &[u8]) 
     )
 }
 
+/// Whether a signature gives PK.root for a digest (FIPS 205, Algorithm 20, lines 5 to 18).
+pub(crate) fn verify_by_digest(pk: &PublicKey, digest: &[u8], sig: &[u8]) -> bool
+    requires digest { length digest.now ≡ m (params pk.now.set) }
+    requires sig { length sig.now ≡ sig_len (params pk.now.set) }
+    ensures { let p = params pk.now.set in
+        IsTrue result ↔ (root_of_parts pk.now digest.now (get_sig_fors p sig.now) (get_sig_ht p sig.now) ≡ pk_root pk.now) }
+{
+    let set = pk.set();
+    let (_, rest) = sig.split_at(set.n());
+    let (sig_fors, sig_ht) = rest.split_at(fors_sig_len(set));
+    verify_digest(pk, digest, sig_fors, sig_ht)
+}
+
 /// Whether the bytes are a valid signature of the parts put end to end (FIPS 205, Algorithm 20). They may
 /// be of any length; where it is not `sig_len`, they are none.
 pub fn verify_internal(parts: &[&[u8]], sig: &[u8], pk: &PublicKey) -> bool
@@ -48,10 +61,9 @@ pub fn verify_internal(parts: &[&[u8]], sig: &[u8], pk: &PublicKey) -> bool
     if sig.len() != set.sig_len() {
         return false;
     }
-    let (r, rest) = sig.split_at(set.n());
-    let (sig_fors, sig_ht) = rest.split_at(fors_sig_len(set));
+    let r = &sig[..set.n()];
     let mut buffer = [0; MOST_DIGEST_LEN];
     let digest = &mut buffer[..set.m()];
     h_msg(set, r, pk.pk_seed(), pk.pk_root(), parts, digest);
-    verify_digest(pk, digest, sig_fors, sig_ht)
+    verify_by_digest(pk, digest, sig)
 }
