@@ -169,6 +169,11 @@ check "a signature of 1 GiB, in 20 MB of memory" ended 1 "" invalid
 truncate -s +1 long_sig
 run verify --key public --message abc --signature long_sig
 check "a signature of 1 GiB and a byte" refused "36 FileTooLong"
+(
+    ulimit -v 20000
+    run verify --key public --message long_sig --signature none
+)
+check "a message of 1 GiB and a byte, before a signature that is missing" refused "36 FileTooLong"
 
 # ---- standard output and standard error
 for words in params "$sign" "--help"; do

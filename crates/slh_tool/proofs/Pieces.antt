@@ -9,14 +9,14 @@ use Rattle.slh_params.specs.Params.{sig_len}
 use Rattle.slh_params.specs.ParamSet.{params}
 use Rattle.slh_devices.specs.Devices.{EndsBy, FilesState, Grew, HasPart}
 use Rattle.std.proofs.lemmas.Bool.Decides.{Decides-eqb, not_from_Decides}
-use Rattle.slh_files.specs.KeyFile.{AreReadAlike, IsKeyFront, any_key_file, key_file, or_secret}
+use Rattle.slh_files.specs.KeyFile.{AreReadAlike, any_key_file, key_file, or_secret}
 use Rattle.slh_files.specs.declared.fault.FileFault.{FileFault}
 use Rattle.slh_files.specs.declared.key_file.AnyKey.{AnyKey}
 use Rattle.slh_files.specs.declared.key_kind.KeyKind.{KeyKind}
 use Rattle.slh_files.specs.declared.key_kind.KeyKind.TheVariants.{Public, Secret}
 use Rattle.slh_tool.specs.Faults.{of_file}
 use Rattle.slh_tool.specs.Keys.{HoldsAnyKey, HoldsKey, RefusesAnyKey, RefusesKey}
-use Rattle.slh_tool.specs.Reading.{IsFile, IsFrontOfFile, IsFrontOfKeyFile, file_limit}
+use Rattle.slh_tool.specs.Reading.{IsFile, IsFrontOfFile, IsFrontOfKeyFile, IsLater, file_limit}
 use Rattle.slh_tool.specs.declared.fault.Fault.{Fault}
 
 -- a prefix of a file, and then the part that follows it
@@ -48,6 +48,15 @@ none_read (Some whole) front e = rw e refl
 -- a failure after files were kept is one since before
 pub grew_since : (old mid new : FilesState) → mid ≡ old → Grew mid.failures new.failures → Grew old.failures new.failures
 grew_since old mid new kept grew = subst (λ (s : FilesState). Grew s.failures new.failures) kept grew
+
+-- files that were kept, and files of which a read failed
+pub later_kept : (old new : FilesState) → new ≡ old → IsLater old new
+later_kept old new kept = rw kept (refl, omega arith)
+
+pub later_failed : (old mid new : FilesState) → mid ≡ old → new.bytes_at ≡ mid.bytes_at → Grew mid.failures new.failures → IsLater old new
+later_failed old mid new kept same grew =
+    let more : mid.failures ≤ new.failures = elim grew [ inl less ↦ omega (arith, less) | inr last ↦ omega (arith, last.1) ] in
+    subst (λ (s : FilesState). IsLater s new) kept (same, more)
 
 -- the file ends where it ended before
 pub ends_since : (old mid : FilesState) (path : List ℕ) (at : ℕ) → mid ≡ old → EndsBy (mid.bytes_at path) at → EndsBy (old.bytes_at path) at

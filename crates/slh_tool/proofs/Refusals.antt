@@ -1,19 +1,22 @@
 -- Refusals after a key was read.
-use Rattle.std.proofs.Common.{◌≡◌, ◌⊎◌, ◌<◌, ◌≤◌, length, Option, OnOk, Result, Some, Ok, Err, IfOk, IfErr, IsErrAnd, inl, inr, subst, sym}
+use Rattle.std.proofs.Common.{◌≡◌, ◌⊎◌, ◌<◌, ◌≤◌, Bool, length, Option, None, OnOk, Result, Some, Ok, Err, IfOk, IfErr, IsErrAnd, inl, inr, subst, sym}
 use Rattle.clap.specs.Words.{Text}
 use Rattle.slh_core.specs.Keys.{Key}
 use Rattle.slh_devices.specs.Devices.{FilesState, SourceState}
 use Rattle.slh_files.specs.declared.key_kind.KeyKind.TheVariants.{Public, Secret}
 use Rattle.slh_params.specs.declared.param_set.ParamSet.{ParamSet}
 use Rattle.slh_params.specs.Label.{set_of_label}
+use Rattle.slh_params.specs.Params.{sig_len}
+use Rattle.slh_params.specs.ParamSet.{params}
 use Rattle.slh_core.specs.Messages.{message_in_form, form_with}
 use Rattle.slh_core.specs.declared.pre_hash.PreHash.{PreHash}
 use Rattle.slh_cutting.specs.CutTrees.{CutTrees}
 use Rattle.slh_tool.specs.Options.{HasForm, random_of, signature_of}
 use Rattle.slh_tool.specs.Cuts.{HasCutting, IsCutting, RefusesCutting}
 use Rattle.slh_tool.specs.Keys.{HoldsKey, RefusesSeedsOf}
-use Rattle.slh_tool.specs.Reading.{IsFile, RefusesFile}
-use Rattle.slh_tool.specs.Replies.{HasSignForm, RefusesKeygen, RefusesSign, RefusesSigning, RefusesVerify, RefusesVerifying, SignsMessage, SignsWith}
+use Rattle.slh_tool.proofs.Pieces.{judged_by_front}
+use Rattle.slh_tool.specs.Reading.{IsFile, IsFrontOfFile, RefusesFile}
+use Rattle.slh_tool.specs.Replies.{HasSignForm, JudgesFiles, JudgesMessage, RefusesKeygen, RefusesSign, RefusesSigning, RefusesVerify, RefusesVerifying, SignsMessage, SignsWith}
 use Rattle.slh_tool.specs.Requests.{KeygenOptions, SignOptions, VerifyOptions}
 use Rattle.slh_tool.specs.Seeds.{RefusesSeeds}
 use Rattle.slh_tool.specs.declared.fault.Fault.{Fault}
@@ -135,3 +138,16 @@ made bytes options files key context prehash random message cutting (Err e) form
 pub handed_on : {T : Type 0} (P : Fault → Type 0) (r : Result T Fault) (e : Fault) → IsErrAnd r (λ f. f ≡ e) → P e → IfErr r P
 handed_on P (Ok x) e h p = tt
 handed_on P (Err f) e h p = subst P (sym h) p
+
+-- the verdict on a message is that on both files
+pub judged_files : (options : VerifyOptions) (old mid : FilesState) (key : Key) (context front : Text) (r : Result Bool Fault) → mid ≡ old
+    → IsFrontOfFile old options.signature (sig_len (params key.set)) front → IfOk r (JudgesMessage mid options.message key context front)
+    → IfOk r (JudgesFiles options old key context None)
+judged_files options old mid key context front (Ok answer) kept signature judged = record {
+  message = judged.0;
+  signature = signature.0;
+  read = subst (λ (s : FilesState). IsFile s options.message judged.0) kept judged.1;
+  signature_read = signature.1;
+  truth = judged_by_front answer context key _ signature.0 front signature.2 judged.2;
+}
+judged_files options old mid key context front (Err e) kept signature judged = tt

@@ -35,6 +35,10 @@ RefusesFile old new path FileTooLong = IfSome (old.bytes_at path) (λ whole. fil
 RefusesFile old new path ReadFailed = Grew old.failures new.failures
 RefusesFile old new path fault = ⊥
 
+-- after a read, also one that failed, the files have the same bytes and no fewer failures
+abbrev pub IsLater : FilesState → FilesState → Type 0
+IsLater old new = (new.bytes_at ≡ old.bytes_at) × (old.failures ≤ new.failures)
+
 -- the digest is that of the file at this path
 abbrev pub IsDigestOfFile : FilesState → List ℕ → PreHash → Digest → Type 0
 IsDigestOfFile files path function digest = (bytes : List ℕ) × IsFile files path bytes × (digest ≡ record { function = function; bytes = PH function bytes })

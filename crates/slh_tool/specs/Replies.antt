@@ -121,6 +121,11 @@ abbrev pub IsValidIn : Option PreHash → Text → Text → Text → Key → Typ
 IsValidIn prehash context message signature key =
     (length context ≤ 255) × IsValid key (message_in_form (form_with prehash) context message) signature
 
+-- the truth of a signature of a message file, in the pure form
+abbrev pub JudgesMessage : FilesState → Text → Key → Text → Text → Bool → Type 0
+JudgesMessage files path key context signature answer =
+    (message : Text) × IsFile files path message × (IsTrue answer ↔ IsValidIn None context message signature key)
+
 -- the truth of a signature file with a key, in a form
 pub record JudgesFiles (options : VerifyOptions) (files : FilesState) (key : Key) (context : Text) (prehash : Option PreHash) (answer : Bool) : Type 0 where
   pub message : Text

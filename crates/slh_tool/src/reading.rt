@@ -1,12 +1,14 @@
 ghost use Rattle.std.specs.Prelude.{◌≡◌, ℕ, ◌+◌, ◌≤◌, ◌^◌, List, ◌++◌, [], length, take, IfOk, IfErr, OnOk};
+ghost use Rattle.slh_core.specs.Keys.{Key};
 ghost use Rattle.slh_core.specs.PreHashing.{HasFed};
+ghost use Rattle.slh_core.specs.Verifying.{IsVerifierOf};
 ghost use Rattle.slh_core.specs.declared.pre_hash.PreHash.{PreHash};
 ghost use Rattle.slh_devices.specs.Devices.{CountsFailure, EndsBy, HasPart};
 ghost use Rattle.slh_files.specs.KeyFile.{AreReadAlike, IsKeyFront};
-ghost use Rattle.slh_tool.specs.Reading.{IsDigestOfFile, IsFile, IsFrontOfFile, IsFrontOfKeyFile, RefusesFile, file_limit};
+ghost use Rattle.slh_tool.specs.Reading.{IsDigestOfFile, IsFile, IsFrontOfFile, IsFrontOfKeyFile, IsLater, RefusesFile, file_limit};
 
 use super::fault::Fault;
-use slh_core::{MessageDigest, PreHash, PreHasher};
+use slh_core::{MessageDigest, PreHash, PreHasher, Verifier};
 use slh_devices::{FetchFault, Files};
 use slh_files::push_key_bytes;
 use std::alloc::{AllocError, Allocator};
@@ -18,7 +20,7 @@ const FILE_LIMIT: usize = 1 << 30;
 const PIECE: usize = 4096;
 
 /// What the bytes of a file are handed to, a piece at a time.
-trait Receiver {
+pub(crate) trait Receiver {
     // That it has received these bytes, put end to end, since it was the first of the two.
     ghost has_received: { Self → Self → List ℕ → Type 0 };
 
@@ -68,8 +70,30 @@ impl Receiver for PreHasher {
     }
 }
 
+impl Receiver for Verifier<'_> {
+    ghost has_received = { λ begin verifier bytes. (key : Key) (context signature : List ℕ)
+        → IsVerifierOf begin key context signature [] → IsVerifierOf verifier key context signature bytes };
+
+    fn receive(&mut self, piece: &[u8]) -> Result<(), AllocError> {
+        self.update(piece);
+        Ok(())
+    }
+}
+
+/// What keeps nothing of a file.
+#[derive(Drop)]
+struct Nothing;
+
+impl Receiver for Nothing {
+    ghost has_received = { λ begin nothing bytes. Unit {0} };
+
+    fn receive(&mut self, _piece: &[u8]) -> Result<(), AllocError> {
+        Ok(())
+    }
+}
+
 /// Hands the bytes of a file to a receiver, of which no more than a piece is held here.
-fn read_through<F: Files, R: Receiver>(
+pub(crate) fn read_through<F: Files, R: Receiver>(
     files: &mut F,
     path: &str,
     receiver: &mut R,
@@ -79,6 +103,7 @@ fn read_through<F: Files, R: Receiver>(
         × R.has_received receiver.old receiver.new whole) }
     ensures refused { IfErr result (RefusesFile (F.state files.old) (F.state files.new) path.now) }
     ensures kept { OnOk result (F.state files.new ≡ F.state files.old) }
+    ensures later { IsLater (F.state files.old) (F.state files.new) }
 {
     let mut piece = [0; PIECE];
     let mut at = 0;
@@ -119,6 +144,7 @@ pub(crate) fn read_front<A: Allocator, F: Files>(
     ensures done { IfOk result (λ bytes. IsFrontOfFile (F.state files.old) path.now most bytes.items) }
     ensures refused { IfErr result (RefusesFile (F.state files.old) (F.state files.new) path.now) }
     ensures kept { OnOk result (F.state files.new ≡ F.state files.old) }
+    ensures later { IsLater (F.state files.old) (F.state files.new) }
 {
     let mut front = Front {
         bytes: Vec::new(alloc),
@@ -126,6 +152,15 @@ pub(crate) fn read_front<A: Allocator, F: Files>(
     };
     read_through(files, path, &mut front)?;
     Ok(front.bytes)
+}
+
+/// Reads a file for its refusal alone: nothing of it is held.
+pub(crate) fn read_past<F: Files>(files: &mut F, path: &str) -> Result<(), Fault>
+    ensures done { OnOk result ((whole : List ℕ) × IsFile (F.state files.old) path.now whole) }
+    ensures refused { IfErr result (RefusesFile (F.state files.old) (F.state files.new) path.now) }
+    ensures kept { OnOk result (F.state files.new ≡ F.state files.old) }
+{
+    read_through(files, path, &mut Nothing)
 }
 
 /// What the key of a key file depends on, or its first fault: the other bytes are read, but not held.

@@ -2,17 +2,17 @@ ghost use Rattle.std.specs.Prelude.{◌≡◌, ◌↔◌, IsTrue, IfOk, IfErr, N
 ghost use Rattle.slh_params.specs.Params.{sig_len};
 ghost use Rattle.slh_params.specs.ParamSet.{params};
 ghost use Rattle.slh_tool.specs.Options.{HasForm};
-ghost use Rattle.slh_tool.specs.Reading.{IsFrontOfFile, RefusesFile};
-ghost use Rattle.slh_tool.specs.Replies.{IsValidIn, JudgesFiles, JudgesWith, RefusesFiles, RefusesVerify, RefusesVerifying, VerifiesMessage};
+ghost use Rattle.slh_tool.specs.Reading.{IsFrontOfFile, IsLater, RefusesFile};
+ghost use Rattle.slh_tool.specs.Replies.{IsValidIn, JudgesFiles, JudgesMessage, JudgesWith, RefusesFiles, RefusesVerify, RefusesVerifying, VerifiesMessage};
 ghost use Rattle.slh_tool.specs.Requests.{verify_asked};
 
 use super::fault::Fault;
 use super::keys::public_key;
 use super::options::form_of;
-use super::reading::{digest_file, read_file, read_front};
+use super::reading::{digest_file, read_front, read_past, read_through};
 use super::reply::Reply;
 use super::request::VerifyWords;
-use slh_core::{PreHash, PublicKey, hash_verify_digest, verify};
+use slh_core::{PreHash, PublicKey, Verifier, hash_verify_digest};
 use slh_devices::Files;
 use std::alloc::Allocator;
 
@@ -49,8 +49,9 @@ fn verify_with<A: Allocator + Clone, F: Files>(
     }
 }
 
-/// The same in the pure form. The message is held.
-fn verify_pure<A: Allocator + Clone, F: Files>(
+/// The same in the pure form. The signature is read first, since the message is hashed after its R, by pieces and never
+/// held. Where both files are refused, the refusal is that of the message.
+fn verify_pure<A: Allocator, F: Files>(
     alloc: A,
     words: VerifyWords<'_>,
     files: &mut F,
@@ -60,9 +61,29 @@ fn verify_pure<A: Allocator + Clone, F: Files>(
     ensures done { IfOk result (JudgesFiles (verify_asked words.entry) (F.state files.old) key.now context.now None) }
     ensures refused { IfErr result (RefusesFiles (verify_asked words.entry) (F.state files.old) (F.state files.new)) }
 {
-    let message = read_file(alloc.clone()?, files, words.message)?;
-    let signature = signature_in(alloc, words, files, key)?;
-    Ok(verify(message.as_slice(), context, signature.as_slice(), key))
+    match signature_in(alloc, words, files, key) {
+        Ok(signature) => verdict_on(files, words.message, context, signature.as_slice(), key),
+        Err(fault) => {
+            read_past(files, words.message)?;
+            Err(fault)
+        }
+    }
+}
+
+/// Whether the signature is one of a message file, of which no more than a piece is held.
+fn verdict_on<F: Files>(
+    files: &mut F,
+    path: &str,
+    context: &[u8],
+    signature: &[u8],
+    key: &PublicKey,
+) -> Result<bool, Fault>
+    ensures done { IfOk result (JudgesMessage (F.state files.old) path.now key.now context.now signature.now) }
+    ensures refused { IfErr result (RefusesFile (F.state files.old) (F.state files.new) path.now) }
+{
+    let mut verifier = Verifier::new(context, signature, key);
+    read_through(files, path, &mut verifier)?;
+    Ok(verifier.finish())
 }
 
 /// The same in the pre-hash form. The message is hashed by pieces and never held.
@@ -93,6 +114,7 @@ fn signature_in<A: Allocator, F: Files>(
     ensures done { IfOk result (λ bytes. IsFrontOfFile (F.state files.old) words.entry.signature.now (sig_len (params key.now.set)) bytes.items) }
     ensures refused { IfErr result (RefusesFile (F.state files.old) (F.state files.new) words.entry.signature.now) }
     ensures kept { OnOk result (F.state files.new ≡ F.state files.old) }
+    ensures later { IsLater (F.state files.old) (F.state files.new) }
 {
     read_front(alloc, files, words.signature, key.set().sig_len())
 }

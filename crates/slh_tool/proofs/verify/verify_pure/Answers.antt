@@ -1,18 +1,10 @@
--- The verdict is that of the bytes read: the message's file, and the front of the signature's.
-use Rattle.std.proofs.Common.{subst}
-use Rattle.slh_devices.specs.Devices.{FilesState}
-use Rattle.slh_tool.specs.Reading.{IsFile}
-use Rattle.slh_tool.proofs.Pieces.{judged_by_front}
+-- The verdict is that of the bytes read: the front of the signature's file, and the message's.
+use Rattle.slh_tool.specs.Requests.{verify_asked}
+use Rattle.slh_tool.proofs.Refusals.{judged_files}
 use Rattle.slh_tool.proofs.verify.verify_pure.Goals as goal
 
-pub returns-clause-done : goal.returns-clause-done
-returns-clause-done g c =
-    let signature = c.in_ok-signature.ensures.done in
-    record {
-      message = c.in_ok-message.message.items;
-      signature = signature.0;
-      read = c.in_ok-message.ensures.done;
-      signature_read = subst (λ (s : FilesState). IsFile s c.args.words.signature.now signature.0) c.in_ok-message.ensures.kept signature.1;
-      truth = judged_by_front c.verify.result c.args.context.now c.args.key.now _ signature.0 c.in_ok-signature.signature.items signature.2
-          (rw (← c.as_slice.ensures.value, ← c.as_slice-2.ensures.value) c.verify.ensures);
-    }
+pub returns-in-Ok-clause-done : goal.returns-in-Ok-clause-done
+returns-in-Ok-clause-done g c =
+    judged_files (verify_asked c.args.words) (g.F.Files.state c.args.files.now) (g.F.Files.state c.signature_in.new.files)
+    c.args.key.now c.args.context.now c.in-Ok.signature.items c.verdict_on.result c.in-Ok.ensures.kept c.in-Ok.ensures.done
+    (rw c.as_slice.ensures.value at c.verdict_on.ensures.done)
