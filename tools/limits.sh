@@ -144,14 +144,14 @@ sweep "sign" -v 9000 120000 1511 yes sign --key key --message message $many
 # shellcheck disable=SC2086
 sweep "sign" -v 44600 44640 2 no sign --key key --message message $many
 # A message is verified in room for none of it, in either form.
-truncate -s 300M long_message
+truncate -s 100M long_message
 for prehash in "" "--prehash SHA2-256"; do
     verifying="verify --key public --message long_message --signature signature $prehash"
     # shellcheck disable=SC2086
     want $verifying
     # shellcheck disable=SC2086
     came=$(under -v 9000 $verifying 2>/dev/null)
-    tell "a message of 300 MB under ulimit -v 9000: $verifying: $came" "$([ "$came" = right ] && echo yes || echo no)"
+    tell "a message of 100 MB under ulimit -v 9000: $verifying: $came" "$([ "$came" = right ] && echo yes || echo no)"
 done
 want vectors --file deep.json
 sweep "a deep vector file" -s 24 240 12 yes vectors --file deep.json

@@ -153,6 +153,7 @@ pub fn long_context(row: &mut Row) {
     let pk = sk.public();
     let digest = PreHasher::new(PreHash::Sha256).finish();
     row.is_true(!verify(b"abc", &ctx, &out, &pk));
+    row.is_true(!Way::Pieces.verify(b"abc", &ctx, &out, &pk));
     row.is_true(!hash_verify(b"abc", &ctx, PreHash::Sha256, &out, &pk));
     row.is_true(!hash_verify_digest(&digest, &ctx, &out, &pk));
 }

@@ -76,13 +76,16 @@ pub fn other_lengths(row: &mut Row) {
     let pk = sk.public();
     row.is_true(Way::Pure.verify(&msg, b"", &sig, &pk));
     row.is_true(!Way::Pure.verify(&msg, b"", b"", &pk));
+    row.is_true(!Way::Pieces.verify(&msg, b"", b"", &pk));
     if sig.push(0).is_err() {
         row.refuse();
     }
     row.is_true(!Way::Pure.verify(&msg, b"", &sig, &pk));
+    row.is_true(!Way::Pieces.verify(&msg, b"", &sig, &pk));
     sig.pop();
     sig.pop();
     row.is_true(!Way::Pure.verify(&msg, b"", &sig, &pk));
+    row.is_true(!Way::Pieces.verify(&msg, b"", &sig, &pk));
 }
 
 /// A set, SK.seed, SK.prf, PK.seed, a message, a first byte, a step; at how many places the first bit of a byte of the

@@ -6,8 +6,8 @@ ghost use Rattle.slh_core.specs.Randomizers.{HasLength};
 
 use crate::row::Row;
 use slh_core::{
-    Form, PreHash, PublicKey, Randomizer, SecretKey, hash_sign, hash_verify, sign, sign_internal,
-    verify, verify_internal,
+    Form, PreHash, PublicKey, Randomizer, SecretKey, Verifier, hash_sign, hash_verify, sign,
+    sign_internal, verify, verify_internal,
 };
 
 /// How a message is signed and verified.
@@ -17,6 +17,8 @@ pub enum Way {
     Internal,
     /// By `sign` and `verify`: `pure`.
     Pure,
+    /// By `sign`, and by a `Verifier` of two pieces: `pieces`.
+    Pieces,
     /// By `hash_sign` and `hash_verify`: the function's name.
     PreHash(PreHash),
     /// By the methods of `Form`: `Form::Pure`, or the function's name after `Form::`.
@@ -39,12 +41,22 @@ pub fn way_of(row: &mut Row) -> Way {
     match row.text() {
         "internal" => Way::Internal,
         "pure" => Way::Pure,
+        "pieces" => Way::Pieces,
         "Form::Pure" => Way::Form(Form::Pure),
         text => match text.strip_prefix("Form::") {
             Some(name) => Way::Form(Form::PreHash(function_of(row, name))),
             None => Way::PreHash(function_of(row, text)),
         },
     }
+}
+
+/// Whether the bytes are a valid signature of a message, whose halves are pieces.
+fn verify_halves(msg: &[u8], ctx: &[u8], sig: &[u8], pk: &PublicKey) -> bool {
+    let (first, second) = msg.split_at(msg.len() / 2);
+    let mut verifier = Verifier::new(ctx, sig, pk);
+    verifier.update(first);
+    verifier.update(second);
+    verifier.finish()
 }
 
 impl Way {
@@ -67,7 +79,7 @@ impl Way {
                 sign_internal(&[msg], sk, randomizer, out);
                 true
             }
-            Way::Pure => sign(msg, ctx, sk, randomizer, out).is_ok(),
+            Way::Pure | Way::Pieces => sign(msg, ctx, sk, randomizer, out).is_ok(),
             Way::PreHash(function) => hash_sign(msg, ctx, function, sk, randomizer, out).is_ok(),
             Way::Form(form) => form.sign(msg, ctx, sk, randomizer, out).is_ok(),
         }
@@ -78,6 +90,7 @@ impl Way {
         match self {
             Way::Internal => verify_internal(&[msg], sig, pk),
             Way::Pure => verify(msg, ctx, sig, pk),
+            Way::Pieces => verify_halves(msg, ctx, sig, pk),
             Way::PreHash(function) => hash_verify(msg, ctx, function, sig, pk),
             Way::Form(form) => form.verify(msg, ctx, sig, pk),
         }

@@ -112,20 +112,22 @@ fn reads_files_in_any_pieces(rt: HostRuntime) -> Result<(), Fail> {
     check_ways(&rt, SECRET, message.as_slice(), signature.as_slice())
 }
 
-/// How many reads the command makes, where each of them ends it by 32 if it fails.
+/// How many reads the command makes, where each of them ends it by 32 if it fails; and how many reads follow those that
+/// fail, in all.
 fn reads<'f, R: Abort + AllocGlobal + Threads + Sync>(
     rt: &R,
     words: &[&str],
     files: &'f [(&'f str, &'f [u8])],
-) -> Result<u64, Fail> {
+) -> Result<(u64, u64), Fail> {
+    let mut after = 0u64;
     for fails_at in 1..40u64 {
         let counts = Counts::new();
         let answer = answer_over_own(rt, words, files, Ways { fails_at, ..PLAIN }, &counts)?;
         if answer.status != 2 {
-            return Ok(fails_at - 1);
+            return Ok((fails_at - 1, after));
         }
         check_refused(rt, &answer, b"slh: 32 ReadFailed\n");
-        equal(rt, &counts.reads.get(), &fails_at);
+        after = after.saturating_add(counts.reads.get().saturating_sub(fails_at));
     }
     Err("no run without a failure".into())
 }
@@ -141,12 +143,13 @@ fn tells_each_read_that_fails(rt: HostRuntime) -> Result<(), Fail> {
         ("tests", b"[]".as_slice()),
     ];
     // A key file is read once for its bytes and once for its end, the message and the signature three times and once.
-    let cases: [(&[&str], u64); 5] = [
-        (&["check", "--key", "secret"], 2),
-        (&SIGN, 6),
-        (&VERIFY, 10),
-        (&VERIFY_HASHED, 10),
-        (&VECTORS, 2),
+    // In the pure form the signature is read first, and where that fails, the message still is, for its own refusal.
+    let cases: [(&[&str], (u64, u64)); 5] = [
+        (&["check", "--key", "secret"], (2, 0)),
+        (&SIGN, (6, 0)),
+        (&VERIFY, (10, 16)),
+        (&VERIFY_HASHED, (10, 0)),
+        (&VECTORS, (2, 0)),
     ];
     for (words, count) in cases {
         equal(&rt, &reads(&rt, words, &files)?, &count);

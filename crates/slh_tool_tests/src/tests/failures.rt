@@ -86,18 +86,22 @@ fn tells_an_output_that_breaks_off(rt: HostRuntime) -> Result<(), Fail> {
 }
 
 #[test]
-fn hashes_a_message_by_pieces_up_to_the_limit(rt: HostRuntime) -> Result<(), Fail> {
+fn reads_a_message_by_pieces_up_to_the_limit(rt: HostRuntime) -> Result<(), Fail> {
     let files = [("public", PUBLIC)];
     let mut files = WithEndlessFile {
         folder: Folder::new(&files),
         name: "abc",
     };
-    let answer = run_over(&rt, &VERIFY_HASHED, &mut files)?;
-    equal(
-        &rt,
-        &answer.errors.as_slice(),
-        &b"slh: 36 FileTooLong\n".as_slice(),
-    );
-    equal(&rt, &answer.status, &2);
+    // There is no signature, but the message is refused first, also where it is read last.
+    let commands: [&[&str]; 2] = [&VERIFY_HASHED, &VERIFY];
+    for words in commands {
+        let answer = run_over(&rt, words, &mut files)?;
+        equal(
+            &rt,
+            &answer.errors.as_slice(),
+            &b"slh: 36 FileTooLong\n".as_slice(),
+        );
+        equal(&rt, &answer.status, &2);
+    }
     Ok(())
 }
