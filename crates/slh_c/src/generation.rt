@@ -91,7 +91,8 @@ fn join_levels(
 ) -> Result<Levels, Refusal>
     ensures ok { let rules = keygen_join_rules set xmss_levels sk_seed.now sk_prf.now pk_seed.now answers.now sk.now in
         IsOk result ↔ (first_refusal rules ≡ DONE) }
-    ensures refused { let rules = keygen_join_rules set xmss_levels sk_seed.now sk_prf.now pk_seed.now answers.now sk.now in
+    ensures refused { let rules =
+        keygen_join_rules set xmss_levels sk_seed.now sk_prf.now pk_seed.now answers.now sk.now in
         IfErr result (λ refusal. number refusal ≡ first_refusal rules) }
     ensures set { IfOk result (λ levels. set_numbered set ≡ Some levels.set) }
     ensures levels { IfOk result (λ levels. levels_of levels.set xmss_levels 0 ≡ Some levels) }
@@ -127,16 +128,19 @@ pub extern "C" fn slh_keygen_join(
     answers: &[u8],
     sk: &mut [u8],
 ) -> u32
-    ensures ruled { let rules = keygen_join_rules set xmss_levels sk_seed.now sk_prf.now pk_seed.now answers.now sk.old in
+    ensures ruled { let rules =
+        keygen_join_rules set xmss_levels sk_seed.now sk_prf.now pk_seed.now answers.now sk.old in
         first_refusal rules ≢ DONE → result ≡ first_refusal rules }
-    ensures judged { let rules = keygen_join_rules set xmss_levels sk_seed.now sk_prf.now pk_seed.now answers.now sk.old in
+    ensures judged { let rules =
+        keygen_join_rules set xmss_levels sk_seed.now sk_prf.now pk_seed.now answers.now sk.old in
         first_refusal rules ≡ DONE → result ≢ DONE → result ≡ number AnswersDisagree }
     ensures fit { let rules = keygen_join_rules set xmss_levels sk_seed.now sk_prf.now pk_seed.now answers.now sk.old in
         first_refusal rules ≡ DONE → WithLevels set xmss_levels 0 (λ c.
         (result ≡ DONE) ↔ AreTagged c sk_seed.now sk_prf.now pk_seed.now answers.now) }
     ensures joined { result ≡ DONE → WithLevels set xmss_levels 0 (λ c.
         sk.new ≡ sk_seed.now ++ sk_prf.now ++ pk_seed.now ++ key_root c sk_seed.now pk_seed.now answers.now) }
-    ensures right { let rules = keygen_join_rules set xmss_levels sk_seed.now sk_prf.now pk_seed.now answers.now sk.old in
+    ensures right { let rules =
+        keygen_join_rules set xmss_levels sk_seed.now sk_prf.now pk_seed.now answers.now sk.old in
         first_refusal rules ≡ DONE → WithLevels set xmss_levels 0 (λ c.
         AreKeyAnswers c sk_seed.now sk_prf.now pk_seed.now answers.now → result ≡ DONE) }
     ensures key { result ≡ DONE → WithLevels set xmss_levels 0 (λ c.

@@ -165,8 +165,10 @@ fn job_arguments(
     job: u32,
     answer: &[u8],
 ) -> Result<(Levels, SecretKey), Refusal>
-    ensures ok { IsOk result ↔ (first_refusal (sign_job_rules set xmss_levels fors_levels sk.now start.now job answer.now) ≡ DONE) }
-    ensures refused { IfErr result (λ refusal. number refusal ≡ first_refusal (sign_job_rules set xmss_levels fors_levels sk.now start.now job answer.now)) }
+    ensures ok { IsOk result
+        ↔ (first_refusal (sign_job_rules set xmss_levels fors_levels sk.now start.now job answer.now) ≡ DONE) }
+    ensures refused { IfErr result (λ refusal. number refusal
+        ≡ first_refusal (sign_job_rules set xmss_levels fors_levels sk.now start.now job answer.now)) }
     ensures set { IfOk result (λ it. set_numbered set ≡ Some it.0.set) }
     ensures levels { IfOk result (λ it. levels_of it.0.set xmss_levels fors_levels ≡ Some it.0) }
     ensures key { IfOk result (λ it. it.1 ≡ key it.0.set sk.now) }

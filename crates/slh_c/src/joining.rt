@@ -31,8 +31,10 @@ fn join_arguments(
     answers: &[u8],
     sig: &[u8],
 ) -> Result<(Levels, SecretKey), Refusal>
-    ensures ok { IsOk result ↔ (first_refusal (sign_join_rules set xmss_levels fors_levels sk.now start.now answers.now sig.now) ≡ DONE) }
-    ensures refused { IfErr result (λ refusal. number refusal ≡ first_refusal (sign_join_rules set xmss_levels fors_levels sk.now start.now answers.now sig.now)) }
+    ensures ok { IsOk result
+        ↔ (first_refusal (sign_join_rules set xmss_levels fors_levels sk.now start.now answers.now sig.now) ≡ DONE) }
+    ensures refused { IfErr result (λ refusal. number refusal
+        ≡ first_refusal (sign_join_rules set xmss_levels fors_levels sk.now start.now answers.now sig.now)) }
     ensures set { IfOk result (λ it. set_numbered set ≡ Some it.0.set) }
     ensures levels { IfOk result (λ it. levels_of it.0.set xmss_levels fors_levels ≡ Some it.0) }
     ensures key { IfOk result (λ it. it.1 ≡ key it.0.set sk.now) }

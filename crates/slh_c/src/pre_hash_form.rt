@@ -158,7 +158,8 @@ pub extern "C" fn slh_hash_verify_digest(
         × IsValid (key s pk.now) (pre_hash_message ctx.now f digest.now) sig.now)) }
     ensures refused { first_refusal (hash_verify_digest_rules set function pk.now digest.now) ≢ DONE
         → result ≡ first_refusal (hash_verify_digest_rules set function pk.now digest.now) }
-    ensures judged { first_refusal (hash_verify_digest_rules set function pk.now digest.now) ≡ DONE → result ≢ DONE → result ≡ INVALID }
+    ensures judged { first_refusal (hash_verify_digest_rules set function pk.now digest.now) ≡ DONE
+        → result ≢ DONE → result ≡ INVALID }
 {
     let Some(set) = set_of(set) else {
         return Refusal::NoSuchSet.number();

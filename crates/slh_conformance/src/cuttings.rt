@@ -3,7 +3,7 @@ ghost use Rattle.std.specs.Prelude.{◌≡◌};
 
 use crate::row::Row;
 use arrayvec::ArrayVec;
-use slh_cutting::{
+use slh_subtrees::{
     CutFault, CutTree, Cuts, Cutting, JobRange, JobTree, job, keygen_job, keygen_jobs, sign_jobs,
 };
 

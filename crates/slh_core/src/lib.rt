@@ -21,7 +21,7 @@ pub use verifier::Verifier;
 pub use verifying::verify_internal;
 
 /// The steps of signing one by one (FIPS 205, Algorithms 19, 22 and 23), for a signer that makes the trees elsewhere,
-/// as `slh_par` does. A user of one thread needs none of them.
+/// as `slh_par` and `slh_jobs` do. A user of one thread needs none of them.
 pub mod signing_steps {
     pub use crate::context::{pre_hash_head, pure_head};
     pub use crate::cut::MOST_DIGEST_LEN;

@@ -39,7 +39,8 @@ pub struct FromRng<R> {
 }
 
 impl<R: Rng> RandomBytes for FromRng<R> {
-    ghost draws = { λ before bytes after. (bytes, R.stream after.rng) ≡ fill_bytes (length bytes) (R.stream before.rng) };
+    ghost draws = { λ before bytes after. (bytes, R.stream after.rng)
+        ≡ fill_bytes (length bytes) (R.stream before.rng) };
 
     ghost failures = { λ _. 0 };
 

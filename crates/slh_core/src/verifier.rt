@@ -22,7 +22,7 @@ pub struct Verifier<'a> {
 }
 
 impl<'a> Verifier<'a> {
-    /// A verifier of the empty message. The signature comes first, since a digest begins with its R.
+    /// A verifier of the empty message. The signature comes first, since H_msg hashes its R first.
     #[tactic(auto, unfolding(crate::specs::Verifying::IsVerifierOf))]
     pub fn new(ctx: &[u8], sig: &'a [u8], pk: &'a PublicKey) -> Verifier<'a>
         ensures { IsVerifierOf result pk.now ctx.now sig.now [] }

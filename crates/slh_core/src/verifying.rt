@@ -44,7 +44,8 @@ pub(crate) fn verify_by_digest(pk: &PublicKey, digest: &[u8], sig: &[u8]) -> boo
     requires digest { length digest.now ≡ m (params pk.now.set) }
     requires sig { length sig.now ≡ sig_len (params pk.now.set) }
     ensures { let p = params pk.now.set in
-        IsTrue result ↔ (root_of_parts pk.now digest.now (get_sig_fors p sig.now) (get_sig_ht p sig.now) ≡ pk_root pk.now) }
+        IsTrue result
+        ↔ (root_of_parts pk.now digest.now (get_sig_fors p sig.now) (get_sig_ht p sig.now) ≡ pk_root pk.now) }
 {
     let set = pk.set();
     let (_, rest) = sig.split_at(set.n());

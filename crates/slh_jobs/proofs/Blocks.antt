@@ -1,18 +1,18 @@
--- What a record gains over the range of a leaf are the nodes of its path below the range's node.
-use Rattle.std.proofs.Common.{◌≡◌, ℕ, suc, ◌+◌, ◌*◌, ◌/◌, ◌%◌, ◌^◌, ◌<◌, ◌≤◌, inl, inr, bit_xor, length, arith, sym, subst, ap, ◌∙◌}
+-- What is made of the range of a leaf: the range's node, and the nodes of the leaf's path below it.
+use Rattle.std.proofs.Common.{◌≡◌, ℕ, suc, ◌+◌, ◌*◌, ◌/◌, ◌%◌, ◌^◌, ◌<◌, ◌≤◌, inl, inr, Some, bit_xor, List, [], ◌∷◌, get_or, arith, sym, subst, ap, ◌∙◌}
+use Rattle.std.specs.List.{All}
 use Rattle.std.proofs.Math.Nat.{mul-le-mul_right, mod-lt}
 use Rattle.std.proofs.lemmas.Nat.{pow_pos}
 use Rattle.std.proofs.lemmas.Bool.{cases_lt}
-use Rattle.slh_tree.specs.Tree.{MerkleTree, Lawful, sibling, sibling_index}
-use Rattle.slh_tree.specs.Climb.{path_below}
-use Rattle.slh_tree.specs.Cover.{first_leaf, past_leaf}
+use Rattle.slh_tree.specs.Tree.{MerkleTree, node, sibling}
+use Rattle.slh_tree.specs.Cover.{first_leaf, past_leaf, IsNodeOf}
+use Rattle.slh_tree.specs.declared.cover.Cover.{Cover}
+use Rattle.slh_tree.specs.declared.cover.Placed.{Placed}
 use Rattle.slh_tree.specs.Record.{KnownPath, Gains, LiesInRange}
-use Rattle.slh_tree.proofs.Authentic.{node_width}
 use Rattle.slh_tree.proofs.Blocks.{lies_inside, first_left_half, past_right_half}
 use Rattle.slh_tree.proofs.Branch.{half_shr, xor_even, xor_odd}
-use Rattle.slh_few.specs.Parts.{end_to_end}
-use Rattle.slh_few.specs.Paths.{node_bytes, bytes_or_none}
-use Rattle.slh_few.proofs.Ends.{end_to_end-same, path_below-siblings}
+use Rattle.slh_subtrees.specs.Joined.{IsHashed}
+use Rattle.slh_subtrees.proofs.PathLaw.{Knows}
 
 -- a leaf lies in the block of its branch
 first_before : (v z : ℕ) → first_leaf z (v / 2 ^ z) ≤ v
@@ -63,8 +63,18 @@ inside_block v z j lt =
       to = omega (arith, block_past v z (suc j) (omega arith), sibling_past (v / 2 ^ suc j) (v / 2 ^ j) j half);
     }
 
--- so the record knows them
-known_block :
+-- so what is made of the range of a leaf knows the leaf's path below the range's node
+pub hashed-knows :
+    (t : MerkleTree) (v z : ℕ) (c : Cover) (r : KnownPath) →
+    IsHashed t v c r →
+    c.lo ≡ first_leaf z (v / 2 ^ z) →
+    c.hi ≡ past_leaf z (v / 2 ^ z) →
+    z ≤ t.height →
+    Knows t v z r
+hashed-knows t v z c r is from to low = λ j lt. is.inside j (omega arith) (rw (from, to) (inside_block v z j lt))
+
+-- and so does a record that gained the nodes of the range
+pub gained-knows :
     (t : MerkleTree) (v z lo hi : ℕ) (old new : KnownPath) →
     lo ≡ first_leaf z (v / 2 ^ z) →
     hi ≡ past_leaf z (v / 2 ^ z) →
@@ -72,40 +82,20 @@ known_block :
     old.height ≡ t.height →
     old.leaf ≡ v →
     Gains t (LiesInRange lo hi old.leaf) old new →
-    (j : ℕ) →
-    j < z →
-    node_bytes new j ≡ sibling t v j
-known_block t v z lo hi old new from to low height leaf gained j lt =
+    Knows t v z new
+gained-knows t v z lo hi old new from to low height leaf gained = λ j lt.
     let In : ℕ → Type 0 = λ x. LiesInRange lo hi x j in
     let inside : LiesInRange lo hi old.leaf j = subst In (sym leaf) (rw (from, to) (inside_block v z j lt)) in
-    ap bytes_or_none (gained.noted j (omega (arith, height)) inside) ∙ ap (λ x. sibling t x j) leaf
+    gained.noted j (omega (arith, height)) inside ∙ ap (λ x. Some (sibling t x j)) leaf
 
--- each has the length of a node
-pub length-block :
-    (t : MerkleTree) →
-    Lawful t →
-    (v z lo hi : ℕ) (old new : KnownPath) →
-    lo ≡ first_leaf z (v / 2 ^ z) →
-    hi ≡ past_leaf z (v / 2 ^ z) →
-    z ≤ t.height →
-    old.height ≡ t.height →
-    old.leaf ≡ v →
-    Gains t (LiesInRange lo hi old.leaf) old new →
-    (j : ℕ) →
-    j < z →
-    length (node_bytes new j) ≡ t.width
-length-block t law v z lo hi old new from to low height leaf gained j lt =
-    ap length (known_block t v z lo hi old new from to low height leaf gained j lt) ∙ node_width t law j (sibling_index v j)
-
--- and end to end they are the path below the range's node
-pub path-block :
-    (t : MerkleTree) (v z lo hi : ℕ) (old new : KnownPath) →
-    lo ≡ first_leaf z (v / 2 ^ z) →
-    hi ≡ past_leaf z (v / 2 ^ z) →
-    z ≤ t.height →
-    old.height ≡ t.height →
-    old.leaf ≡ v →
-    Gains t (LiesInRange lo hi old.leaf) old new →
-    end_to_end (node_bytes new) z ≡ path_below t v z
-path-block t v z lo hi old new from to low height leaf gained =
-    end_to_end-same (node_bytes new) (sibling t v) z (known_block t v z lo hi old new from to low height leaf gained) ∙ sym (path_below-siblings t v z)
+-- the one node of the cover of a block is the tree's
+pub block-node :
+    (t : MerkleTree) (v z i : ℕ) (c : Cover) (r : KnownPath) →
+    IsHashed t v c r →
+    ((p : Placed) × (c.nodes.items ≡ p ∷ []) × (p.z ≡ z) × (p.i ≡ i)) →
+    (d : Placed) →
+    (get_or c.nodes.items 0 d).node.items ≡ node t z i
+block-node t v z i c r is one d =
+    let Of : List Placed → Type 0 = λ ps. All (IsNodeOf t) ps in
+    let own : IsNodeOf t one.0 = subst Of one.1 is.cover.own 0 d (omega arith) in
+    ap (λ (ps : List Placed). (get_or ps 0 d).node.items) one.1 ∙ own.bytes ∙ ap (λ (k : ℕ). node t k one.0.i) one.2 ∙ ap (node t z) one.3

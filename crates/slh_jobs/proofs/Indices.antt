@@ -1,5 +1,5 @@
 -- The ranges of a tree, and the leaves of each.
-use Rattle.std.proofs.Common.{◌≡◌, ℕ, ◌+◌, ◌-◌, ◌*◌, ◌/◌, ◌^◌, ◌<◌, ◌≤◌, List, inl, inr, arith, sym, subst, ap, ◌∙◌}
+use Rattle.std.proofs.Common.{◌≡◌, ℕ, ◌+◌, ◌-◌, ◌*◌, ◌/◌, ◌^◌, ◌<◌, ◌≤◌, List, length, refl, inl, inr, arith, sym, subst, ap, ◌∙◌}
 use Rattle.std.proofs.Math.Nat.{mul-le-mul, mul-le-mul_right, mod-lt, div-lt_iff_lt-mul}
 use Rattle.std.proofs.lemmas.Nat.{pow_pos, pow-add}
 use Rattle.std.proofs.lemmas.Bool.{cases_lt}
@@ -9,10 +9,14 @@ use Rattle.slh_few.specs.Fors.{fors_part_len}
 use Rattle.slh_core.specs.Cut.{idx_leaf}
 use Rattle.std.proofs.Math.Pow.{pow_mono}
 use Rattle.slh_tree.proofs.Branch.{branch_below}
-use Rattle.slh_jobs.specs.Ranges.{below, IsShape}
+use Rattle.slh_subtrees.specs.Jobs.{IsTreeOf, height_of}
+use Rattle.slh_subtrees.specs.declared.range.JobTree.{JobTree}
+use Rattle.slh_subtrees.specs.declared.range.JobTree.TheVariants.{Xmss, Fors}
+use Rattle.slh_jobs.specs.Ranges.{below, answer_len, IsShape}
+use Rattle.slh_jobs.specs.Joined.{fors_answers, answers_of_kind}
 use Rattle.slh_params.specs.ParamSet.{params}
 use Rattle.slh_params.proofs.Bounds.{n_low, n_high, hp_high, a_high}
-use Rattle.slh_jobs.specs.Jobs.{xmss_shape, fors_shape}
+use Rattle.slh_jobs.specs.Jobs.{xmss_shape, fors_shape, shape_of, xmss_jobs, fors_jobs, first_of_kind}
 use Rattle.slh_jobs.specs.declared.levels.Levels.{Levels}
 use Rattle.slh_jobs.specs.declared.shape.Shape.{Shape}
 
@@ -86,6 +90,30 @@ tree_there l trees levels len all lt room =
     let ranges : (l + 1) * 2 ^ levels ≤ trees * 2 ^ levels = mul-le-mul_right (2 ^ levels) (let le : l + 1 ≤ trees = omega arith in le) in
     let bytes : (l * 2 ^ levels + 2 ^ levels) * len ≤ trees * 2 ^ levels * len = mul-le-mul_right len (let le : l * 2 ^ levels + 2 ^ levels ≤ trees * 2 ^ levels = omega (arith, ranges) in le) in
     omega (arith, bytes)
+
+-- the shape of a tree, by the tree
+pub tree_is_shape : (c : Levels) (tree : JobTree) → IsShape (shape_of c tree)
+tree_is_shape c (Xmss l) = xmss_is_shape c
+tree_is_shape c (Fors j) = fors_is_shape c
+
+pub shape-height : (c : Levels) (tree : JobTree) → (shape_of c tree).height ≡ height_of (params c.set) tree
+shape-height c (Xmss l) = refl
+shape-height c (Fors j) = refl
+
+pub shape-n : (c : Levels) (tree : JobTree) → (shape_of c tree).n ≡ (params c.set).n
+shape-n c (Xmss l) = refl
+shape-n c (Fors j) = refl
+
+-- the range of a leaf of the tree is one of its ranges
+pub tree_range_at : (c : Levels) (tree : JobTree) (v : ℕ) → v < 2 ^ height_of (params c.set) tree → v / 2 ^ below (shape_of c tree) < 2 ^ (shape_of c tree).levels
+tree_range_at c tree v lt = range_at (shape_of c tree) (tree_is_shape c tree) v (height_of (params c.set) tree) (shape-height c tree) lt
+
+-- the answers of the tree are among those of the trees of its kind
+pub answers_there : (c : Levels) (bytes : List ℕ) (tree : JobTree) → IsTreeOf (params c.set) tree
+    → xmss_jobs c * answer_len (xmss_shape c) ≤ length bytes → fors_jobs c * answer_len (fors_shape c) ≤ length (fors_answers c bytes)
+    → (first_of_kind c tree + 2 ^ (shape_of c tree).levels) * answer_len (shape_of c tree) ≤ length (answers_of_kind c bytes tree)
+answers_there c bytes (Xmss l) lt xmss fors = tree_there l (params c.set).d c.xmss _ _ lt xmss
+answers_there c bytes (Fors j) lt xmss fors = tree_there j (params c.set).k c.fors _ _ lt fors
 
 -- a FORS tree's part of a signature has at most 480 bytes
 pub fors_part_few : (s : ParamSet) → fors_part_len (params s) ≤ 480

@@ -1,9 +1,10 @@
 pub mod Indices
 pub mod Blocks
-pub mod Places
 pub mod Right
 pub mod Assembled
 pub mod KeyLaw
 pub mod Begun
 pub mod Texts
 pub mod Verified
+pub mod Signed
+pub mod Cutting

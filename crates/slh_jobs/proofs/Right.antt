@@ -14,7 +14,7 @@ use Rattle.slh_jobs.specs.declared.shape.Shape.{Shape}
 use Rattle.slh_jobs.proofs.Indices.{range_below}
 
 -- What is known of a tree's answers: they are those of its ranges, of leaf v and with `rest` after its path.
-pub record AreRight (t : MerkleTree) (s : Shape) (v : ℕ) (rest : List ℕ) (tag : ℕ → List ℕ → List ℕ) (bytes : List ℕ) (first : ℕ) : Type 0 where
+pub record AreOfTree (t : MerkleTree) (s : Shape) (v : ℕ) (rest : List ℕ) (tag : ℕ → List ℕ → List ℕ) (bytes : List ℕ) (first : ℕ) : Type 0 where
   pub law : Lawful t
   pub shape : IsShape s
   pub height : s.height ≡ t.height
@@ -28,7 +28,7 @@ range_node_len : (t : MerkleTree) → Lawful t → (s : Shape) → s.n ≡ t.wid
 range_node_len t law s width r = node_width t law (below s) r ∙ sym width
 
 -- the node is the range's
-pub node-right : (t : MerkleTree) (s : Shape) (v : ℕ) (rest : List ℕ) (tag : ℕ → List ℕ → List ℕ) (bytes : List ℕ) (first : ℕ) → AreRight t s v rest tag bytes first
+pub node-right : (t : MerkleTree) (s : Shape) (v : ℕ) (rest : List ℕ) (tag : ℕ → List ℕ → List ℕ) (bytes : List ℕ) (first : ℕ) → AreOfTree t s v rest tag bytes first
     → (r : ℕ) → r < 2 ^ s.levels → node_given s bytes (first + r) ≡ node t (below s) r
 node-right t s v rest tag bytes first is r lt =
     let x = node t (below s) r in
@@ -38,7 +38,7 @@ node-right t s v rest tag bytes first is r lt =
     ∙ take_front x (back ++ replicate s.n 0) s.n (range_node_len t is.law s is.width r)
 
 -- the tag is the node's
-pub tag-right : (t : MerkleTree) (s : Shape) (v : ℕ) (rest : List ℕ) (tag : ℕ → List ℕ → List ℕ) (bytes : List ℕ) (first : ℕ) → AreRight t s v rest tag bytes first
+pub tag-right : (t : MerkleTree) (s : Shape) (v : ℕ) (rest : List ℕ) (tag : ℕ → List ℕ → List ℕ) (bytes : List ℕ) (first : ℕ) → AreOfTree t s v rest tag bytes first
     → (r : ℕ) → r < 2 ^ s.levels → tag r (node_given s bytes (first + r)) ≡ tag_given s bytes (first + r)
 tag-right t s v rest tag bytes first is r lt =
     let x = node t (below s) r in
@@ -50,7 +50,7 @@ tag-right t s v rest tag bytes first is r lt =
     ap (tag r) (node-right t s v rest tag bytes first is r lt) ∙ sym read
 
 -- what follows the tag where the leaf is one of the range
-own-right : (t : MerkleTree) (s : Shape) (v : ℕ) (rest : List ℕ) (tag : ℕ → List ℕ → List ℕ) (bytes : List ℕ) (first : ℕ) → AreRight t s v rest tag bytes first
+own-right : (t : MerkleTree) (s : Shape) (v : ℕ) (rest : List ℕ) (tag : ℕ → List ℕ → List ℕ) (bytes : List ℕ) (first : ℕ) → AreOfTree t s v rest tag bytes first
     → drop (2 * s.n) (given s bytes (first + v / 2 ^ below s)) ≡ path_below t v (below s) ++ rest
 own-right t s v rest tag bytes first is =
     let r = v / 2 ^ below s in
@@ -65,13 +65,13 @@ lower_len : (t : MerkleTree) → Lawful t → (s : Shape) → s.n ≡ t.width �
 lower_len t law s width v = length-path_below t law v (below s) ∙ ap (λ (w : ℕ). below s * w) (sym width)
 
 -- the lower nodes of the path, and what follows them
-lower-right : (t : MerkleTree) (s : Shape) (v : ℕ) (rest : List ℕ) (tag : ℕ → List ℕ → List ℕ) (bytes : List ℕ) (first : ℕ) → AreRight t s v rest tag bytes first
+lower-right : (t : MerkleTree) (s : Shape) (v : ℕ) (rest : List ℕ) (tag : ℕ → List ℕ → List ℕ) (bytes : List ℕ) (first : ℕ) → AreOfTree t s v rest tag bytes first
     → path_given s bytes (first + v / 2 ^ below s) ≡ path_below t v (below s)
 lower-right t s v rest tag bytes first is =
     ap (take (below s * s.n)) (own-right t s v rest tag bytes first is)
     ∙ take_front (path_below t v (below s)) rest (below s * s.n) (lower_len t is.law s is.width v)
 
-pub rest-right : (t : MerkleTree) (s : Shape) (v : ℕ) (rest : List ℕ) (tag : ℕ → List ℕ → List ℕ) (bytes : List ℕ) (first : ℕ) → AreRight t s v rest tag bytes first
+pub rest-right : (t : MerkleTree) (s : Shape) (v : ℕ) (rest : List ℕ) (tag : ℕ → List ℕ → List ℕ) (bytes : List ℕ) (first : ℕ) → AreOfTree t s v rest tag bytes first
     → rest_given s bytes (first + v / 2 ^ below s) ≡ rest
 rest-right t s v rest tag bytes first is =
     ap (drop (below s * s.n)) (own-right t s v rest tag bytes first is)
@@ -107,12 +107,12 @@ root-nodes t s bytes first some height own =
     let high : below s + s.levels ≡ t.height = omega (arith, some, height) in
     top-nodes t s bytes first own s.levels 0 (omega arith) first_node ∙ ap (λ (k : ℕ). node t k 0) high
 
-pub root-right : (t : MerkleTree) (s : Shape) (v : ℕ) (rest : List ℕ) (tag : ℕ → List ℕ → List ℕ) (bytes : List ℕ) (first : ℕ) → AreRight t s v rest tag bytes first
+pub root-right : (t : MerkleTree) (s : Shape) (v : ℕ) (rest : List ℕ) (tag : ℕ → List ℕ → List ℕ) (bytes : List ℕ) (first : ℕ) → AreOfTree t s v rest tag bytes first
     → root (top_given t s bytes first) ≡ root t
 root-right t s v rest tag bytes first is = root-nodes t s bytes first is.shape.some is.height (node-right t s v rest tag bytes first is)
 
 -- and the path of the leaf's range, after that below it, the leaf's
-above-right : (t : MerkleTree) (s : Shape) (v : ℕ) (rest : List ℕ) (tag : ℕ → List ℕ → List ℕ) (bytes : List ℕ) (first : ℕ) → AreRight t s v rest tag bytes first
+above-right : (t : MerkleTree) (s : Shape) (v : ℕ) (rest : List ℕ) (tag : ℕ → List ℕ → List ℕ) (bytes : List ℕ) (first : ℕ) → AreOfTree t s v rest tag bytes first
     → (j : ℕ) → j ≤ s.levels → path_below t v (below s) ++ path_below (top_given t s bytes first) (v / 2 ^ below s) j ≡ path_below t v (below s + j)
 unfolding path_below
 above-right t s v rest tag bytes first is zero le =
@@ -132,7 +132,7 @@ above-right t s v rest tag bytes first is (suc j) le =
     ∙ ap (λ (y : List ℕ). path_below t v (below s + j) ++ y) here
     ∙ ap (path_below t v) (let next : suc (below s + j) ≡ below s + suc j = omega arith in next)
 
-pub auth-right : (t : MerkleTree) (s : Shape) (v : ℕ) (rest : List ℕ) (tag : ℕ → List ℕ → List ℕ) (bytes : List ℕ) (first : ℕ) → AreRight t s v rest tag bytes first
+pub auth-right : (t : MerkleTree) (s : Shape) (v : ℕ) (rest : List ℕ) (tag : ℕ → List ℕ → List ℕ) (bytes : List ℕ) (first : ℕ) → AreOfTree t s v rest tag bytes first
     → auth_given t s bytes first v ≡ path t v
 auth-right t s v rest tag bytes first is =
     let high : below s + s.levels ≡ t.height = omega (arith, is.shape.some, is.height) in

@@ -4,15 +4,17 @@ use Rattle.slh_params.specs.Params.{Params, m}
 use Rattle.slh_params.specs.ParamSet.{params}
 use Rattle.slh_hash.specs.Stream.{IsKeyed}
 use Rattle.slh_hash.specs.declared.category_hmac.CategoryHmac.{CategoryHmac}
-use Rattle.slh_tree.specs.Tree.{MerkleTree}
-use Rattle.slh_few.specs.Fors.{fors_tree, fors_index, fors_secret}
-use Rattle.slh_few.specs.Hypertree.{layer_place}
-use Rattle.slh_few.specs.KeptChains.{kept_chains, kept_chains_len}
-use Rattle.slh_few.specs.Xmss.{xmss_tree}
-use Rattle.slh_few.specs.declared.place.Place.{Place}
+use Rattle.slh_tree.specs.Cover.{first_leaf, past_leaf}
+use Rattle.slh_few.specs.KeptChains.{kept_chains_len}
 use Rattle.slh_core.specs.Cut.{md, idx_tree, idx_leaf}
 use Rattle.slh_core.specs.Keys.{Key, sk_seed, sk_prf, public_of, pk_seed}
-use Rattle.slh_jobs.specs.Ranges.{answer_len, range_answer}
+use Rattle.slh_subtrees.specs.CutTrees.{CutTrees}
+use Rattle.slh_subtrees.specs.Points.{level_points}
+use Rattle.slh_subtrees.specs.Trees.{TreeSource, tree_of, leaf_of, secret_of, chains_of}
+use Rattle.slh_subtrees.specs.declared.range.JobTree.{JobTree}
+use Rattle.slh_subtrees.specs.declared.range.JobTree.TheVariants.{Xmss, Fors}
+use Rattle.slh_subtrees.specs.declared.range.JobRange.{JobRange}
+use Rattle.slh_jobs.specs.Ranges.{below, answer_len, range_answer}
 use Rattle.slh_jobs.specs.Tags.{OfAnswer, head, tag}
 use Rattle.slh_jobs.specs.declared.levels.Levels.{Levels}
 use Rattle.slh_jobs.specs.declared.shape.Shape.{Shape}
@@ -33,6 +35,10 @@ fors_shape c =
     let p = params_of c in
     record { n = p.n; height = p.a; levels = c.fors; own = (p.a - c.fors) * p.n + p.n }
 
+abbrev pub shape_of : Levels → JobTree → Shape
+shape_of c (Xmss l) = xmss_shape c
+shape_of c (Fors j) = fors_shape c
+
 -- the jobs: first the ranges of the XMSS trees, from layer 0 on, and then those of the FORS trees
 abbrev pub xmss_jobs : Levels → ℕ
 xmss_jobs c = (params_of c).d * 2 ^ c.xmss
@@ -42,6 +48,31 @@ fors_jobs c = (params_of c).k * 2 ^ c.fors
 
 abbrev pub jobs : Levels → ℕ
 jobs c = xmss_jobs c + fors_jobs c
+
+-- the first job of a tree, and the same counted among those of the trees of its kind
+abbrev pub first_job : Levels → JobTree → ℕ
+first_job c (Xmss l) = l * 2 ^ c.xmss
+first_job c (Fors j) = xmss_jobs c + j * 2 ^ c.fors
+
+abbrev pub first_of_kind : Levels → JobTree → ℕ
+first_of_kind c (Xmss l) = l * 2 ^ c.xmss
+first_of_kind c (Fors j) = j * 2 ^ c.fors
+
+-- the tree of job n, and the range of it
+abbrev pub tree_at : Levels → ℕ → JobTree
+tree_at c n = if nat_lt n (xmss_jobs c) then Xmss (n / 2 ^ c.xmss) else Fors ((n - xmss_jobs c) / 2 ^ c.fors)
+
+abbrev pub range_at : Levels → ℕ → ℕ
+range_at c n = if nat_lt n (xmss_jobs c) then n % 2 ^ c.xmss else (n - xmss_jobs c) % 2 ^ c.fors
+
+-- The cutting that the levels are, and job n as one of this cutting's jobs
+abbrev pub cut_by : Levels → CutTrees
+cut_by c = record { set = c.set; xmss = level_points (params_of c).hp c.xmss; fors = level_points (params_of c).a c.fors }
+
+abbrev pub job_at : Levels → ℕ → JobRange
+job_at c n =
+    let z = below (shape_of c (tree_at c n)) in
+    record { tree = tree_at c n; lo = first_leaf z (range_at c n); hi = past_leaf z (range_at c n) }
 
 -- where the answer of a job begins among all answers end to end, and its length
 abbrev pub start_of : Levels → ℕ → ℕ
@@ -63,6 +94,20 @@ r_in p start = take p.n start
 abbrev pub digest_in : Params → List ℕ → List ℕ
 digest_in p start = take (m p) (drop p.n start)
 
+-- what the trees of the signature are made from
+abbrev pub source : Levels → Key → List ℕ → TreeSource
+source c sk start =
+    let p = params_of c in
+    let digest = digest_in p start in
+    record {
+      set = c.set;
+      sk_seed = sk_seed sk;
+      pk_seed = pk_seed (public_of sk);
+      idx_tree = idx_tree p digest;
+      idx_leaf = idx_leaf p digest;
+      md = md p digest;
+    }
+
 -- the tag of the node that job n answers
 abbrev pub tag_of : Levels → Key → List ℕ → ℕ → List ℕ → List ℕ
 tag_of c sk start n node =
@@ -74,49 +119,25 @@ HoldsFront hmac c sk start =
     IsKeyed hmac (params_of c) (sk_prf sk ++ sk_seed sk ++ pk_seed (public_of sk))
     (head 2 (params_of c) ++ start ++ (c.xmss ∷ c.fors ∷ []))
 
--- the place that signs on layer l, the XMSS tree there, and what is kept of that key's chains
-abbrev pub place_in : Levels → List ℕ → ℕ → Place
-place_in c start l =
-    let p = params_of c in
-    layer_place p (idx_tree p (digest_in p start)) (idx_leaf p (digest_in p start)) l
+-- what follows the path in the answer of the range of the leaf that signs: what is kept of the chains of the leaf's key,
+-- or the secret
+abbrev pub rest_of : TreeSource → JobTree → List ℕ
+rest_of s (Xmss l) = chains_of s l
+rest_of s (Fors j) = secret_of s j
 
-abbrev pub layer_tree : Levels → Key → List ℕ → ℕ → MerkleTree
-layer_tree c sk start l = xmss_tree (params_of c) (sk_seed sk) (pk_seed (public_of sk)) l (place_in c start l).tree
+-- the length of this
+abbrev pub rest_len : Params → JobTree → ℕ
+rest_len p (Xmss l) = kept_chains_len p
+rest_len p (Fors j) = p.n
 
-abbrev pub chains_of : Levels → Key → List ℕ → ℕ → List ℕ
-chains_of c sk start l = kept_chains (params_of c) (sk_seed sk) (pk_seed (public_of sk)) (place_in c start l)
-
--- FORS tree j, its leaf that the digest asks for, and that leaf's secret
-abbrev pub fors_tree_of : Levels → Key → List ℕ → ℕ → MerkleTree
-fors_tree_of c sk start j =
-    let p = params_of c in
-    fors_tree p (sk_seed sk) (pk_seed (public_of sk)) (idx_tree p (digest_in p start)) (idx_leaf p (digest_in p start)) j
-
-abbrev pub index_in : Levels → List ℕ → ℕ → ℕ
-index_in c start j = fors_index (params_of c) (md (params_of c) (digest_in (params_of c) start)) j
-
-abbrev pub secret_of : Levels → Key → List ℕ → ℕ → List ℕ
-secret_of c sk start j =
-    let p = params_of c in
-    fors_secret p (sk_seed sk) (pk_seed (public_of sk)) (idx_tree p (digest_in p start)) (idx_leaf p (digest_in p start))
-    (j * 2 ^ p.a + index_in c start j)
-
--- the answer of range r of the tree of layer l, and of FORS tree j
-abbrev pub layer_answer : Levels → Key → List ℕ → ℕ → ℕ → List ℕ
-layer_answer c sk start l r =
-    range_answer (layer_tree c sk start l) (xmss_shape c) (place_in c start l).pair (chains_of c sk start l)
-    (tag_of c sk start (l * 2 ^ c.xmss + r)) r
-
-abbrev pub fors_answer : Levels → Key → List ℕ → ℕ → ℕ → List ℕ
-fors_answer c sk start j r =
-    range_answer (fors_tree_of c sk start j) (fors_shape c) (index_in c start j) (secret_of c sk start j)
-    (tag_of c sk start (xmss_jobs c + (j * 2 ^ c.fors + r))) r
+-- the answer of range r of a tree, where `tag` gives the tag of a job's node
+abbrev pub tree_answer : Levels → TreeSource → (ℕ → List ℕ → List ℕ) → JobTree → ℕ → List ℕ
+tree_answer c s tag tree r =
+    range_answer (tree_of s tree) (shape_of c tree) (leaf_of s tree) (rest_of s tree) (tag (first_job c tree + r)) r
 
 -- the answer of job n
 abbrev pub answer_of : Levels → Key → List ℕ → ℕ → List ℕ
-answer_of c sk start n =
-    if nat_lt n (xmss_jobs c) then layer_answer c sk start (n / 2 ^ c.xmss) (n % 2 ^ c.xmss)
-    else fors_answer c sk start ((n - xmss_jobs c) / 2 ^ c.fors) ((n - xmss_jobs c) % 2 ^ c.fors)
+answer_of c sk start n = tree_answer c (source c sk start) (tag_of c sk start) (tree_at c n) (range_at c n)
 
 -- the bytes are the answers of all jobs, end to end
 abbrev pub AreAnswers : Levels → Key → List ℕ → List ℕ → Type 0

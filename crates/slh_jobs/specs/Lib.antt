@@ -5,6 +5,7 @@ pub mod Tags
 pub mod Jobs
 pub mod Starts
 pub mod Joined
+pub mod Answered
 pub mod KeyJobs
 pub mod JobFault
 -- cited by public clauses

@@ -1,27 +1,24 @@
-//! What the answers of all jobs give, whatever bytes they are: the roots of the trees, and the parts of a signature.
-ghost use Rattle.std.specs.Prelude.{◌≡◌, ◌+◌, ◌*◌, ◌/◌, ◌^◌, ◌<◌, ◌≤◌, ◌++◌, ◌↔◌, IsSome, IfSome, length, take};
+//! What the answers of all jobs say of the trees, whatever bytes they are.
+ghost use Rattle.std.specs.Prelude.{◌≡◌, ◌+◌, ◌*◌, ◌/◌, ◌^◌, ◌<◌, ◌≤◌, ◌↔◌, IsSome, IfSome, length};
 ghost use Rattle.slh_params.specs.ParamSet.{params};
 ghost use Rattle.slh_hash.specs.Stream.{IsSeededTree};
-ghost use Rattle.slh_few.specs.Fors.{fors_part_len};
-ghost use Rattle.slh_few.specs.KeptChains.{wots_sig_from};
-ghost use Rattle.slh_few.specs.Xmss.{xmss_sig_len};
-ghost use Rattle.slh_core.specs.Keys.{public_of, pk_seed};
-ghost use Rattle.slh_jobs.specs.Ranges.{below, answer_len, rest_given, auth_given};
-ghost use Rattle.slh_jobs.specs.Jobs.{xmss_shape, fors_shape, xmss_jobs, fors_jobs, answers_len, place_in, layer_tree};
+ghost use Rattle.slh_subtrees.specs.Jobs.{IsTreeOf, height_of};
+ghost use Rattle.slh_subtrees.specs.SigningTrees.{source_of, leaf_in};
+ghost use Rattle.slh_jobs.specs.Ranges.{below, answer_len, given};
+ghost use Rattle.slh_jobs.specs.Jobs.{xmss_shape, fors_shape, shape_of, xmss_jobs, fors_jobs, first_of_kind, source, rest_len, answers_len};
 ghost use Rattle.slh_jobs.specs.Starts.{IsStart};
 ghost use Rattle.slh_jobs.specs.Tags.{start_len};
-ghost use Rattle.slh_jobs.specs.Joined.{fors_answers, layer_root, fors_root_given, fors_part_given};
+ghost use Rattle.slh_jobs.specs.Joined.{fors_answers, answers_of_kind, rest_in, answers_given};
 
 use crate::given::Given;
-use crate::jobs::ranges;
 use crate::levels::Levels;
 use crate::seeded_trees::{SeededForsTree, SeededXmssTree};
 use crate::signing::Signing;
 use crate::top_tree::put_auth;
 use slh_core::SecretKey;
-use slh_few::{fors_part_len, wots_sig_len, wots_sign_kept, xmss_sig_len};
 use slh_hash::SeededTreeHash;
 use slh_params::Node;
+use slh_subtrees::{Answers, JobTree};
 
 /// The answers of all jobs of a signature, as they are handed in.
 #[derive(Drop)]
@@ -35,7 +32,7 @@ pub(crate) struct Answered<'a> {
     ghost rest: { fors.bytes.now ≡ fors_answers signing.levels xmss.bytes.now },
     ghost xmss_there: { xmss_jobs signing.levels * answer_len (xmss_shape signing.levels) ≤ length xmss.bytes.now },
     ghost fors_there: { fors_jobs signing.levels * answer_len (fors_shape signing.levels) ≤ length fors.bytes.now },
-    ghost joins_state: { ∥ IsSeededTree joins (params signing.levels.set) (pk_seed (public_of signing.sk.now)) ∥₁ },
+    ghost joins_state: { ∥ IsSeededTree joins (params signing.trees.seeds.set) signing.trees.seeds.pk_seed.now ∥₁ },
 }
 
 impl<'a> Answered<'a> {
@@ -55,6 +52,8 @@ impl<'a> Answered<'a> {
         ensures sk { IfSome result (λ answered. answered.signing.sk.now ≡ sk.now) }
         ensures start { IfSome result (λ answered. answered.signing.start.now ≡ start.now) }
         ensures answers { IfSome result (λ answered. answered.xmss.bytes.now ≡ answers.now) }
+        ensures source { IfSome result (λ answered. source_of answered.signing.trees
+            ≡ source levels.now sk.now start.now) }
     {
         let signing = Signing::new(levels, sk, start)?;
         let xmss = Given {
@@ -66,7 +65,7 @@ impl<'a> Answered<'a> {
             shape: levels.fors_shape(),
             bytes: &answers[xmss_len..],
         };
-        let joins = SeededTreeHash::new(levels.set, sk.pk_seed());
+        let joins = SeededTreeHash::new(signing.trees.seeds.set, signing.trees.seeds.pk_seed);
         Some(Answered {
             signing,
             xmss,
@@ -75,74 +74,72 @@ impl<'a> Answered<'a> {
         })
     }
 
-    /// The first job of the tree of a layer.
-    fn first_of_layer(&self, layer: u8) -> u32
-        requires { layer < (params self.now.signing.levels.set).d }
-        ensures value { result ≡ layer * 2 ^ self.now.signing.levels.xmss }
+    /// The answers of the trees of a tree's kind.
+    fn of_kind(&self, tree: JobTree) -> &Given<'a>
+        ensures shape { result.now.shape ≡ shape_of self.now.signing.levels tree }
+        ensures bytes { result.now.bytes.now ≡ answers_of_kind self.now.signing.levels self.now.xmss.bytes.now tree }
+    {
+        match tree {
+            JobTree::Xmss(_) => &self.xmss,
+            JobTree::Fors(_) => &self.fors,
+        }
+    }
+
+    /// The number of a tree's first answer among those of the trees of its kind.
+    fn first(&self, tree: JobTree) -> u32
+        requires { IsTreeOf (params self.now.signing.levels.set) tree }
+        ensures value { result ≡ first_of_kind self.now.signing.levels tree }
         ensures few { result ≤ 16640 }
-        ensures there { (result + 2 ^ self.now.signing.levels.xmss) * answer_len (xmss_shape self.now.signing.levels) ≤ length self.now.xmss.bytes.now }
+        ensures there { let shape = shape_of self.now.signing.levels tree in
+            (result + 2 ^ shape.levels) * answer_len shape
+            ≤ length (answers_of_kind self.now.signing.levels self.now.xmss.bytes.now tree) }
     {
-        u32::from(layer) * ranges(self.signing.levels.xmss)
+        self.signing.levels.first_of_kind(tree)
     }
 
-    /// The first job of a FORS tree, counted from that of the first FORS tree.
-    fn first_of_fors(&self, tree_no: u32) -> u32
-        requires { tree_no < (params self.now.signing.levels.set).k }
-        ensures value { result ≡ tree_no * 2 ^ self.now.signing.levels.fors }
-        ensures few { result ≤ 16640 }
-        ensures there { (result + 2 ^ self.now.signing.levels.fors) * answer_len (fors_shape self.now.signing.levels) ≤ length self.now.fors.bytes.now }
+    /// What follows the path in the answer of the range of a tree's signing leaf.
+    fn rest(&self, tree: JobTree) -> &'a [u8]
+        requires { IsTreeOf (params self.now.signing.levels.set) tree }
+        ensures value { result.now
+            ≡ rest_in self.now.signing.levels (source_of self.now.signing.trees) self.now.xmss.bytes.now tree }
+        ensures len { length result.now ≡ rest_len (params self.now.signing.levels.set) tree }
     {
-        tree_no * ranges(self.signing.levels.fors)
+        let given = self.of_kind(tree);
+        let range = self.signing.trees.leaf(tree) >> given.shape.below();
+        given.rest((self.first(tree) + range) as usize)
+    }
+}
+
+impl<'a> Answers for Answered<'a> {
+    ghost set = { λ x. x.signing.trees.seeds.set };
+
+    ghost says = { λ x. answers_given x.signing.levels (source_of x.signing.trees) x.xmss.bytes.now };
+
+    fn put_secret(&self, number: u32, out: &mut [u8]) {
+        out.copy_from_slice(self.rest(JobTree::Fors(number)));
     }
 
-    /// Writes what a FORS tree adds to the signature: the secret of the leaf that the digest asks for, and its path.
-    /// Returns the root that the tree's ranges give.
-    pub(crate) fn fors_part(&self, tree_no: u32, out: &mut [u8]) -> Node
-        requires tree { tree_no < (params self.now.signing.levels.set).k }
-        requires out { length out.old ≡ fors_part_len (params self.now.signing.levels.set) }
-        ensures part { out.new ≡ fors_part_given self.now.signing.levels self.now.signing.sk.now self.now.signing.start.now self.now.xmss.bytes.now tree_no }
-        ensures root { result.items ≡ fors_root_given self.now.signing.levels self.now.signing.sk.now self.now.signing.start.now self.now.xmss.bytes.now tree_no }
-        ensures len { length result.items ≡ (params self.now.signing.levels.set).n }
-    {
-        let signing = &self.signing;
-        let seeds = signing.seeds();
-        let leaf = signing.index(tree_no);
-        let first = self.first_of_fors(tree_no);
-        let range = leaf >> self.fors.shape.below();
-        let (secret, auth) = out.split_at_mut(self.fors.shape.n);
-        secret.copy_from_slice(self.fors.rest((first + range) as usize));
-        let tree = SeededForsTree::new(
-            &self.joins,
-            &seeds,
-            signing.idx_tree,
-            signing.idx_leaf,
-            tree_no,
-        );
-        put_auth(&tree, &self.fors, first, leaf, auth)
+    fn put_path(&self, tree: JobTree, out: &mut [u8]) -> Node {
+        let trees = &self.signing.trees;
+        let given = self.of_kind(tree);
+        let first = self.first(tree);
+        let leaf = trees.leaf(tree);
+        match tree {
+            JobTree::Xmss(layer) => {
+                let at = trees.layer_place(layer);
+                let xmss = SeededXmssTree::new(&self.joins, &trees.seeds, layer, at.tree);
+                put_auth(&xmss, given, first, leaf, out)
+            }
+            JobTree::Fors(number) => {
+                let seeds = &trees.seeds;
+                let (idx_tree, idx_leaf) = (trees.idx_tree, trees.idx_leaf);
+                let fors = SeededForsTree::new(&self.joins, seeds, idx_tree, idx_leaf, number);
+                put_auth(&fors, given, first, leaf, out)
+            }
+        }
     }
 
-    /// Writes what a layer adds to the signature where it signs `msg`: the WOTS+ signature from the values of the key's
-    /// chains, and the path of the leaf. Returns the root that the ranges of the layer's tree give.
-    pub(crate) fn layer_part(&self, layer: u8, msg: &Node, out: &mut [u8]) -> Node
-        requires layer { layer < (params self.now.signing.levels.set).d }
-        requires msg { length msg.now.items ≡ (params self.now.signing.levels.set).n }
-        requires out { length out.old ≡ xmss_sig_len (params self.now.signing.levels.set) }
-        ensures part { let c = self.now.signing.levels in let sk = self.now.signing.sk.now in
-            let at = place_in c self.now.signing.start.now layer in let s = xmss_shape c in
-            let first = layer * 2 ^ c.xmss in
-            out.new ≡ wots_sig_from (params c.set) (pk_seed (public_of sk)) at (rest_given s self.now.xmss.bytes.now (first + at.pair / 2 ^ below s)) msg.now.items
-            ++ auth_given (layer_tree c sk self.now.signing.start.now layer) s self.now.xmss.bytes.now first at.pair }
-        ensures root { result.items ≡ layer_root self.now.signing.levels self.now.signing.sk.now self.now.signing.start.now self.now.xmss.bytes.now layer }
-        ensures len { length result.items ≡ (params self.now.signing.levels.set).n }
-    {
-        let seeds = self.signing.seeds();
-        let at = self.signing.place(layer);
-        let first = self.first_of_layer(layer);
-        let range = at.pair >> self.xmss.shape.below();
-        let (wots, auth) = out.split_at_mut(wots_sig_len(seeds.set));
-        let kept = self.xmss.rest((first + range) as usize);
-        wots_sign_kept(&seeds, at, msg, kept, wots);
-        let tree = SeededXmssTree::new(&self.joins, &seeds, layer, at.tree);
-        put_auth(&tree, &self.xmss, first, at.pair, auth)
+    fn chains(&self, layer: u8) -> &[u8] {
+        self.rest(JobTree::Xmss(layer))
     }
 }

@@ -138,7 +138,8 @@ pub fn keygen_join(
         → length answers.now ≡ key_jobs levels.now * answer_len (key_shape levels.now) → IsOk result }
     ensures key { AreKeyAnswers levels.now sk_seed.now sk_prf.now pk_seed.now answers.now
         → IfOk result (λ key. key ≡ generated_key levels.now.set sk_seed.now sk_prf.now pk_seed.now) }
-    ensures generated { AreKeyAnswers levels.now sk_seed.now sk_prf.now pk_seed.now answers.now → IfOk result IsGeneratedKey }
+    ensures generated { AreKeyAnswers levels.now sk_seed.now sk_prf.now pk_seed.now answers.now
+        → IfOk result IsGeneratedKey }
 {
     let shape = key_shape(levels);
     if answers.len() != keygen_jobs(levels) as usize * shape.answer_len() {

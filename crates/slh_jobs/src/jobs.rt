@@ -1,11 +1,15 @@
 //! The jobs of a signature, and where their answers stand.
-ghost use Rattle.std.specs.Prelude.{◌≡◌, ◌+◌, ◌*◌, ◌^◌, ◌<◌, ◌≤◌};
+ghost use Rattle.std.specs.Prelude.{◌≡◌, ℕ, ◌+◌, ◌*◌, ◌^◌, ◌<◌, ◌≤◌, Some, slice_get};
 ghost use Rattle.slh_jobs.specs.Ranges.{IsShape};
-ghost use Rattle.slh_jobs.specs.Jobs.{xmss_shape, fors_shape, xmss_jobs, fors_jobs, jobs, start_of, len_of, answers_len};
+ghost use Rattle.slh_params.specs.ParamSet.{params};
+ghost use Rattle.slh_subtrees.specs.Jobs.{IsTreeOf, signing_jobs};
+ghost use Rattle.slh_jobs.specs.declared.levels.Levels.{Levels};
+ghost use Rattle.slh_jobs.specs.Jobs.{xmss_shape, fors_shape, shape_of, xmss_jobs, fors_jobs, jobs, first_of_kind, first_job, tree_at, range_at, cut_by, job_at, start_of, len_of, answers_len};
 
 use crate::levels::Levels;
 use crate::shape::Shape;
 use slh_few::kept_chains_len;
+use slh_subtrees::JobTree;
 
 impl Levels {
     /// How the XMSS trees are cut.
@@ -35,6 +39,50 @@ impl Levels {
             height: set.a(),
             levels: self.fors,
             own: (set.a() - self.fors) as usize * set.n() + set.n(),
+        }
+    }
+
+    /// How a tree is cut.
+    pub(crate) fn shape(&self, tree: JobTree) -> Shape
+        ensures value { result ≡ shape_of self.now tree }
+        ensures shape { IsShape result }
+        ensures own { result.own ≤ 68608 }
+    {
+        match tree {
+            JobTree::Xmss(_) => self.xmss_shape(),
+            JobTree::Fors(_) => self.fors_shape(),
+        }
+    }
+
+    /// The first job of a tree, counted from that of the first tree of its kind.
+    pub(crate) fn first_of_kind(&self, tree: JobTree) -> u32
+        requires { IsTreeOf (params self.now.set) tree }
+        ensures value { result ≡ first_of_kind self.now tree }
+        ensures few { result ≤ 16640 }
+    {
+        match tree {
+            JobTree::Xmss(layer) => times(u32::from(layer), ranges(self.xmss)),
+            JobTree::Fors(number) => times(number, ranges(self.fors)),
+        }
+    }
+
+    /// The tree of a job, and the range of it.
+    pub(crate) fn tree_and_range(&self, job: u32) -> (JobTree, u32)
+        requires { job < jobs self.now }
+        ensures tree { result.0 ≡ tree_at self.now job }
+        ensures is_tree { IsTreeOf (params self.now.set) result.0 }
+        ensures range { result.1 ≡ range_at self.now job }
+        ensures within { result.1 < 2 ^ (shape_of self.now result.0).levels }
+        ensures job { first_job self.now result.0 + result.1 ≡ job }
+    {
+        let xmss_jobs = self.xmss_jobs();
+        if job < xmss_jobs {
+            let each = ranges(self.xmss);
+            (JobTree::Xmss((job / each) as u8), job % each)
+        } else {
+            let rest = job - xmss_jobs;
+            let each = ranges(self.fors);
+            (JobTree::Fors(rest / each), rest % each)
         }
     }
 
@@ -73,6 +121,12 @@ fn times(trees: u32, ranges: u32) -> u32
 {
     trees * ranges
 }
+
+/// The law that levels are a cutting: job n is that of the same number of `slh_subtrees`, where the trees are cut by
+/// these levels. It does nothing: the law is its contract.
+pub fn levels_are_a_cutting()
+    ensures { (c : Levels) (n : ℕ) → n < jobs c → slice_get (signing_jobs (cut_by c)) n ≡ Some (job_at c n) }
+{}
 
 /// The number of jobs of a signature: first the ranges of the XMSS trees, from layer 0 on, and then those of the FORS
 /// trees.

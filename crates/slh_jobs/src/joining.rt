@@ -1,15 +1,17 @@
 //! The signature from the answers of all jobs.
-ghost use Rattle.std.specs.Prelude.{◌≡◌, ◌↔◌, ℕ, List, ◌+◌, ◌*◌, ◌<◌, ◌≤◌, ◌++◌, IsTrue, IsOk, OnOk, OnErr, Err, length, take};
+ghost use Rattle.std.specs.Prelude.{◌≡◌, ◌↔◌, ℕ, List, ◌+◌, ◌*◌, ◌<◌, ◌≤◌, ◌++◌, IsTrue, IsOk, OnOk, OnErr, Err, length};
 ghost use Rattle.slh_params.specs.Params.{sig_len};
 ghost use Rattle.slh_params.specs.ParamSet.{params};
 ghost use Rattle.slh_few.specs.Fors.{fors_part_len};
 ghost use Rattle.slh_few.specs.Parts.{end_to_end};
 ghost use Rattle.slh_few.specs.Xmss.{xmss_sig_len};
-ghost use Rattle.slh_core.specs.Keys.{public_of, IsGeneratedKey};
+ghost use Rattle.slh_core.specs.Keys.{public_of, pk_root, IsGeneratedKey};
 ghost use Rattle.slh_core.specs.Signatures.{signature_by, IsValid};
 ghost use Rattle.slh_core.specs.declared.randomizer.Randomizer.{Randomizer};
-ghost use Rattle.slh_jobs.specs.Jobs.{AreAnswers, answers_len};
-ghost use Rattle.slh_jobs.specs.Joined.{fors_part_given, signed_given, layer_part_given, signature_given, FitTogether};
+ghost use Rattle.slh_subtrees.specs.Assembled.{fors_part_by, signed_by, layer_part_by, sig_fors_by, sig_ht_by};
+ghost use Rattle.slh_jobs.specs.Answered.{params_in, source_in, answers_in};
+ghost use Rattle.slh_jobs.specs.Jobs.{AreAnswers, answers_len, r_in};
+ghost use Rattle.slh_jobs.specs.Joined.{signature_given, AreFitting, FitTogether};
 ghost use Rattle.slh_jobs.specs.Starts.{IsStart, start_by, signature_from};
 ghost use Rattle.slh_jobs.specs.Tags.{start_len};
 ghost use Rattle.slh_jobs.specs.declared.fault.JobFault.TheVariants.{BadAnswersLength, BadStart};
@@ -20,88 +22,114 @@ use crate::jobs::answers_len;
 use crate::levels::Levels;
 use slh_core::SecretKey;
 use slh_core::signing_steps::fors_sig_len;
-use slh_few::xmss_sig_len;
 use slh_params::{Node, node_of};
+use slh_subtrees::{Answers, JobTree, put_layers};
 
 /// At least the length of a FORS signature in any set: 64 trees, of each a secret and 14 nodes of 32 bytes.
-const MOST_FORS_SIG_LEN: usize = 30720;
+const MOST_FORS_SIG_LEN: usize = 64 * (1 + 14) * 32;
 
 /// At least the length of what the layers of any set sign: 65 nodes of 32 bytes.
-const MOST_SIGNED_LEN: usize = 2080;
+const MOST_SIGNED_LEN: usize = 65 * 32;
 
-impl<'a> Answered<'a> {
-    /// Writes what a layer adds to the signature where it signs `msg`, from `start` on.
-    fn put_layer_part(&self, layer: u8, msg: &Node, out: &mut [u8], start: usize)
-        requires layer { layer < (params self.now.signing.levels.set).d }
-        requires msg { msg.now.items ≡ signed_given self.now.signing.levels self.now.signing.sk.now self.now.signing.start.now self.now.xmss.bytes.now layer }
-        requires len { length msg.now.items ≡ (params self.now.signing.levels.set).n }
-        requires out { start + xmss_sig_len (params self.now.signing.levels.set) ≤ length out.old }
-        ensures len { length (layer_part_given self.now.signing.levels self.now.signing.sk.now self.now.signing.start.now self.now.xmss.bytes.now layer)
-            ≡ xmss_sig_len (params self.now.signing.levels.set) }
-        ensures part { let p = params self.now.signing.levels.set in
-            take (start + xmss_sig_len p) out.new ≡ take start out.old
-            ++ layer_part_given self.now.signing.levels self.now.signing.sk.now self.now.signing.start.now self.now.xmss.bytes.now layer }
+/// Answers that fit together, with what each layer signs as it was compared, n bytes each. Where the bytes of the
+/// answers are another's to change, no layer signs anything else.
+#[derive(Drop)]
+struct Judged<'j, 'a> {
+    answered: &'j Answered<'a>,
+    signed: &'j [u8],
+    ghost signed_is: { signed.now
+        ≡ end_to_end (signed_by (source_in answered.now) (answers_in answered.now)) (params_in answered.now).d },
+    ghost signed_len: { length signed.now ≡ (params_in answered.now).d * (params_in answered.now).n },
+    ghost top: { signed_by (source_in answered.now) (answers_in answered.now) (params_in answered.now).d
+        ≡ pk_root (public_of answered.now.signing.sk.now) },
+}
+
+impl<'j, 'a> Judged<'j, 'a> {
+    /// What the layer above signs, the root of a layer's tree; above the top layer PK.root.
+    fn root(&self, layer: u8) -> Node
+        requires { layer < (params_in self.now.answered.now).d }
+        ensures value { result.items ≡ (answers_in self.now.answered.now).root (JobTree.Xmss layer) }
+        ensures len { length result.items ≡ (params_in self.now.answered.now).n }
     {
-        let end = start + xmss_sig_len(self.signing.levels.set);
-        self.layer_part(layer, msg, &mut out[start..end]);
+        let signing = &self.answered.signing;
+        let n = signing.trees.seeds.set.n();
+        let above = layer as usize + 1;
+        if above < signing.trees.seeds.set.d() as usize {
+            node_of(&self.signed[above * n..above * n + n])
+        } else {
+            node_of(signing.sk.pk_root())
+        }
+    }
+}
+
+impl<'j, 'a> Answers for Judged<'j, 'a> {
+    ghost set = { λ x. x.answered.now.signing.trees.seeds.set };
+
+    ghost says = { λ x. answers_in x.answered.now };
+
+    fn put_secret(&self, number: u32, out: &mut [u8]) {
+        self.answered.put_secret(number, out);
     }
 
-    /// What a layer signs, of what all layers sign.
-    fn signed_by(&self, layer: u8, signed: &[u8]) -> Node
-        requires layer { layer < (params self.now.signing.levels.set).d }
-        requires signed { signed.now ≡ end_to_end (signed_given self.now.signing.levels self.now.signing.sk.now self.now.signing.start.now self.now.xmss.bytes.now) (params self.now.signing.levels.set).d }
-        requires len { length signed.now ≡ (params self.now.signing.levels.set).d * (params self.now.signing.levels.set).n }
-        ensures value { result.items ≡ signed_given self.now.signing.levels self.now.signing.sk.now self.now.signing.start.now self.now.xmss.bytes.now layer }
-        ensures len { length result.items ≡ (params self.now.signing.levels.set).n }
-    {
-        let n = self.signing.levels.set.n();
-        let start = layer as usize * n;
-        node_of(&signed[start..start + n])
-    }
-
-    /// Writes the hypertree signature.
-    fn put_layers(&self, signed: &[u8], out: &mut [u8])
-        requires signed { signed.now ≡ end_to_end (signed_given self.now.signing.levels self.now.signing.sk.now self.now.signing.start.now self.now.xmss.bytes.now) (params self.now.signing.levels.set).d }
-        requires len { length signed.now ≡ (params self.now.signing.levels.set).d * (params self.now.signing.levels.set).n }
-        requires out { length out.old ≡ (params self.now.signing.levels.set).d * xmss_sig_len (params self.now.signing.levels.set) }
-        ensures { out.new ≡ end_to_end (layer_part_given self.now.signing.levels self.now.signing.sk.now self.now.signing.start.now self.now.xmss.bytes.now) (params self.now.signing.levels.set).d }
-    {
-        let size = xmss_sig_len(self.signing.levels.set);
-        for layer in 0..self.signing.levels.set.d() as u8 {
-            let msg = self.signed_by(layer, signed);
-            self.put_layer_part(layer, &msg, out, layer as usize * size);
+    fn put_path(&self, tree: JobTree, out: &mut [u8]) -> Node {
+        let root = self.answered.put_path(tree, out);
+        match tree {
+            JobTree::Xmss(layer) => self.root(layer),
+            JobTree::Fors(_) => root,
         }
     }
 
+    fn chains(&self, layer: u8) -> &[u8] {
+        self.answered.chains(layer)
+    }
+}
+
+impl<'a> Answered<'a> {
     /// Writes the signature, from the FORS signature and what the layers sign, as they were judged.
-    fn put_signature(&self, fors: &[u8], signed: &[u8], out: &mut [u8])
-        requires fors { fors.now ≡ end_to_end (fors_part_given self.now.signing.levels self.now.signing.sk.now self.now.signing.start.now self.now.xmss.bytes.now) (params self.now.signing.levels.set).k }
-        requires fors_len { length fors.now ≡ (params self.now.signing.levels.set).k * fors_part_len (params self.now.signing.levels.set) }
-        requires signed { signed.now ≡ end_to_end (signed_given self.now.signing.levels self.now.signing.sk.now self.now.signing.start.now self.now.xmss.bytes.now) (params self.now.signing.levels.set).d }
-        requires signed_len { length signed.now ≡ (params self.now.signing.levels.set).d * (params self.now.signing.levels.set).n }
-        requires out { length out.old ≡ sig_len (params self.now.signing.levels.set) }
-        ensures { out.new ≡ signature_given self.now.signing.levels self.now.signing.sk.now self.now.signing.start.now self.now.xmss.bytes.now }
+    fn put_signature(&self, sig_fors: &[u8], signed: &[u8], out: &mut [u8])
+        requires sig_fors { sig_fors.now ≡ sig_fors_by (source_in self.now) (answers_in self.now) }
+        requires fors_len { length sig_fors.now
+            ≡ (params_in self.now).k * fors_part_len (params_in self.now) }
+        requires signed { signed.now
+            ≡ end_to_end (signed_by (source_in self.now) (answers_in self.now)) (params_in self.now).d }
+        requires signed_len { length signed.now
+            ≡ (params_in self.now).d * (params_in self.now).n }
+        requires top { signed_by (source_in self.now) (answers_in self.now) (params_in self.now).d
+            ≡ pk_root (public_of self.now.signing.sk.now) }
+        requires out { length out.old ≡ sig_len (params_in self.now) }
+        ensures { out.new ≡ r_in (params_in self.now) self.now.signing.start.now
+            ++ (sig_fors_by (source_in self.now) (answers_in self.now)
+            ++ sig_ht_by (source_in self.now) (answers_in self.now)) }
     {
-        let set = self.signing.levels.set;
-        let (front, rest) = out.split_at_mut(set.n());
-        front.copy_from_slice(&self.signing.start[..set.n()]);
-        let (sig_fors, sig_ht) = rest.split_at_mut(fors_sig_len(set));
-        sig_fors.copy_from_slice(fors);
-        self.put_layers(signed, sig_ht);
+        let set = self.signing.trees.seeds.set;
+        let n = set.n();
+        let (front, rest) = out.split_at_mut(n);
+        front.copy_from_slice(&self.signing.start[..n]);
+        let (fors, sig_ht) = rest.split_at_mut(fors_sig_len(set));
+        fors.copy_from_slice(sig_fors);
+        let pk_fors = node_of(&signed[..n]);
+        let judged = Judged {
+            answered: self,
+            signed,
+        };
+        put_layers(&self.signing.trees, &judged, &pk_fors, sig_ht);
     }
 
     /// Whether the answers fit together. Where they do, the signature is written, after that verdict.
     fn join(&self, out: &mut [u8]) -> bool
-        requires { length out.old ≡ sig_len (params self.now.signing.levels.set) }
-        ensures fit { IsTrue result ↔ FitTogether self.now.signing.levels self.now.signing.sk.now self.now.signing.start.now self.now.xmss.bytes.now }
-        ensures fors_parts { IsTrue result → (j : ℕ) → j < (params self.now.signing.levels.set).k
-            → length (fors_part_given self.now.signing.levels self.now.signing.sk.now self.now.signing.start.now self.now.xmss.bytes.now j) ≡ fors_part_len (params self.now.signing.levels.set) }
-        ensures layer_parts { IsTrue result → (l : ℕ) → l < (params self.now.signing.levels.set).d
-            → length (layer_part_given self.now.signing.levels self.now.signing.sk.now self.now.signing.start.now self.now.xmss.bytes.now l) ≡ xmss_sig_len (params self.now.signing.levels.set) }
-        ensures joined { IsTrue result → out.new ≡ signature_given self.now.signing.levels self.now.signing.sk.now self.now.signing.start.now self.now.xmss.bytes.now }
+        requires { length out.old ≡ sig_len (params_in self.now) }
+        ensures fit { let t = self.now.signing in
+            IsTrue result ↔ AreFitting t.levels (source_in self.now) t.sk.now t.start.now self.now.xmss.bytes.now }
+        ensures fors_parts { IsTrue result → (j : ℕ) → j < (params_in self.now).k
+            → length (fors_part_by (answers_in self.now) j) ≡ fors_part_len (params_in self.now) }
+        ensures layer_parts { let s = source_in self.now in let a = answers_in self.now in let p = params_in self.now in
+            IsTrue result → (l : ℕ) → l < p.d → length (layer_part_by s a l (signed_by s a l)) ≡ xmss_sig_len p }
+        ensures joined { IsTrue result → out.new ≡ r_in (params_in self.now) self.now.signing.start.now
+            ++ (sig_fors_by (source_in self.now) (answers_in self.now)
+            ++ sig_ht_by (source_in self.now) (answers_in self.now)) }
         ensures refused { (IsTrue result → ⊥) → out.new ≡ out.old }
     {
-        let set = self.signing.levels.set;
+        let set = self.signing.trees.seeds.set;
         let mut fors = [0; MOST_FORS_SIG_LEN];
         let fors = &mut fors[..fors_sig_len(set)];
         let mut signed = [0; MOST_SIGNED_LEN];
@@ -115,12 +143,12 @@ impl<'a> Answered<'a> {
 }
 
 /// Writes the signature that `start` begins, `sig_len` bytes, from the answers of all its jobs, put end to end in the
-/// order of the jobs: where each answer is what `sign_job` writes, the bytes of `Form::sign` of `slh_core`. Whatever the
-/// answers are, what is written is a valid signature of the message that `start` was made of, under this key.
+/// order of the jobs: where each answer is what `sign_job` writes, the bytes of `Form::sign` of `slh_core`. Whatever
+/// the answers are, what is written is a valid signature of the message that `start` was made of, under this key.
 ///
 /// The answers may be any bytes. Refused, with nothing written, in this order: `BadAnswersLength` where they are not
 /// `answers_len`; `BadStart` where `start` does not have its tag under this key; `AnswersDisagree` where they don't fit
-/// together. All of it is judged before any one-time key signs, and what was compared is what is signed.
+/// together. All of it is judged before anything is written, and what was compared is what is signed.
 pub fn sign_join(
     levels: &Levels,
     sk: &SecretKey,
@@ -132,17 +160,21 @@ pub fn sign_join(
     requires start { length start.now ≡ start_len (params levels.now.set) }
     requires out { length out.old ≡ sig_len (params levels.now.set) }
     ensures length { (result ≡ Err BadAnswersLength) ↔ (length answers.now ≡ answers_len levels.now → ⊥) }
-    ensures start { (result ≡ Err BadStart) ↔ ((length answers.now ≡ answers_len levels.now) × (IsStart sk.now start.now → ⊥)) }
+    ensures start { (result ≡ Err BadStart)
+        ↔ ((length answers.now ≡ answers_len levels.now) × (IsStart sk.now start.now → ⊥)) }
     ensures fit { IsOk result ↔ ((length answers.now ≡ answers_len levels.now)
         × (IsStart sk.now start.now × FitTogether levels.now sk.now start.now answers.now)) }
     ensures joined { OnOk result (out.new ≡ signature_given levels.now sk.now start.now answers.now) }
     ensures authentic { (msg : List ℕ) (randomizer : Randomizer) → start.now ≡ start_by sk.now msg randomizer
         → OnOk result (IsValid (public_of sk.now) msg out.new) }
-    ensures right { IsGeneratedKey sk.now → IsStart sk.now start.now → AreAnswers levels.now sk.now start.now answers.now
+    ensures right { IsGeneratedKey sk.now → IsStart sk.now start.now
+        → AreAnswers levels.now sk.now start.now answers.now
         → length answers.now ≡ answers_len levels.now → IsOk result }
-    ensures signature { AreAnswers levels.now sk.now start.now answers.now → OnOk result (out.new ≡ signature_from sk.now start.now) }
+    ensures signature { AreAnswers levels.now sk.now start.now answers.now
+        → OnOk result (out.new ≡ signature_from sk.now start.now) }
     ensures message { (msg : List ℕ) (randomizer : Randomizer) → start.now ≡ start_by sk.now msg randomizer
-        → AreAnswers levels.now sk.now start.now answers.now → OnOk result (out.new ≡ signature_by sk.now msg randomizer) }
+        → AreAnswers levels.now sk.now start.now answers.now
+        → OnOk result (out.new ≡ signature_by sk.now msg randomizer) }
     ensures refused { OnErr result (out.new ≡ out.old) }
 {
     if answers.len() != answers_len(levels) {

@@ -27,7 +27,7 @@ mod top_tree;
 pub use answers::sign_job;
 pub use fault::JobFault;
 pub use generation::{key_answer_len, keygen_job, keygen_jobs, keygen_join};
-pub use jobs::{answer_len, answer_start, answers_len, sign_jobs};
+pub use jobs::{answer_len, answer_start, answers_len, levels_are_a_cutting, sign_jobs};
 pub use joining::sign_join;
 pub use levels::Levels;
 pub use start::{sign_start, start_len};

@@ -27,7 +27,8 @@ impl<'a, 'h> SeededXmssTree<'a, 'h> {
     #[tactic(auto, unfolding(crate::specs::SeededTrees::seeded_xmss_tree))]
     pub(crate) fn new(joins: &'h SeededTreeHash, seeds: &Seeds<'a>, layer: u8, tree: u64) -> Self
         requires { ∥ IsSeededTree joins.now (params seeds.now.set) seeds.now.pk_seed.now ∥₁ }
-        ensures { seeded_xmss_tree result ≡ xmss_tree (params seeds.now.set) seeds.now.sk_seed.now seeds.now.pk_seed.now layer tree }
+        ensures { seeded_xmss_tree result
+            ≡ xmss_tree (params seeds.now.set) seeds.now.sk_seed.now seeds.now.pk_seed.now layer tree }
     {
         SeededXmssTree {
             seeds: *seeds,
@@ -131,7 +132,8 @@ impl<'a, 'h> SeededForsTree<'a, 'h> {
         requires index { i < 2 ^ ((params self.now.seeds.set).a - z) }
         ensures { let p = params self.now.seeds.set in let sk = self.now.seeds.sk_seed.now in
             (pk : List ℕ) → IsSeededTree self.now.joins.now p pk → result.items
-            ≡ (fors_tree p sk pk self.now.idx_tree self.now.idx_leaf self.now.tree_no).join z i l.now.items r.now.items }
+            ≡ (fors_tree p sk pk self.now.idx_tree self.now.idx_leaf self.now.tree_no).join z i
+            l.now.items r.now.items }
     {
         let mut adrs = Adrs::zero();
         adrs.set_tree(self.idx_tree);

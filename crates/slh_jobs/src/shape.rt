@@ -10,7 +10,7 @@ pub(crate) struct Shape {
     pub(crate) n: usize,
     /// The height of the trees.
     pub(crate) height: u32,
-    /// How often their leaves are halved.
+    /// Each tree is cut into 2^levels ranges.
     pub(crate) levels: u32,
     /// The bytes of an answer beside a node and its tag.
     pub(crate) own: usize,

@@ -29,7 +29,7 @@ fn begun_len(set: ParamSet) -> usize
     set.n() + set.m()
 }
 
-/// Whether the bytes end with the tag of those before it.
+/// Whether the bytes end with the tag of those before the tag.
 pub(crate) fn is_start(sk: &SecretKey, start: &[u8]) -> bool
     requires { length start.now ≡ start_len (params sk.now.set) }
     ensures { IsTrue result ↔ IsStart sk.now start.now }

@@ -29,7 +29,8 @@ impl<'t, 'a, T: Tree> Tree for TopTree<'t, 'a, T> {
 
     ghost tree = { λ t. top_given (T.tree t.tree.now) t.given.now.shape t.given.now.bytes.now t.first };
 
-    ghost lawful = { λ t. top-lawful (T.tree t.tree.now) (T.lawful t.tree.now) t.given.now.shape t.given.now.bytes.now t.first t.n };
+    ghost lawful = { λ t. top-lawful (T.tree t.tree.now) (T.lawful t.tree.now)
+        t.given.now.shape t.given.now.bytes.now t.first t.n };
 
     fn height(&self) -> u32 {
         self.given.shape.levels

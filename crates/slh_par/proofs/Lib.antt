@@ -1,2 +1,7 @@
-pub mod PathLaw
+pub mod Apart
 pub mod Joined
+pub mod Kept
+pub mod Numbering
+pub mod Parts
+pub mod Places
+pub mod TopCovers

@@ -1,4 +1,6 @@
-pub mod Parts
+pub mod JobAnswers
+pub mod JoinedTrees
+pub mod TopTree
 pub mod ParFault
 pub mod Verdicts
 -- cited by public clauses

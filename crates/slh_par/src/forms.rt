@@ -14,7 +14,7 @@ use crate::parallel::Parallel;
 use crate::signing::sign_parts_par;
 use slh_core::signing_steps::{pre_hash_digest, pre_hash_head, pure_head};
 use slh_core::{Form, PreHash, Randomizer, SecretKey};
-use slh_cutting::Cutting;
+use slh_subtrees::Cutting;
 use slh_workers::{Gate, Workers};
 use std::alloc::Allocator;
 use std::thread::Threads;

@@ -5,11 +5,11 @@ ghost use Rattle.slh_core.specs.Keys.{generated_key, IsGeneratedKey};
 ghost use Rattle.slh_par.specs.declared.fault.ParFault.TheVariants.{ContextTooLong, Stopped};
 
 use crate::fault::ParFault;
+use crate::joins::join_top_tree;
 use slh_core::SecretKey;
-use slh_cutting::Cutting;
 use slh_few::Seeds;
 use slh_params::ParamSet;
-use slh_subtrees::join_top_tree;
+use slh_subtrees::Cutting;
 use slh_workers::{Gate, Workers};
 use std::alloc::Allocator;
 use std::thread::Threads;

@@ -11,11 +11,14 @@
 mod fault;
 mod forms;
 mod generation;
-mod layer_messages;
+mod joined_trees;
+mod joins;
+mod kept_chains;
 mod parallel;
-mod signature_bytes;
+mod ranges;
 mod signing;
-mod tree_parts;
+mod top_tree;
+mod trees_of_ranges;
 mod verify_item;
 mod verifying;
 
@@ -25,7 +28,7 @@ pub use generation::keygen_par;
 pub use slh_core::{
     Form, KeyFault, MessageDigest, ParamSet, PreHash, PublicKey, Randomizer, SecretKey,
 };
-pub use slh_cutting::{
+pub use slh_subtrees::{
     CutFault, CutTree, Cuts, Cutting, JobRange, JobTree, job, keygen_job, keygen_jobs, sign_jobs,
 };
 pub use slh_workers::{

@@ -1,6 +1,6 @@
 //! What a call by several threads is given beside what it computes.
 
-use slh_cutting::Cutting;
+use slh_subtrees::Cutting;
 use slh_workers::{Gate, Workers};
 use std::alloc::Allocator;
 use std::thread::Threads;

@@ -6,20 +6,39 @@ ghost use Rattle.slh_hash.specs.Keyed.{joined};
 ghost use Rattle.slh_core.specs.Keys.{public_of, IsGeneratedKey};
 ghost use Rattle.slh_core.specs.Randomizers.{HasLength};
 ghost use Rattle.slh_core.specs.Signatures.{signature_of_digest, signature_by, IsValid};
+ghost use Rattle.slh_subtrees.specs.Assembled.{answers_of, sig_fors_by, sig_ht_by};
+ghost use Rattle.slh_subtrees.specs.SigningTrees.{source_of};
 ghost use Rattle.slh_workers.specs.declared.fault.RunFault.TheVariants.{Stopped};
 
+use crate::joined_trees::JoinedTrees;
+use crate::joins::join_trees;
 use crate::parallel::Parallel;
-use crate::signature_bytes::{pk_fors_of, put_signature};
-use slh_core::signing_steps::{MOST_DIGEST_LEN, randomized_digest};
+use slh_core::signing_steps::{MOST_DIGEST_LEN, fors_sig_len, randomized_digest};
 use slh_core::{Randomizer, SecretKey, cut_digest};
 use slh_few::Seeds;
 use slh_params::Node;
-use slh_subtrees::{JoinedTrees, SigningTrees, join_trees};
+use slh_subtrees::{SigningTrees, put_fors, put_layers};
 use slh_workers::{Gate, RunFault};
 use std::alloc::Allocator;
 use std::thread::Threads;
 
-/// Writes R and what follows it in the signature of a digest (FIPS 205, Algorithm 19, lines 5 to 18). The trees are
+/// Writes a signature: R, the FORS signature, and the hypertree signature of the FORS public key (Algorithm 19).
+fn put_signature<A: Allocator>(r: &Node, joined: &JoinedTrees<'_, '_, A>, out: &mut [u8])
+    requires r { length r.now.items ≡ (params joined.now.trees.now.seeds.set).n }
+    requires out { length out.old ≡ sig_len (params joined.now.trees.now.seeds.set) }
+    ensures { let s = source_of joined.now.trees.now in
+        out.new ≡ r.now.items ++ (sig_fors_by s (answers_of s) ++ sig_ht_by s (answers_of s)) }
+{
+    let trees = joined.trees;
+    let set = trees.seeds.set;
+    let (front, rest) = out.split_at_mut(set.n());
+    front.copy_from_slice(r.as_slice());
+    let (sig_fors, sig_ht) = rest.split_at_mut(fors_sig_len(set));
+    let pk_fors = put_fors(trees, joined, sig_fors);
+    put_layers(trees, joined, &pk_fors, sig_ht);
+}
+
+/// Writes R and what follows it in the signature of a digest (FIPS 205, Algorithm 19, from line 6 on). The trees are
 /// made by workers that share the ranges of the cutting; the bytes are written last, so that a refusal writes none.
 fn sign_digest_par<R: Threads + Sync, A: Allocator + Clone + Send + Sync, G: Gate>(
     parallel: Parallel<'_, R, A, G>,
@@ -51,12 +70,8 @@ fn sign_digest_par<R: Threads + Sync, A: Allocator + Clone + Send + Sync, G: Gat
     };
     let cut = cut_digest(set, digest);
     let trees = SigningTrees::new(&seeds, cut.idx_tree, cut.idx_leaf, &digest[..set.md_len()]);
-    let JoinedTrees {
-        trees: joined,
-        chains,
-    } = join_trees(rt, alloc, &trees, workers, cutting, gate)?;
-    let pk_fors = pk_fors_of(&trees, &joined);
-    put_signature(r, &trees, &pk_fors, &joined, &chains, out);
+    let joined = join_trees(rt, alloc, &trees, workers, cutting, gate)?;
+    put_signature(r, &joined, out);
     Ok(())
 }
 

@@ -4,7 +4,7 @@ use Rattle.slh_tree.specs.Tree.{MerkleTree, root, sibling}
 use Rattle.slh_tree.specs.Cover.{IsCover, AreCovers}
 use Rattle.slh_tree.specs.Record.{KnownPath, known, LiesInRange}
 use Rattle.slh_tree.specs.declared.cover.Cover.{Cover}
-use Rattle.slh_subtrees.specs.declared.joined_tree.JoinedTree.{JoinedTree}
+use Rattle.slh_subtrees.specs.declared.joining.JoinedTree.{JoinedTree}
 
 -- the cover of its range of the tree's leaves, and a record of those nodes of leaf idx's path whose leaves lie in that
 -- range

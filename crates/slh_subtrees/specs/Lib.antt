@@ -1,4 +1,9 @@
-pub mod Joined
+pub mod CutTrees
+pub mod Points
+pub mod CutFaults
+pub mod Jobs
+pub mod Kept
+pub mod Trees
 pub mod SigningTrees
-pub mod Answers
-pub mod TopTree
+pub mod Joined
+pub mod Assembled

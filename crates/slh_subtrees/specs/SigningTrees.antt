@@ -1,46 +1,32 @@
--- The trees of one signature (FIPS 205, sections 7 and 8): the XMSS tree of each layer over which its place there
--- stands, and the FORS trees of its key at layer 0.
-use Rattle.std.specs.Prelude.{◌≡◌, ℕ, ◌+◌, ◌-◌, ◌<◌, List, length, nat_lt, if◌then◌else◌, slice_index_or}
-use Rattle.slh_params.specs.Params.{Params}
+-- What a `SigningTrees` stands for: ours.
+use Rattle.std.specs.Prelude.{ℕ, Bool, ◌&&◌, nat_le, nat_lt, List}
 use Rattle.slh_tree.specs.Tree.{MerkleTree}
-use Rattle.slh_few.specs.Xmss.{xmss_tree}
-use Rattle.slh_few.specs.Hypertree.{layer_place}
-use Rattle.slh_few.specs.KeptChains.{kept_chains}
-use Rattle.slh_few.specs.Fors.{fors_tree, fors_index}
-use Rattle.slh_cutting.specs.declared.range.JobTree.{JobTree}
-use Rattle.slh_cutting.specs.declared.range.JobTree.TheVariants.{Xmss, Fors}
-use Rattle.slh_subtrees.specs.Joined.{IsJoined}
-use Rattle.slh_subtrees.specs.declared.joined_tree.JoinedTree.{JoinedTree}
+use Rattle.slh_subtrees.specs.Trees.{TreeSource, tree_of, leaf_of, chains_of}
+use Rattle.slh_subtrees.specs.declared.range.JobTree.{JobTree}
+use Rattle.slh_subtrees.specs.declared.range.JobTree.TheVariants.{Xmss}
+use Rattle.slh_subtrees.specs.declared.signing_trees.SigningTrees.{SigningTrees}
 
--- Throughout, t and i are the tree and the leaf of layer 0 that sign, and md is the part of the digest that FORS signs.
+-- what the trees are made from
+abbrev pub source_of : SigningTrees → TreeSource
+source_of t = record {
+  set = t.seeds.set;
+  sk_seed = t.seeds.sk_seed.now;
+  pk_seed = t.seeds.pk_seed.now;
+  idx_tree = t.idx_tree;
+  idx_leaf = t.idx_leaf;
+  md = t.md.now;
+}
 
--- the tree
-abbrev pub tree_of : Params → List ℕ → List ℕ → ℕ → ℕ → JobTree → MerkleTree
-tree_of p sk pk t i (Xmss layer) = xmss_tree p sk pk layer (layer_place p t i layer).tree
-tree_of p sk pk t i (Fors number) = fors_tree p sk pk t i number
+-- the tree, its leaf whose path is in the signature, and what is kept of the chains of the key that signs on layer l
+abbrev pub tree_in : SigningTrees → JobTree → MerkleTree
+tree_in t tree = tree_of (source_of t) tree
 
--- its leaf whose path is in the signature
-abbrev pub leaf_of : Params → ℕ → ℕ → List ℕ → JobTree → ℕ
-leaf_of p t i md (Xmss layer) = (layer_place p t i layer).pair
-leaf_of p t i md (Fors number) = fors_index p md number
+abbrev pub leaf_in : SigningTrees → JobTree → ℕ
+leaf_in t tree = leaf_of (source_of t) tree
 
--- the trees in order: first those of the layers, from 0 on, and then the FORS trees
-unfoldable pub numbered : Params → ℕ → JobTree
-numbered p c = if nat_lt c p.d then Xmss c else Fors (c - p.d)
+abbrev pub chains_in : SigningTrees → ℕ → List ℕ
+chains_in t l = chains_of (source_of t) l
 
--- tree number c, and its leaf whose path is in the signature
-abbrev pub signing_tree : Params → List ℕ → List ℕ → ℕ → ℕ → ℕ → MerkleTree
-signing_tree p sk pk t i c = tree_of p sk pk t i (numbered p c)
-
-abbrev pub signing_leaf : Params → ℕ → ℕ → List ℕ → ℕ → ℕ
-signing_leaf p t i md c = leaf_of p t i md (numbered p c)
-
--- the roots and the paths of all trees, in order
-pub record AreJoined (p : Params) (sk pk : List ℕ) (t i : ℕ) (md : List ℕ) (xs : List JoinedTree) : Type 0 where
-  pub len : length xs ≡ p.d + p.k
-  pub each : (c : ℕ) (d : JoinedTree) → c < p.d + p.k → IsJoined (signing_tree p sk pk t i c) (signing_leaf p t i md c) (slice_index_or xs c d)
-
--- what is kept of the chains of the key that signs on each layer, from 0 on
-pub record AreChains (p : Params) (sk pk : List ℕ) (t i : ℕ) (xs : List (List ℕ)) : Type 0 where
-  pub len : length xs ≡ p.d
-  pub each : (l : ℕ) (d : List ℕ) → l < p.d → slice_index_or xs l d ≡ kept_chains p sk pk (layer_place p t i l)
+-- whether the leaf of that key is one of those from lo to hi, hi left out
+abbrev pub signs_in : SigningTrees → ℕ → ℕ → ℕ → Bool
+signs_in t l lo hi = nat_le lo (leaf_in t (Xmss l)) && nat_lt (leaf_in t (Xmss l)) hi

@@ -2,8 +2,17 @@
 ghost use Rattle.std.specs.Prelude.{◌^◌, ◌<◌};
 ghost use Rattle.slh_subtrees.specs.Joined.{AreHashed, IsJoined};
 
-use crate::joined_tree::JoinedTree;
+use slh_params::Node;
 use slh_tree::{Cover, PathRec, Tree, gather};
+
+/// The root of a tree and the authentication path of its signing leaf.
+#[derive(Drop)]
+pub struct JoinedTree {
+    /// The root, of n bytes.
+    pub root: Node,
+    /// The path, of which each node below the tree's height is known.
+    pub path: PathRec,
+}
 
 /// The root of the tree and the path of `leaf`, from covers that, put end to end, span the tree, and for each cover the
 /// record of those nodes of the path whose leaves lie in its range.

@@ -1,24 +1,31 @@
-//! The trees of one signature, computed by several threads: the d XMSS trees over which its places stand, and the k
-//! FORS trees.
+//! The trees of one signature: how they are cut into ranges of leaves, which are jobs, what a job answers, and how the
+//! answers of all jobs make the signature.
 //!
-//! The leaves of each tree are cut into ranges, and each range is a job for a worker: it gives the cover of the range,
-//! and those nodes of the signing leaf's path whose leaves lie in it. Where an XMSS tree's signing leaf lies in it, it
-//! also gives values of the chains of that leaf's key, from which the key signs later. The covers of a tree are then
-//! gathered to its root, and the records of path nodes are merged, which gives the whole path. Memory is refused only
-//! by `NoMemory`.
-#![tactic(auto)]
+//! A `Cutting` has the cut points of all XMSS trees and those of all FORS trees of a parameter set. The jobs of a
+//! signature are the ranges of its d XMSS trees, layer 0 first, and then of its k FORS trees; those of key generation
+//! are the ranges of the one XMSS tree of the top layer. Of a range are made its cover and those nodes of the
+//! signing leaf's path whose leaves lie in it; where the signing leaf of an XMSS tree lies in it, also values of the
+//! chains of that leaf's key, from which the key signs later. Who has the answers of all jobs, in memory (`slh_par`)
+//! or as bytes (`slh_jobs`), tells by `Answers` what they say of the trees. Nothing here takes memory or starts
+//! anything, and nothing but `Cutting::new` is refused.
+#![tactic(auto, using(slh_params::proofs::Bounds::bounds))]
 
+mod answers;
+mod cuts;
+mod cutting;
+mod fault;
 mod hashed_range;
-mod joined_tree;
+mod jobs;
 mod joining;
-mod joins;
-mod kept_chains;
-mod ranges;
+mod range;
 mod signing_trees;
-mod top_tree;
-mod trees_of_ranges;
 
-pub use joined_tree::{JoinedTree, JoinedTrees};
-pub use joins::{join_top_tree, join_trees};
-pub use kept_chains::KeptChains;
+pub use answers::{Answers, fors_part, layer_part, put_fors, put_layers};
+pub use cuts::{Cuts, levels_cut_evenly};
+pub use cutting::Cutting;
+pub use fault::{CutFault, CutTree};
+pub use hashed_range::HashedRange;
+pub use jobs::{job, keygen_job, keygen_jobs, sign_jobs};
+pub use joining::JoinedTree;
+pub use range::{JobRange, JobTree};
 pub use signing_trees::SigningTrees;

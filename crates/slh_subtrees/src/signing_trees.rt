@@ -1,23 +1,20 @@
 //! What the trees of one signature are made from.
-ghost use Rattle.std.specs.Prelude.{◌≡◌, ℕ, ◌^◌, ◌<◌, ◌≤◌, IfOk, length, slice_index, slice_index_or};
+ghost use Rattle.std.specs.Prelude.{◌≡◌, ℕ, ◌^◌, ◌<◌, ◌≤◌, [], ◌∷◌, length, slice_index, slice_index_or};
 ghost use Rattle.slh_params.specs.Params.{md_len};
 ghost use Rattle.slh_params.specs.ParamSet.{params};
 ghost use Rattle.slh_few.specs.Fors.{fors_index};
 ghost use Rattle.slh_few.specs.Hypertree.{layer_place};
 ghost use Rattle.slh_few.specs.declared.place.Place.{Place};
 
-use crate::hashed_range::{HashedRange, JobAnswer};
-use crate::joined_tree::JoinedTree;
-use crate::joining::joined;
-use crate::kept_chains::KeptChains;
-use slh_cutting::{JobRange, JobTree};
+use crate::hashed_range::HashedRange;
+use crate::joining::{JoinedTree, joined};
+use crate::range::JobTree;
 use slh_few::{
-    ForsTree, MOST_LAYERS, MOST_TREES, Place, Seeds, XmssTree, fors_indices, fors_range,
-    kept_chains_len, layer_places, xmss_range, xmss_range_keeping,
+    ForsTree, MOST_LAYERS, MOST_TREES, Place, Public, Seeds, XmssTree, fors_indices, fors_range,
+    fors_secret, layer_places, xmss_range, xmss_range_keeping,
 };
+use slh_params::Node;
 use slh_tree::{Cover, PathRec};
-use slh_workers::NoMemory;
-use std::alloc::Allocator;
 
 /// What the trees of one signature are made from: the seeds, the place of the key at layer 0 that signs, and the part
 /// of the message digest that FORS signs.
@@ -41,9 +38,13 @@ pub struct SigningTrees<'a> {
 }
 
 impl<'a> SigningTrees<'a> {
-    ghost use Rattle.slh_cutting.specs.Jobs.{IsTreeOf, height_of};
+    ghost use Rattle.slh_tree.specs.Cover.{first_leaf, past_leaf};
+    ghost use Rattle.slh_tree.specs.declared.cover.Placed.{Placed};
+    ghost use Rattle.slh_few.specs.KeptChains.{kept_chains_len};
+    ghost use Rattle.slh_subtrees.specs.Jobs.{IsTreeOf, height_of};
     ghost use Rattle.slh_subtrees.specs.Joined.{IsHashed, AreHashed, IsJoined};
-    ghost use Rattle.slh_subtrees.specs.Answers.{tree_in, leaf_in, chains_in, signs_in, kept_by, IsAnswer};
+    ghost use Rattle.slh_subtrees.specs.SigningTrees.{source_of, tree_in, leaf_in, chains_in, signs_in};
+    ghost use Rattle.slh_subtrees.specs.Trees.{secret_of};
 
     /// The trees of the signature by the key at leaf `idx_leaf` of tree `idx_tree`, of a digest whose first part is
     /// `md`, of md_len bytes.
@@ -65,61 +66,62 @@ impl<'a> SigningTrees<'a> {
         }
     }
 
-    /// What is made of the range of a job. What is kept of chains is memory of the allocator.
-    pub(crate) fn hashed<A: Allocator + Clone>(
-        &self,
-        alloc: &A,
-        job: JobRange,
-    ) -> Result<JobAnswer<A>, NoMemory>
-        requires tree { IsTreeOf (params self.now.seeds.set) job.tree }
-        requires some { job.lo < job.hi }
-        requires within { job.hi ≤ 2 ^ height_of (params self.now.seeds.set) job.tree }
-        ensures answer { IfOk result (λ x. IsAnswer self.now job x.0.cover x.0.path) }
-        ensures kept { IfOk result (λ x. x.1 ≡ kept_by self.now job) }
+    /// The seed that is public.
+    pub fn public(&self) -> Public<'a>
+        ensures set { result.set ≡ self.now.seeds.set }
+        ensures pk_seed { result.pk_seed.now ≡ self.now.seeds.pk_seed.now }
     {
-        let JobRange { tree, lo, hi } = job;
-        match tree {
-            JobTree::Xmss(layer) if self.is_signing(layer, lo, hi) => {
-                let (range, chains) = self.hashed_keeping(alloc, layer, lo, hi)?;
-                Ok((range, Some((u32::from(layer), chains))))
-            }
-            JobTree::Xmss(layer) => Ok((self.hashed_xmss(layer, lo, hi), None)),
-            JobTree::Fors(number) => Ok((self.hashed_fors(number, lo, hi), None)),
+        Public {
+            set: self.seeds.set,
+            pk_seed: self.seeds.pk_seed,
         }
     }
 
     /// Whether the leaf that signs on a layer is one of those from `lo` to `hi`, `hi` left out.
-    fn is_signing(&self, layer: u8, lo: u32, hi: u32) -> bool
+    pub fn signs_in(&self, layer: u8, lo: u32, hi: u32) -> bool
         requires { layer < (params self.now.seeds.set).d }
         ensures { result ≡ signs_in self.now layer lo hi }
     {
         (lo..hi).contains(&self.layer_place(layer).pair)
     }
 
+    /// What is made of the leaves from `lo` to `hi`, `hi` left out, of a tree.
+    pub fn hashed(&self, tree: JobTree, lo: u32, hi: u32) -> HashedRange
+        requires tree { IsTreeOf (params self.now.seeds.set) tree }
+        requires some { lo < hi }
+        requires within { hi ≤ 2 ^ height_of (params self.now.seeds.set) tree }
+        ensures lo { result.cover.lo ≡ lo }
+        ensures hi { result.cover.hi ≡ hi }
+        ensures hashed { IsHashed (tree_in self.now tree) (leaf_in self.now tree) result.cover result.path }
+        ensures block { (z i : ℕ) → lo ≡ first_leaf z i → hi ≡ past_leaf z i
+            → (p : Placed) × (result.cover.nodes.items ≡ p ∷ []) × (p.z ≡ z) × (p.i ≡ i) }
+    {
+        match tree {
+            JobTree::Xmss(layer) => self.hashed_xmss(layer, lo, hi),
+            JobTree::Fors(number) => self.hashed_fors(number, lo, hi),
+        }
+    }
+
     /// What is made of the leaves from `lo` to `hi`, `hi` left out, of the XMSS tree of a layer, the signing leaf among
-    /// them, and what is kept of the chains of that leaf's key.
+    /// them. Writes what is kept of the chains of that leaf's key, `kept_chains_len` bytes.
     #[tactic(auto, using(slh_params::proofs::Bounds::hp_low, slh_params::proofs::Bounds::hp_high))]
-    fn hashed_keeping<A: Allocator + Clone>(
-        &self,
-        alloc: &A,
-        layer: u8,
-        lo: u32,
-        hi: u32,
-    ) -> Result<(HashedRange, KeptChains<A>), NoMemory>
+    pub fn hashed_keeping(&self, layer: u8, lo: u32, hi: u32, kept: &mut [u8]) -> HashedRange
         requires layer { layer < (params self.now.seeds.set).d }
         requires some { lo < hi }
         requires within { hi ≤ 2 ^ (params self.now.seeds.set).hp }
-        ensures lo { IfOk result (λ x. x.0.cover.lo ≡ lo) }
-        ensures hi { IfOk result (λ x. x.0.cover.hi ≡ hi) }
+        requires kept { length kept.old ≡ kept_chains_len (params self.now.seeds.set) }
+        ensures lo { result.cover.lo ≡ lo }
+        ensures hi { result.cover.hi ≡ hi }
         ensures hashed { let tree = JobTree.Xmss layer in
-            IfOk result (λ x. IsHashed (tree_in self.now tree) (leaf_in self.now tree) x.0.cover x.0.path) }
-        ensures kept { IfOk result (λ x. x.1 ≡ chains_in self.now layer) }
+            IsHashed (tree_in self.now tree) (leaf_in self.now tree) result.cover result.path }
+        ensures block { (z i : ℕ) → lo ≡ first_leaf z i → hi ≡ past_leaf z i
+            → (p : Placed) × (result.cover.nodes.items ≡ p ∷ []) × (p.z ≡ z) × (p.i ≡ i) }
+        ensures kept { kept.new ≡ chains_in self.now layer }
     {
         let at = self.layer_place(layer);
         let mut path = PathRec::for_leaf(self.seeds.set.hp(), at.pair);
-        let mut bytes = vec![in alloc.clone()?; 0; kept_chains_len(self.seeds.set)]?;
-        let cover = xmss_range_keeping(&self.seeds, at, lo, hi, &mut bytes, &mut path);
-        Ok((HashedRange { cover, path }, KeptChains::new(bytes)))
+        let cover = xmss_range_keeping(&self.seeds, at, lo, hi, kept, &mut path);
+        HashedRange { cover, path }
     }
 
     /// What is made of the leaves from `lo` to `hi`, `hi` left out, of the XMSS tree of a layer.
@@ -132,6 +134,8 @@ impl<'a> SigningTrees<'a> {
         ensures hi { result.cover.hi ≡ hi }
         ensures hashed { let tree = JobTree.Xmss layer in
             IsHashed (tree_in self.now tree) (leaf_in self.now tree) result.cover result.path }
+        ensures block { (z i : ℕ) → lo ≡ first_leaf z i → hi ≡ past_leaf z i
+            → (p : Placed) × (result.cover.nodes.items ≡ p ∷ []) × (p.z ≡ z) × (p.i ≡ i) }
     {
         let at = self.layer_place(layer);
         let mut path = PathRec::for_leaf(self.seeds.set.hp(), at.pair);
@@ -149,6 +153,8 @@ impl<'a> SigningTrees<'a> {
         ensures hi { result.cover.hi ≡ hi }
         ensures hashed { let tree = JobTree.Fors number in
             IsHashed (tree_in self.now tree) (leaf_in self.now tree) result.cover result.path }
+        ensures block { (z i : ℕ) → lo ≡ first_leaf z i → hi ≡ past_leaf z i
+            → (p : Placed) × (result.cover.nodes.items ≡ p ∷ []) × (p.z ≡ z) × (p.i ≡ i) }
     {
         let mut path = PathRec::for_leaf(self.seeds.set.a(), self.fors_index(number));
         let cover = fors_range(
@@ -184,8 +190,30 @@ impl<'a> SigningTrees<'a> {
         self.indices[number as usize]
     }
 
+    /// The leaf of the tree whose path is in the signature.
+    pub fn leaf(&self, tree: JobTree) -> u32
+        requires { IsTreeOf (params self.now.seeds.set) tree }
+        ensures value { result ≡ leaf_in self.now tree }
+        ensures small { result < 2 ^ height_of (params self.now.seeds.set) tree }
+    {
+        match tree {
+            JobTree::Xmss(layer) => self.layer_place(layer).pair,
+            JobTree::Fors(number) => self.fors_index(number),
+        }
+    }
+
+    /// The secret value of the leaf of FORS tree `number` that the digest asks for, n bytes (FIPS 205, Algorithm 14).
+    pub fn fors_secret(&self, number: u32) -> Node
+        requires { number < (params self.now.seeds.set).k }
+        ensures value { result.items ≡ secret_of (source_of self.now) number }
+        ensures len { length result.items ≡ (params self.now.seeds.set).n }
+    {
+        let index = self.fors_index(number);
+        fors_secret(&self.seeds, self.idx_tree, self.idx_leaf, number, index)
+    }
+
     /// The root of the tree and the path of its leaf, from the covers and the records of all its ranges.
-    pub(crate) fn joined(&self, tree: JobTree, covers: &[Cover], records: &[PathRec]) -> JoinedTree
+    pub fn joined(&self, tree: JobTree, covers: &[Cover], records: &[PathRec]) -> JoinedTree
         requires tree { IsTreeOf (params self.now.seeds.set) tree }
         requires hashed { let t = self.now in
             AreHashed (tree_in t tree) (leaf_in t tree) covers.now records.now }

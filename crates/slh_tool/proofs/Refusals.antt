@@ -10,7 +10,7 @@ use Rattle.slh_params.specs.Params.{sig_len}
 use Rattle.slh_params.specs.ParamSet.{params}
 use Rattle.slh_core.specs.Messages.{message_in_form, form_with}
 use Rattle.slh_core.specs.declared.pre_hash.PreHash.{PreHash}
-use Rattle.slh_cutting.specs.CutTrees.{CutTrees}
+use Rattle.slh_subtrees.specs.CutTrees.{CutTrees}
 use Rattle.slh_tool.specs.Options.{HasForm, random_of, signature_of}
 use Rattle.slh_tool.specs.Cuts.{HasCutting, IsCutting, RefusesCutting}
 use Rattle.slh_tool.specs.Keys.{HoldsKey, RefusesSeedsOf}

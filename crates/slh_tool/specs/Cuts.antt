@@ -5,11 +5,11 @@ use Rattle.std.specs.List.{list_all, slice_split}
 use Rattle.std.specs.Option.{option_and_then}
 use Rattle.std.specs.Str.Parse.{digits_value}
 use Rattle.clap.specs.Words.{Text}
-use Rattle.slh_cutting.specs.CutFaults.{cut_fault, cut_points}
-use Rattle.slh_cutting.specs.CutTrees.{CutTrees}
-use Rattle.slh_cutting.specs.declared.cuts.Cuts.{Cuts}
-use Rattle.slh_cutting.specs.declared.cuts.Cuts.TheVariants.{Levels, Points}
-use Rattle.slh_cutting.specs.declared.fault.CutFault.{CutFault}
+use Rattle.slh_subtrees.specs.CutFaults.{cut_fault, cut_points}
+use Rattle.slh_subtrees.specs.CutTrees.{CutTrees}
+use Rattle.slh_subtrees.specs.declared.cuts.Cuts.{Cuts}
+use Rattle.slh_subtrees.specs.declared.cuts.Cuts.TheVariants.{Levels, Points}
+use Rattle.slh_subtrees.specs.declared.fault.CutFault.{CutFault}
 use Rattle.slh_params.specs.ParamSet.{params}
 use Rattle.slh_params.specs.declared.param_set.ParamSet.{ParamSet}
 use Rattle.slh_tool.specs.Requests.{CutOptions, WorkOptions}

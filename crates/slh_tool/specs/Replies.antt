@@ -6,7 +6,7 @@ use Rattle.slh_core.specs.Keys.{IsGeneratedKey, Key, public_of}
 use Rattle.slh_core.specs.Messages.{message_in_form, form_with}
 use Rattle.slh_core.specs.Signatures.{IsValid}
 use Rattle.slh_core.specs.declared.pre_hash.PreHash.{PreHash}
-use Rattle.slh_cutting.specs.CutTrees.{CutTrees}
+use Rattle.slh_subtrees.specs.CutTrees.{CutTrees}
 use Rattle.slh_devices.specs.Devices.{FilesState, SourceState}
 use Rattle.slh_files.specs.KeyFile.{any_key_text, key_text}
 use Rattle.slh_files.specs.Lines.{line}

@@ -58,7 +58,8 @@ fn cuts_of<'a>(words: CutWords<'_>, points: &'a Option<Points>) -> Cuts<'a>
 /// The cut points, where the option stands.
 #[tactic(auto, unfolding(crate::specs::Cuts::points_of))]
 fn points_of(words: CutWords<'_>) -> Option<Option<Points>>
-    ensures { option_map (λ points. option_map (λ v. v.items) points) result ≡ points_of (cut_asked words.entry).points }
+    ensures { option_map (λ points. option_map (λ v. v.items) points) result
+        ≡ points_of (cut_asked words.entry).points }
 {
     match words.points {
         Some(list) => match points_in(list) {

@@ -30,7 +30,8 @@ pub(crate) fn root<A: Allocator, S: Source>(
 ) -> Result<String<A>, Fault>
     ensures done { IfOk result (λ s. ShowsRoot name.now (S.state input.old) (S.state input.new) (string_bytes s)) }
     ensures refused { IfErr result (RefusesSeedsOf name.now (S.state input.old) (S.state input.new)) }
-    ensures at_most { TakesAtMost (S.state input.old).left (S.state input.new).left (limit_of_set (set_of_label name.now)) }
+    ensures at_most { TakesAtMost (S.state input.old).left (S.state input.new).left
+        (limit_of_set (set_of_label name.now)) }
 {
     let key = generated(name, input)?;
     Ok(root_line(alloc, &key)?)
@@ -44,9 +45,11 @@ pub(crate) fn keygen<R: Threads + Sync, A: Allocator + Clone + Send + Sync, S: S
     words: KeygenWords<'_>,
     input: &mut S,
 ) -> Result<String<A>, Fault>
-    ensures done { IfOk result (λ s. WritesKey (keygen_asked words.entry) (S.state input.old) (S.state input.new) (string_bytes s)) }
+    ensures done { IfOk result (λ s. WritesKey (keygen_asked words.entry)
+        (S.state input.old) (S.state input.new) (string_bytes s)) }
     ensures refused { IfErr result (RefusesKeygen (keygen_asked words.entry) (S.state input.old) (S.state input.new)) }
-    ensures at_most { TakesAtMost (S.state input.old).left (S.state input.new).left (limit_of_set (set_of_label words.entry.set.now)) }
+    ensures at_most { TakesAtMost (S.state input.old).left (S.state input.new).left
+        (limit_of_set (set_of_label words.entry.set.now)) }
 {
     let Some(set) = ParamSet::from_label(words.set.as_bytes()) else {
         return Err(Fault::UnknownSet);
@@ -91,7 +94,8 @@ fn key_by_workers<R: Threads + Sync, A: Allocator + Clone + Send + Sync>(
 fn generated<S: Source>(name: &str, input: &mut S) -> Result<SecretKey, Fault>
     ensures done { IfOk result (IsGeneratedFrom name.now (S.state input.old) (S.state input.new)) }
     ensures refused { IfErr result (RefusesSeedsOf name.now (S.state input.old) (S.state input.new)) }
-    ensures at_most { TakesAtMost (S.state input.old).left (S.state input.new).left (limit_of_set (set_of_label name.now)) }
+    ensures at_most { TakesAtMost (S.state input.old).left (S.state input.new).left
+        (limit_of_set (set_of_label name.now)) }
 {
     let Some(set) = ParamSet::from_label(name.as_bytes()) else {
         return Err(Fault::UnknownSet);

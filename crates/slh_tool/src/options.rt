@@ -67,7 +67,8 @@ pub(crate) type Random = ArrayVec<u8, 32>;
 /// The randomizer, where the option stands.
 #[tactic(auto, unfolding(crate::specs::Options::random_of))]
 pub(crate) fn random_of(set: ParamSet, words: SignWords<'_>) -> Option<Option<Random>>
-    ensures value { option_map (λ random. option_map (λ bytes. bytes.items) random) result ≡ random_of set (sign_asked words.entry).random }
+    ensures value { option_map (λ random. option_map (λ bytes. bytes.items) random) result
+        ≡ random_of set (sign_asked words.entry).random }
     ensures len { IfSome result (λ random. IfSome random (λ bytes. length bytes.items ≡ (params set).n)) }
 {
     match words.random {

@@ -53,13 +53,17 @@ pub fn command<
 
     // The refusal has its cause, and nothing was written; or a write failed, after a prefix of the answer was written.
     ensures refused { result ≡ 2 → (fault : Fault) × IsTold (E.state errors.old) (E.state errors.new) (line fault)
-        × ((Refuses (map string_bytes words.now) (F.state files.old) (F.state files.new) (S.state input.old) (S.state input.new) fault × (output.new ≡ output.old))
+        × ((Refuses (map string_bytes words.now) (F.state files.old) (F.state files.new)
+        (S.state input.old) (S.state input.new) fault
+        × (output.new ≡ output.old))
         ⊎ ((fault ≡ WriteFailed) × Grew (O.state output.old).failures (O.state output.new).failures
-        × ((status : ℕ) × ((text : Text) × Replies (map string_bytes words.now) (F.state files.old) (S.state input.old) (S.state input.new) status text
+        × ((status : ℕ) × ((text : Text)
+        × Replies (map string_bytes words.now) (F.state files.old) (S.state input.old) (S.state input.new) status text
         × LetsThrough (O.state output.old).contents (O.state output.new).contents text)))) }
 
     // Of the input no more is taken than the command reads, and none where the arguments are refused or ask for help.
-    ensures at_most { TakesAtMost (S.state input.old).left (S.state input.new).left (words_limit (map string_bytes words.now)) }
+    ensures at_most { TakesAtMost (S.state input.old).left (S.state input.new).left
+        (words_limit (map string_bytes words.now)) }
 {
     match respond(rt, alloc, words, files, input) {
         Ok(reply) => match put_all(output, reply.output.as_slice()) {
@@ -86,9 +90,12 @@ fn respond<
     F: Files,
     S: Source,
 >(rt: &R, alloc: A, words: &[String], files: &mut F, input: &mut S) -> Result<Reply<A>, Fault>
-    ensures done { IfOk result (λ r. Replies (map string_bytes words.now) (F.state files.old) (S.state input.old) (S.state input.new) r.status r.output.items) }
-    ensures refused { IfErr result (Refuses (map string_bytes words.now) (F.state files.old) (F.state files.new) (S.state input.old) (S.state input.new)) }
-    ensures at_most { TakesAtMost (S.state input.old).left (S.state input.new).left (words_limit (map string_bytes words.now)) }
+    ensures done { IfOk result (λ r. Replies (map string_bytes words.now) (F.state files.old)
+        (S.state input.old) (S.state input.new) r.status r.output.items) }
+    ensures refused { IfErr result (Refuses (map string_bytes words.now) (F.state files.old) (F.state files.new)
+        (S.state input.old) (S.state input.new)) }
+    ensures at_most { TakesAtMost (S.state input.old).left (S.state input.new).left
+        (words_limit (map string_bytes words.now)) }
 {
     match parsed(rt.alloc(), words) {
         Ok(request) => run(rt, alloc, request, files, input),
@@ -115,9 +122,12 @@ fn run<R: AllocGlobal + Threads + Sync, A: Allocator + Clone + Send + Sync, F: F
     files: &mut F,
     input: &mut S,
 ) -> Result<Reply<A>, Fault>
-    ensures done { IfOk result (λ r. IsReply (asked request.entry) (F.state files.old) (S.state input.old) (S.state input.new) r.status r.output.items) }
-    ensures refused { IfErr result (IsRefusal (asked request.entry) (F.state files.old) (F.state files.new) (S.state input.old) (S.state input.new)) }
-    ensures at_most { TakesAtMost (S.state input.old).left (S.state input.new).left (input_limit (Some (asked request.entry))) }
+    ensures done { IfOk result (λ r. IsReply (asked request.entry) (F.state files.old)
+        (S.state input.old) (S.state input.new) r.status r.output.items) }
+    ensures refused { IfErr result (IsRefusal (asked request.entry) (F.state files.old) (F.state files.new)
+        (S.state input.old) (S.state input.new)) }
+    ensures at_most { TakesAtMost (S.state input.old).left (S.state input.new).left
+        (input_limit (Some (asked request.entry))) }
 {
     match request {
         Request::Params(Some(name)) => Ok(Reply::text(named_set(alloc, name)?)),

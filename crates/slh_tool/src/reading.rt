@@ -38,7 +38,8 @@ struct Front<A: Allocator> {
 }
 
 impl<A: Allocator> Receiver for Front<A> {
-    ghost has_received = { λ begin front bytes. (front.most ≡ begin.most) × (front.bytes.items ≡ take begin.most bytes) };
+    ghost has_received = { λ begin front bytes. (front.most ≡ begin.most)
+        × (front.bytes.items ≡ take begin.most bytes) };
 
     fn receive(&mut self, piece: &[u8]) -> Result<(), AllocError> {
         let room = self.most - self.bytes.len();
@@ -62,7 +63,8 @@ impl<A: Allocator> Receiver for KeyFront<A> {
 }
 
 impl Receiver for PreHasher {
-    ghost has_received = { λ begin hasher bytes. (function : PreHash) → HasFed begin function [] → HasFed hasher function bytes };
+    ghost has_received = { λ begin hasher bytes. (function : PreHash)
+        → HasFed begin function [] → HasFed hasher function bytes };
 
     fn receive(&mut self, piece: &[u8]) -> Result<(), AllocError> {
         self.update(piece);

@@ -77,8 +77,8 @@ pub(crate) enum Refusal {
     NoMemory,
 }
 
-/// The request of the arguments after the program's name. It is kept out of line, so that the stack holds nothing of the
-/// parser while a command runs.
+/// The request of the arguments after the program's name. It is kept out of line, so that the stack holds nothing of
+/// the parser while a command runs.
 #[inline(never)]
 pub(crate) fn parsed<'a>(alloc: Global, words: &'a [String]) -> Result<Request<'a>, Refusal>
     ensures ok { IfOk result (λ r. Asks (map string_bytes words.entry.now) (asked r)) }

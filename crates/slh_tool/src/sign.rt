@@ -46,7 +46,8 @@ fn sign_with<R: Threads + Sync, A: Allocator + Clone + Send + Sync, F: Files>(
     key: &SecretKey,
 ) -> Result<Vec<u8, A>, Fault>
     ensures done { IfOk result (λ bytes. SignsWith (sign_asked words.entry) (F.state files.old) key.now bytes.items) }
-    ensures refused { IfErr result (RefusesSigning (sign_asked words.entry) key.now.set (F.state files.old) (F.state files.new)) }
+    ensures refused { IfErr result (RefusesSigning (sign_asked words.entry) key.now.set
+        (F.state files.old) (F.state files.new)) }
 {
     let form = form_of(alloc.clone()?, words.form)?;
     let Some(random) = random_of(key.set(), words) else {
@@ -81,8 +82,11 @@ fn signature_of<R: Threads + Sync, A: Allocator + Clone + Send + Sync>(
     requires random { IfSome random.now (λ bytes. length bytes.items ≡ (params key.now.set).n) }
     requires cutting { cutting.now.set ≡ key.now.set }
     ensures short { OnOk result (length form.now.context.items ≤ 255) }
-    ensures done { IfOk result (λ bytes. bytes.items ≡ signature_of key.now (message_in_form (form_with form.now.prehash) form.now.context.items message.now) (option_map (λ r. r.items) random.now)) }
-    ensures refused { IfErr result (λ e. (e ≡ NoMemory) ⊎ ((e ≡ ContextTooLong) × (255 < length form.now.context.items))) }
+    ensures done { IfOk result (λ bytes. bytes.items
+        ≡ signature_of key.now (message_in_form (form_with form.now.prehash) form.now.context.items message.now)
+        (option_map (λ r. r.items) random.now)) }
+    ensures refused { IfErr result (λ e. (e ≡ NoMemory)
+        ⊎ ((e ≡ ContextTooLong) × (255 < length form.now.context.items))) }
 {
     let randomizer = match random {
         Some(bytes) => Randomizer::Given(bytes.as_slice()),
@@ -118,7 +122,8 @@ fn signed<R: Threads + Sync, A: Allocator + Clone + Send + Sync>(
     requires out { length out.old ≡ sig_len (params key.now.set) }
     ensures too_long { (result ≡ Err par.ContextTooLong) ↔ (255 < length form.now.context.items) }
     ensures never_stopped { result ≢ Err par.Stopped }
-    ensures signature { OnOk result (out.new ≡ signature_by key.now (message_in_form (form_with form.now.prehash) form.now.context.items message.now) randomizer.entry) }
+    ensures signature { OnOk result (out.new ≡ signature_by key.now
+        (message_in_form (form_with form.now.prehash) form.now.context.items message.now) randomizer.entry) }
 {
     let context = form.context.as_slice();
     match form.prehash {

@@ -23,7 +23,8 @@ pub(crate) fn verify_file<A: Allocator + Clone, F: Files>(
     words: VerifyWords<'_>,
     files: &mut F,
 ) -> Result<Reply<A>, Fault>
-    ensures done { IfOk result (λ r. VerifiesMessage (verify_asked words.entry) (F.state files.old) r.status r.output.items) }
+    ensures done { IfOk result (λ r. VerifiesMessage (verify_asked words.entry)
+        (F.state files.old) r.status r.output.items) }
     ensures refused { IfErr result (RefusesVerify (verify_asked words.entry) (F.state files.old) (F.state files.new)) }
 {
     let key = public_key(alloc.clone()?, files, words.key)?;
@@ -39,7 +40,8 @@ fn verify_with<A: Allocator + Clone, F: Files>(
     key: &PublicKey,
 ) -> Result<bool, Fault>
     ensures done { IfOk result (JudgesWith (verify_asked words.entry) (F.state files.old) key.now) }
-    ensures refused { IfErr result (RefusesVerifying (verify_asked words.entry) (F.state files.old) (F.state files.new)) }
+    ensures refused { IfErr result (RefusesVerifying (verify_asked words.entry)
+        (F.state files.old) (F.state files.new)) }
 {
     let form = form_of(alloc.clone()?, words.form)?;
     let context = form.context.as_slice();
@@ -95,7 +97,8 @@ fn verify_digest<A: Allocator, F: Files>(
     context: &[u8],
     function: PreHash,
 ) -> Result<bool, Fault>
-    ensures done { IfOk result (JudgesFiles (verify_asked words.entry) (F.state files.old) key.now context.now (Some function)) }
+    ensures done { IfOk result (JudgesFiles (verify_asked words.entry)
+        (F.state files.old) key.now context.now (Some function)) }
     ensures refused { IfErr result (RefusesFiles (verify_asked words.entry) (F.state files.old) (F.state files.new)) }
 {
     let digest = digest_file(files, words.message, function)?;
@@ -111,7 +114,8 @@ fn signature_in<A: Allocator, F: Files>(
     files: &mut F,
     key: &PublicKey,
 ) -> Result<Vec<u8, A>, Fault>
-    ensures done { IfOk result (λ bytes. IsFrontOfFile (F.state files.old) words.entry.signature.now (sig_len (params key.now.set)) bytes.items) }
+    ensures done { IfOk result (λ bytes. IsFrontOfFile (F.state files.old) words.entry.signature.now
+        (sig_len (params key.now.set)) bytes.items) }
     ensures refused { IfErr result (RefusesFile (F.state files.old) (F.state files.new) words.entry.signature.now) }
     ensures kept { OnOk result (F.state files.new ≡ F.state files.old) }
     ensures later { IsLater (F.state files.old) (F.state files.new) }

@@ -39,7 +39,8 @@ impl<'w, T: Sync, Q: Question<T>> Work for Items<'w, T, Q> {
 
     ghost jobs = { λ w. length w.items.now };
 
-    ghost is_right = { λ w i answer. (item : T) → Q.is_answer w.question.now (slice_index_or w.items.now i item) answer };
+    ghost is_right = { λ w i answer. (item : T)
+        → Q.is_answer w.question.now (slice_index_or w.items.now i item) answer };
 
     fn count(&self) -> u32 {
         self.items.len() as u32

@@ -28,7 +28,8 @@ pub fn run_all<R: Threads + Sync, A: Allocator + Clone + Send + Sync, W: Work, G
 ) -> Result<Vec<W::Out, A>, RunFault>
     ensures count { IfOk result (λ outs. vec_len outs ≡ W.jobs work.now) }
     ensures right { IfOk result (λ outs. RightByPlace (W.is_right work.now) outs.items) }
-    ensures reported { IfOk result (λ outs. (job : ℕ) → job < W.jobs work.now → IsReported (G.reported gate.now) 0 workers job) }
+    ensures reported { IfOk result (λ outs. (job : ℕ) → job < W.jobs work.now
+        → IsReported (G.reported gate.now) 0 workers job) }
     ensures stopped { IfErr result (λ fault. fault ≡ Stopped → G.may_stop gate.now) }
 {
     let count = work.count();

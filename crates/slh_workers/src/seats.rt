@@ -28,7 +28,8 @@ pub fn run_seats<R: Threads + Sync, A: Allocator + Clone + Send + Sync, W: Work,
     gate: &G,
 ) -> Worked<W::Out, A>
     requires { IsReady board.now (W.jobs work.now) first seats.items }
-    ensures ran { IfOk result (λ r. RanSeats board.now (G.may_stop gate.now) (G.reported gate.now) (W.is_right work.now) (W.jobs work.now) first (length seats.items) r.0.items r.1.items) }
+    ensures ran { IfOk result (λ r. RanSeats board.now (G.may_stop gate.now) (G.reported gate.now)
+        (W.is_right work.now) (W.jobs work.now) first (length seats.items) r.0.items r.1.items) }
     ensures refused { IfErr result (HasStopped board.now) }
 {
     if seats.len() == 1 {
@@ -39,12 +40,20 @@ pub fn run_seats<R: Threads + Sync, A: Allocator + Clone + Send + Sync, W: Work,
     };
     let next = first + seats.len() as u8;
     let front = move || -> Worked<W::Out, A>
-        requires { IsSync R.row × IsSync W.row × IsSync G.row × IsSync A.row × IsSend A.row × IsSend W.Out.row × Frees A.Allocator A.dealloc_token × IsReady board.now (W.jobs work.now) first seats.items }
-        ensures { IfOk result (λ r. RanSeats board.entry.now (G.may_stop gate.entry.now) (G.reported gate.entry.now) (W.is_right work.entry.now) (W.jobs work.entry.now) first (length seats.items) r.0.items r.1.items) × IfErr result (HasStopped board.entry.now) }
+        requires { IsSync R.row × IsSync W.row × IsSync G.row × IsSync A.row
+            × IsSend A.row × IsSend W.Out.row × Frees A.Allocator A.dealloc_token
+            × IsReady board.now (W.jobs work.now) first seats.items }
+        ensures { IfOk result (λ r. RanSeats board.entry.now (G.may_stop gate.entry.now) (G.reported gate.entry.now)
+            (W.is_right work.entry.now) (W.jobs work.entry.now) first (length seats.items) r.0.items r.1.items)
+            × IfErr result (HasStopped board.entry.now) }
     { run_seats(rt, alloc, board, seats, work, first, gate) };
     let back = move || -> Worked<W::Out, A>
-        requires { IsSync R.row × IsSync W.row × IsSync G.row × IsSync A.row × IsSend A.row × IsSend W.Out.row × Frees A.Allocator A.dealloc_token × IsReady board.now (W.jobs work.now) next others.items }
-        ensures { IfOk result (λ r. RanSeats board.entry.now (G.may_stop gate.entry.now) (G.reported gate.entry.now) (W.is_right work.entry.now) (W.jobs work.entry.now) next (length others.items) r.0.items r.1.items) × IfErr result (HasStopped board.entry.now) }
+        requires { IsSync R.row × IsSync W.row × IsSync G.row × IsSync A.row
+            × IsSend A.row × IsSend W.Out.row × Frees A.Allocator A.dealloc_token
+            × IsReady board.now (W.jobs work.now) next others.items }
+        ensures { IfOk result (λ r. RanSeats board.entry.now (G.may_stop gate.entry.now) (G.reported gate.entry.now)
+            (W.is_right work.entry.now) (W.jobs work.entry.now) next (length others.items) r.0.items r.1.items)
+            × IfErr result (HasStopped board.entry.now) }
     { run_seats(rt, theirs, board, others, work, next, gate) };
     let (back, front) = join(rt, back, front);
     let (mut kept, mut answers) = front?;
@@ -71,7 +80,8 @@ fn run_seat<A: Allocator, W: Work, G: Gate>(
 ) -> Worked<W::Out, A>
     requires ready { IsReady board.now (W.jobs work.now) worker seats.items }
     requires one { length seats.items ≡ 1 }
-    ensures ran { IfOk result (λ r. RanSeats board.now (G.may_stop gate.now) (G.reported gate.now) (W.is_right work.now) (W.jobs work.now) worker 1 r.0.items r.1.items) }
+    ensures ran { IfOk result (λ r. RanSeats board.now (G.may_stop gate.now) (G.reported gate.now)
+        (W.is_right work.now) (W.jobs work.now) worker 1 r.0.items r.1.items) }
     ensures refused { IfErr result (HasStopped board.now) }
 {
     let WorkerEnd { answers, end } = work_off(alloc, board, &mut seats[0], work, worker, gate);

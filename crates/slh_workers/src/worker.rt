@@ -88,7 +88,7 @@ fn work_by_steps<A: Allocator, B: Allocator, S: Steps>(
 {
     let mut answers = Vec::new(alloc);
     loop {
-        // Room for an answer is made before its job is drawn. So a job is drawn only to be run, and an answer is kept.
+        // Room for an answer is made before its job is drawn. So none is drawn that has no room for its answer.
         if answers.reserve(1).is_err() {
             board.stop(seat);
             return WorkerEnd {

@@ -1,8 +1,13 @@
 -- Right answers fit together, and give the standard's signature; what fits together gives a valid one.
-use Rattle.std.proofs.Common.{◌≡◌, length, refl, rules, ◌∙◌}
+use Rattle.std.proofs.Common.{◌≡◌, ℕ, List, ◌++◌, length, refl, ap, sym, subst, rules, ◌∙◌}
 use Rattle.std.specs.Bool.{IsTrue}
 use Rattle.slh_params.specs.ParamSet.{params}
-use Rattle.slh_jobs.specs.Joined.{signature_given, FitTogether}
+use Rattle.slh_subtrees.specs.Assembled.{sig_fors_by, sig_ht_by}
+use Rattle.slh_subtrees.specs.Trees.{TreeSource}
+use Rattle.slh_jobs.specs.Answered.{source_in, answers_in}
+use Rattle.slh_jobs.specs.Jobs.{source, r_in}
+use Rattle.slh_jobs.specs.Joined.{answers_given, signature_given, AreFitting, FitTogether}
+use Rattle.slh_jobs.specs.declared.levels.Levels.{Levels}
 use Rattle.slh_jobs.specs.Tags.{start_len}
 use Rattle.slh_jobs.proofs.Assembled.{answers_fit, signature-right}
 use Rattle.slh_jobs.proofs.Begun.{begun}
@@ -12,7 +17,16 @@ use Rattle.slh_jobs.proofs.joining.sign_join.Goals.{Then-join}
 
 -- what is written
 made : (c : Then-join) → c.join.new.out ≡ signature_given c.args.levels.now c.args.sk.now c.args.start.now c.args.answers.now
-made c = rw (c.in-Some.ensures.levels, c.in-Some.ensures.sk, c.in-Some.ensures.start, c.in-Some.ensures.answers) at (c.if-join.ensures.joined refl)
+made c =
+    let x = c.in-Some.answered in
+    let s : TreeSource = source c.args.levels.now c.args.sk.now c.args.start.now in
+    let Made : TreeSource → Levels → List ℕ → List ℕ → List ℕ = λ t l start bytes.
+    r_in (params t.set) start ++ (sig_fors_by t (answers_given l t bytes) ++ sig_ht_by t (answers_given l t bytes)) in
+    c.if-join.ensures.joined refl
+    ∙ ap (λ (t : TreeSource). Made t x.signing.levels x.signing.start.now x.xmss.bytes.now) c.in-Some.ensures.source
+    ∙ ap (λ (l : Levels). Made s l x.signing.start.now x.xmss.bytes.now) c.in-Some.ensures.levels
+    ∙ ap (λ (start : List ℕ). Made s c.args.levels.now start x.xmss.bytes.now) c.in-Some.ensures.start
+    ∙ ap (λ (bytes : List ℕ). Made s c.args.levels.now c.args.start.now bytes) c.in-Some.ensures.answers
 
 -- the start has its length under the key's set
 start_size : (c : Then-join) → length c.args.start.now ≡ start_len (params c.args.sk.now.set)
@@ -25,12 +39,16 @@ returns-then-join-clause-authentic c = λ msg randomizer is.
     let sk = c.args.sk.now in
     let start = c.args.start.now in
     let bytes = c.args.answers.now in
-    let fit : FitTogether l sk start bytes =
+    let x = c.in-Some.answered in
+    let own : AreFitting l (source_in x) sk start bytes =
     rw (c.in-Some.ensures.levels, c.in-Some.ensures.sk, c.in-Some.ensures.start, c.in-Some.ensures.answers) at (c.join.ensures.fit.0 (search rules)) in
-    let sized : AreSized l sk start bytes = record {
-      fors = rw (c.in-Some.ensures.levels, c.in-Some.ensures.sk, c.in-Some.ensures.start, c.in-Some.ensures.answers) at (c.if-join.ensures.fors_parts refl);
-      layers = rw (c.in-Some.ensures.levels, c.in-Some.ensures.sk, c.in-Some.ensures.start, c.in-Some.ensures.answers) at (c.if-join.ensures.layer_parts refl);
-    } in
+    let fit : FitTogether l sk start bytes = subst (λ (s : TreeSource). AreFitting l s sk start bytes) c.in-Some.ensures.source own in
+    let parts : AreSized (source_in x) (answers_in x) = record { fors = c.if-join.ensures.fors_parts refl; layers = c.if-join.ensures.layer_parts refl } in
+    let Sized : TreeSource → Levels → List ℕ → Type 0 = λ s k bs. AreSized s (answers_given k s bs) in
+    let sized : Sized (source l sk start) l bytes =
+    subst (λ (bs : List ℕ). Sized (source l sk start) l bs) c.in-Some.ensures.answers
+    (subst (λ (k : Levels). Sized (source l sk start) k x.xmss.bytes.now) c.in-Some.ensures.levels
+    (subst (λ (s : TreeSource). Sized s x.signing.levels x.xmss.bytes.now) c.in-Some.ensures.source parts)) in
     joined_valid l sk start bytes msg randomizer c.join.new.out c.requires.set (start_size there) is fit sized (made there) (rw c.requires.set (c.join.auto.out ∙ c.requires.out))
 
 pub returns-then-join-clause-signature : goal.returns-then-join-clause-signature
@@ -45,7 +63,12 @@ returns-then-join-clause-message c = λ msg randomizer is are.
 
 pub returns-else-join-clause-right : goal.returns-else-join-clause-right
 returns-else-join-clause-right c = λ gen tagged are len.
+    let l = c.args.levels.now in
+    let sk = c.args.sk.now in
+    let start = c.args.start.now in
+    let bytes = c.args.answers.now in
+    let fit : AreFitting l (source_in c.in-Some.answered) sk start bytes =
+    subst (λ (s : TreeSource). AreFitting l s sk start bytes) (sym c.in-Some.ensures.source) (answers_fit l sk start bytes c.requires.set gen are) in
     let fits : IsTrue c.join.result =
-    c.join.ensures.fit.1 (rw (c.in-Some.ensures.levels, c.in-Some.ensures.sk, c.in-Some.ensures.start, c.in-Some.ensures.answers)
-    (answers_fit c.args.levels.now c.args.sk.now c.args.start.now c.args.answers.now c.requires.set gen are)) in
+    c.join.ensures.fit.1 (rw (c.in-Some.ensures.levels, c.in-Some.ensures.sk, c.in-Some.ensures.start, c.in-Some.ensures.answers) fit) in
     search rules

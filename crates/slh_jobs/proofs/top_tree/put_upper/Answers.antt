@@ -10,8 +10,11 @@ use Rattle.slh_tree.proofs.Authentic.{node_width}
 use Rattle.slh_tree.proofs.OneCover.{only_cover}
 use Rattle.slh_jobs.specs.Ranges.{node_given, top_given}
 use Rattle.slh_jobs.specs.Tops.{top-lawful}
-use Rattle.slh_jobs.proofs.Blocks.{length-block, path-block}
+use Rattle.slh_subtrees.proofs.PathLaw.{Knows, length-known, path-known}
+use Rattle.slh_jobs.proofs.Blocks.{gained-knows}
+use Rattle.slh_jobs.proofs.top_tree.put_upper.Given.{Over}
 use Rattle.slh_jobs.proofs.top_tree.put_upper.Goals as goal
+use Rattle.slh_jobs.proofs.top_tree.put_upper.Goals.{After-hash_range-cover}
 
 -- a range is one of the whole tree's
 whole : (v z : ℕ) → v < 2 ^ z → v / 2 ^ z ≡ 0
@@ -26,22 +29,27 @@ to_past v z hi lt e = let one : 2 ^ z ≡ (0 + 1) * 2 ^ z = omega arith in e ∙
 bytes_at : (q : Placed) (bytes : List ℕ) (xs : List Placed) (d : Placed) → xs ≡ q ∷ [] → q.node.items ≡ bytes → (get_or xs 0 d).node.items ≡ bytes
 bytes_at q bytes xs d one is = ap (λ (ys : List Placed). (get_or ys 0 d).node.items) one ∙ is
 
+-- the record knows the path of the range
+knows : (g : Over) (c : After-hash_range-cover g) → Knows (top_given (g.T.Tree.tree c.args.tree.now) c.args.given.now.shape c.args.given.now.bytes.now c.args.first) c.args.range c.args.given.now.shape.levels c.hash_range-cover.new.rec
+knows g c =
+    let s = c.args.given.now.shape in
+    gained-knows (top_given (g.T.Tree.tree c.args.tree.now) s c.args.given.now.bytes.now c.args.first) c.args.range s.levels 0 _ _ _
+    (from_first c.args.range s.levels c.requires.range) (to_past c.args.range s.levels _ c.requires.range (search rules)) (omega arith)
+    c.for_leaf-rec.ensures.height c.for_leaf-rec.ensures.leaf c.hash_range-cover.ensures.gained
+
 pub put_path-requires-clause-nodes : goal.put_path-requires-clause-nodes
 put_path-requires-clause-nodes g c = λ j lt.
     let s = c.args.given.now.shape in
     let tree = g.T.Tree.tree c.args.tree.now in
     let top : MerkleTree = top_given tree s c.args.given.now.bytes.now c.args.first in
     let law : Lawful top = top-lawful tree (g.met.T.Tree.lawful c.args.tree.now) s c.args.given.now.bytes.now c.args.first c.requires.n in
-    length-block top law c.args.range s.levels 0 _ _ _ (from_first c.args.range s.levels c.requires.range) (to_past c.args.range s.levels _ c.requires.range (search rules)) (omega arith)
-    c.for_leaf-rec.ensures.height c.for_leaf-rec.ensures.leaf c.hash_range-cover.ensures.gained j lt
+    length-known top law c.args.range s.levels c.hash_range-cover.new.rec (knows g (goal.at.put_path-requires-clause-nodes g c).After-hash_range-cover) j lt
 
 pub returns-else-levels-eq0-clause-path : goal.returns-else-levels-eq0-clause-path
 returns-else-levels-eq0-clause-path g c =
     let s = c.args.given.now.shape in
     let top : MerkleTree = top_given (g.T.Tree.tree c.args.tree.now) s c.args.given.now.bytes.now c.args.first in
-    c.put_path.ensures
-    ∙ path-block top c.args.range s.levels 0 _ _ _ (from_first c.args.range s.levels c.requires.range) (to_past c.args.range s.levels _ c.requires.range (search rules)) (omega arith)
-    c.for_leaf-rec.ensures.height c.for_leaf-rec.ensures.leaf c.hash_range-cover.ensures.gained
+    c.put_path.ensures ∙ path-known top c.args.range s.levels c.hash_range-cover.new.rec (knows g (goal.at.returns-else-levels-eq0-clause-path g c).After-hash_range-cover)
 
 pub returns-else-levels-eq0-clause-root : goal.returns-else-levels-eq0-clause-root
 returns-else-levels-eq0-clause-root g c =

@@ -10,7 +10,7 @@ use Rattle.slh_subtrees.proofs.Hashed.{hashed_range}
 use Rattle.slh_subtrees.proofs.signing_trees.SigningTrees.hashed_keeping.Goals as goal
 
 pub returns-clause-hashed : goal.returns-clause-hashed
-returns-clause-hashed g c =
+returns-clause-hashed c =
     let t = c.args.self.now in
     let p = params t.seeds.set in
     let sk = t.seeds.sk_seed.now in

@@ -1,8 +1,0 @@
-use Rattle.std.proofs.Common.{sym}
-use Rattle.slh_cutting.proofs.Numbered.{length-signing_jobs}
-use Rattle.slh_cutting.proofs.jobs.sign_jobs.Goals as goal
-
-pub returns-clause-jobs : goal.returns-clause-jobs
-returns-clause-jobs c =
-    rw (c.times.ensures.product, c.times-2.ensures.product, c.d.ensures, c.k.ensures, c.set-set.ensures, c.xmss_ranges.ensures.count, c.fors_ranges.ensures.count)
-    (sym (length-signing_jobs c.args.cutting.now))

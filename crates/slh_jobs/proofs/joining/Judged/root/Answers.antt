@@ -1,0 +1,30 @@
+-- Above the top layer stands PK.root, and else the root is what the next layer signs, at its place.
+use Rattle.std.proofs.Common.{◌≡◌, ℕ, ◌+◌, ◌-◌, ◌*◌, ◌<◌, List, length, ap, ◌∙◌, add-one, arith}
+use Rattle.slh_few.specs.Parts.{part}
+use Rattle.slh_few.proofs.Ends.{part-end_to_end, part_fits}
+use Rattle.slh_subtrees.specs.Assembled.{signed_by}
+use Rattle.slh_jobs.specs.Answered.{params_in, source_in, answers_in}
+use Rattle.slh_jobs.proofs.Signed.{length-signed}
+use Rattle.slh_jobs.proofs.joining.Judged.root.Goals as goal
+
+pub slice_bounds-node_of-end : goal.slice_bounds-node_of-end
+slice_bounds-node_of-end c =
+    let x = c.args.self.now in
+    let p = params_in x.answered.now in
+    let below : c.args.layer + 1 < p.d = omega arith in
+    rw c.n-n.ensures (part_fits (c.args.layer + 1) p.d p.n (length x.signed.now) below x.signed_len)
+
+pub returns-then-above-d-clause-value : goal.returns-then-above-d-clause-value
+returns-then-above-d-clause-value c =
+    let x = c.args.self.now in
+    let p = params_in x.answered.now in
+    let signed : ℕ → List ℕ = signed_by (source_in x.answered.now) (answers_in x.answered.now) in
+    let l : ℕ = c.args.layer + 1 in
+    let below : l < p.d = omega arith in
+    let own : ℕ = l * c.n-n.result in
+    let size : own + c.n-n.result - own ≡ p.n = omega (arith, c.n-n.ensures) in
+    let at : own ≡ l * p.n = ap (λ (n : ℕ). l * n) c.n-n.ensures in
+    let read : c.node_of.result.items ≡ part p.n x.signed.now l = rw (size, at) at c.node_of.ensures in
+    read ∙ ap (λ (xs : List ℕ). part p.n xs l) x.signed_is
+    ∙ part-end_to_end signed p.n p.d l below (λ j lt. length-signed x.answered.now.signing.levels (source_in x.answered.now) x.answered.now.xmss.bytes.now x.answered.now.signing.tree_set j)
+    ∙ ap signed (add-one c.args.layer)

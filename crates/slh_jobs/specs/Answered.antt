@@ -1,0 +1,18 @@
+-- What an `Answered` stands for: ours.
+use Rattle.slh_params.specs.Params.{Params}
+use Rattle.slh_params.specs.ParamSet.{params}
+use Rattle.slh_subtrees.specs.Assembled.{TreeAnswers}
+use Rattle.slh_subtrees.specs.SigningTrees.{source_of}
+use Rattle.slh_subtrees.specs.Trees.{TreeSource}
+use Rattle.slh_jobs.specs.Joined.{answers_given}
+use Rattle.slh_jobs.specs.declared.answered.Answered.{Answered}
+
+-- the parameters, what its trees are made from, and what its answers say of them
+abbrev pub params_in : Answered → Params
+params_in x = params x.signing.trees.seeds.set
+
+abbrev pub source_in : Answered → TreeSource
+source_in x = source_of x.signing.trees
+
+abbrev pub answers_in : Answered → TreeAnswers
+answers_in x = answers_given x.signing.levels (source_in x) x.xmss.bytes.now

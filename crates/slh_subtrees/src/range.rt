@@ -1,0 +1,39 @@
+//! A job: a range of leaves of one tree.
+ghost use Rattle.std.specs.Prelude.{◌≡◌, ◌≤◌};
+ghost use Rattle.slh_params.specs.ParamSet.{params};
+ghost use Rattle.slh_subtrees.specs.Jobs.{height_of};
+
+use slh_params::ParamSet;
+
+/// One of the trees of a signature.
+#[derive(Clone, Copy, PartialEq, Eq, Debug)]
+pub enum JobTree {
+    /// The XMSS tree of this layer, 0 at the bottom.
+    Xmss(u8),
+    /// The FORS tree of this number, counted from 0.
+    Fors(u32),
+}
+
+impl JobTree {
+    /// The height of the tree: h' or a.
+    pub fn height(self, set: ParamSet) -> u32
+        ensures value { result ≡ height_of (params set) self }
+        ensures low { result ≤ 14 }
+    {
+        match self {
+            JobTree::Xmss(_) => set.hp(),
+            JobTree::Fors(_) => set.a(),
+        }
+    }
+}
+
+/// The leaves from `lo` to `hi`, `hi` left out, of one tree: what one job computes.
+#[derive(Clone, Copy, PartialEq, Eq, Debug)]
+pub struct JobRange {
+    /// The tree.
+    pub tree: JobTree,
+    /// The first leaf.
+    pub lo: u32,
+    /// The leaf after the last one.
+    pub hi: u32,
+}
