@@ -2,7 +2,7 @@
 """Writes docs/CONTRACTS.md from the sources: for each file of each crate the calls that other crates have, the names of
 the clauses of their contracts, and the wrong bodies that the prover has to refuse, as edits in must-fail/ (tried by `rt ci`) and
 wrong/ (tried by tools/wrong_bodies.py). A private function is listed where an edit turns it. It also looks whether the
-code on docs/CALLING.md is that of crates/slh_letter and crates/slh_examples, and its lines of crates.txt.
+code on docs/CALLING.md is that of crates/slh_hello and crates/slh_examples, and its lines of crates.txt.
 
 Usage: tools/contracts.py           writes the page
        tools/contracts.py --check   fails where the page or the code is not what the sources say
@@ -143,9 +143,9 @@ def crates():
 
 
 def strange_code():
-    """Of docs/CALLING.md the first lines of code that stands in no file of slh_letter and slh_examples, and the lines
+    """Of docs/CALLING.md the first lines of code that stands in no file of slh_hello and slh_examples, and the lines
     of crates.txt that are not there."""
-    files = [read(crate, path) for crate in ("slh_letter", "slh_examples") for path in sources(crate)]
+    files = [read(crate, path) for crate in ("slh_hello", "slh_examples") for path in sources(crate)]
     with open(os.path.join(ROOT, "crates.txt")) as list_of_crates, open(CALLING) as page:
         known, text = list_of_crates.read().split("\n"), page.read()
     pieces = re.findall(r"^```rust\n(.*?)^```$", text, re.M | re.S)
@@ -165,7 +165,7 @@ def main():
                 sys.exit("docs/CONTRACTS.md is not what the sources say: run tools/contracts.py")
     strange = strange_code()
     if strange:
-        sys.exit("docs/CALLING.md has what no file of slh_letter or slh_examples and no line of crates.txt has: "
+        sys.exit("docs/CALLING.md has what no file of slh_hello or slh_examples and no line of crates.txt has: "
                  + "; ".join(strange))
 
 

@@ -187,7 +187,7 @@ faults_of_installation_have_status_2() {
 
 # A change of a test is no change of the sources.
 tests_are_no_sources() {
-    copy_anew && echo '// changed' >>"$copy/crates/slh_par_tests/src/lib.rt" &&
+    copy_anew && echo '// changed' >>"$copy/crates/slh_tests/src/lib.rt" &&
         bare ./slh params && [ ! -s "$work/err" ]
 }
 

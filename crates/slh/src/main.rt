@@ -1,7 +1,7 @@
 //! The program `slh`: keys and signatures of SLH-DSA (FIPS 205) with SHA-2.
 #![tactic(auto)]
 
-use slh_devices::{Disk, Reader, Writer};
+use slh_io::{Disk, Reader, Writer};
 use slh_tool::{Fault, command, refuse};
 use std::fs::File;
 use std::io::{Read, Stderr, Stdin, Stdout};

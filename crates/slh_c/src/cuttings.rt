@@ -28,11 +28,6 @@ pub fn cut_of(set: u32, xmss: u32, fors: u32) -> Result<Levels, Refusal>
     ensures set { IfOk result (λ levels. set_numbered set ≡ Some levels.set) }
     ensures levels { IfOk result (λ levels. levels_of levels.set xmss fors ≡ Some levels) }
 {
-    let Some(set) = set_of(set) else {
-        return Err(Refusal::NoSuchSet);
-    };
-    let Some(levels) = levels_of(set, xmss, fors) else {
-        return Err(Refusal::BadCutting);
-    };
-    Ok(levels)
+    let set = set_of(set)?;
+    levels_of(set, xmss, fors).ok_or(Refusal::BadCutting)
 }

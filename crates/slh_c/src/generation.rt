@@ -12,7 +12,7 @@ ghost use Rattle.slh_c.specs.Rules.{first_refusal, keygen_jobs_rules, keygen_job
 ghost use Rattle.slh_c.specs.declared.refusal.Refusal.TheVariants.{AnswersDisagree};
 
 use crate::cuttings::cut_of;
-use crate::refusal::{DONE, Refusal};
+use crate::refusal::{DONE, Refusal, or_refuse};
 use crate::rules::{self, judge};
 use slh_jobs::{Levels, key_answer_len, keygen_job, keygen_jobs, keygen_join};
 
@@ -31,10 +31,7 @@ pub extern "C" fn slh_keygen_jobs(
         (jobs.new ≡ key_jobs c) × (answer.new ≡ 2 * (params c.set).n)) }
     ensures refused { result ≢ DONE → (jobs.new ≡ jobs.old) × (answer.new ≡ answer.old) }
 {
-    let levels = match cut_of(set, xmss_levels, 0) {
-        Ok(levels) => levels,
-        Err(refusal) => return refusal.number(),
-    };
+    let levels = or_refuse!(cut_of(set, xmss_levels, 0));
     *jobs = keygen_jobs(&levels);
     *answer = key_answer_len(levels.set);
     DONE
@@ -59,21 +56,16 @@ pub extern "C" fn slh_keygen_job(
         answer.new ≡ key_answer c sk_seed.now sk_prf.now pk_seed.now job) }
     ensures refused { result ≢ DONE → answer.new ≡ answer.old }
 {
-    let levels = match cut_of(set, xmss_levels, 0) {
-        Ok(levels) => levels,
-        Err(refusal) => return refusal.number(),
-    };
+    let levels = or_refuse!(cut_of(set, xmss_levels, 0));
     if job >= keygen_jobs(&levels) {
         return Refusal::NoSuchJob.number();
     }
-    if let Err(refusal) = judge(&[
+    or_refuse!(judge(&[
         rules::seed(levels.set, sk_seed),
         rules::seed(levels.set, sk_prf),
         rules::seed(levels.set, pk_seed),
         rules::output(key_answer_len(levels.set), answer),
-    ]) {
-        return refusal.number();
-    }
+    ]));
     keygen_job(&levels, sk_seed, sk_prf, pk_seed, job, answer);
     DONE
 }
@@ -150,10 +142,7 @@ pub extern "C" fn slh_keygen_join(
         AreKeyAnswers c sk_seed.now sk_prf.now pk_seed.now answers.now → IsGeneratedKey (key c.set sk.new)) }
     ensures refused { result ≢ DONE → sk.new ≡ sk.old }
 {
-    let levels = match join_levels(set, xmss_levels, sk_seed, sk_prf, pk_seed, answers, sk) {
-        Ok(levels) => levels,
-        Err(refusal) => return refusal.number(),
-    };
+    let levels = or_refuse!(join_levels(set, xmss_levels, sk_seed, sk_prf, pk_seed, answers, sk));
     match keygen_join(&levels, sk_seed, sk_prf, pk_seed, answers) {
         Ok(key) => {
             sk.copy_from_slice(key.bytes());

@@ -7,11 +7,12 @@ ghost use Rattle.slh_c.specs.Keys.{key, signature_by};
 ghost use Rattle.slh_c.specs.Numbers.{InSet};
 ghost use Rattle.slh_c.specs.Rules.{first_refusal, sign_internal_rules, verify_rules};
 
+use crate::keys::public_key;
 use crate::numbers::set_of;
 use crate::randomizer::signer_of;
-use crate::refusal::{DONE, INVALID, Refusal};
+use crate::refusal::{DONE, INVALID, or_refuse};
 use crate::rules::{self, judge};
-use slh_core::{PublicKey, sign_internal, verify_internal};
+use slh_core::{sign_internal, verify_internal};
 
 /// Signs M' as it is (FIPS 205, Algorithm 19). The lengths are those of `slh_sign`. Refused, with nothing written,
 /// by `sign_internal_rules`: a number that is not a set's, a key, randomizer or output of another length.
@@ -31,16 +32,12 @@ pub extern "C" fn slh_sign_internal(
         IsGeneratedKey (key s sk.now)
         → IsValid (public_of (key s sk.now)) msg.now sig.new) }
 {
-    let Some(set) = set_of(set) else {
-        return Refusal::NoSuchSet.number();
-    };
-    if let Err(refusal) = judge(&[
+    let set = or_refuse!(set_of(set));
+    or_refuse!(judge(&[
         rules::secret(set, sk),
         rules::randomizer(set, randomizer),
         rules::output(set.sig_len(), sig),
-    ]) {
-        return refusal.number();
-    }
+    ]));
     let (sk, randomizer) = signer_of(set, sk, randomizer);
     sign_internal(&[msg], &sk, randomizer, sig);
     DONE
@@ -56,12 +53,8 @@ pub extern "C" fn slh_verify_internal(set: u32, pk: &[u8], msg: &[u8], sig: &[u8
         → result ≡ first_refusal (verify_rules set pk.now) }
     ensures judged { first_refusal (verify_rules set pk.now) ≡ DONE → result ≢ DONE → result ≡ INVALID }
 {
-    let Some(set) = set_of(set) else {
-        return Refusal::NoSuchSet.number();
-    };
-    let Ok(pk) = PublicKey::from_bytes(set, pk) else {
-        return Refusal::BadLength.number();
-    };
+    let set = or_refuse!(set_of(set));
+    let pk = or_refuse!(public_key(set, pk));
     if verify_internal(&[msg], sig, &pk) {
         DONE
     } else {

@@ -16,7 +16,7 @@ ghost use Rattle.slh_c.specs.declared.refusal.Refusal.TheVariants.{BadStart};
 use crate::cuttings::cut_of;
 use crate::numbers::{function_of, set_of};
 use crate::randomizer::signer_of;
-use crate::refusal::{DONE, Refusal};
+use crate::refusal::{DONE, Refusal, or_refuse};
 use crate::rules::{self, judge};
 use slh_core::{Form, SecretKey};
 use slh_jobs::{
@@ -40,10 +40,7 @@ pub extern "C" fn slh_sign_jobs(
         × (start.new ≡ start_len (params c.set)) × (answers.new ≡ answers_len c)) }
     ensures refused { result ≢ DONE → (count.new ≡ count.old) × (start.new ≡ start.old) × (answers.new ≡ answers.old) }
 {
-    let levels = match cut_of(set, xmss_levels, fors_levels) {
-        Ok(levels) => levels,
-        Err(refusal) => return refusal.number(),
-    };
+    let levels = or_refuse!(cut_of(set, xmss_levels, fors_levels));
     *count = sign_jobs(&levels);
     *start = start_len(levels.set);
     *answers = answers_len(&levels);
@@ -66,10 +63,7 @@ pub extern "C" fn slh_answer_place(
         (at.new ≡ start_of c job) × (len.new ≡ len_of c job)) }
     ensures refused { result ≢ DONE → (at.new ≡ at.old) × (len.new ≡ len.old) }
 {
-    let levels = match cut_of(set, xmss_levels, fors_levels) {
-        Ok(levels) => levels,
-        Err(refusal) => return refusal.number(),
-    };
+    let levels = or_refuse!(cut_of(set, xmss_levels, fors_levels));
     if job >= sign_jobs(&levels) {
         return Refusal::NoSuchJob.number();
     }
@@ -96,17 +90,13 @@ pub extern "C" fn slh_sign_start(
     ensures tagged { result ≡ DONE → InSet set (λ s. IsStart (key s sk.now) start.new) }
     ensures refused { result ≢ DONE → start.new ≡ start.old }
 {
-    let Some(set) = set_of(set) else {
-        return Refusal::NoSuchSet.number();
-    };
-    if let Err(refusal) = judge(&[
+    let set = or_refuse!(set_of(set));
+    or_refuse!(judge(&[
         rules::secret(set, sk),
         rules::randomizer(set, randomizer),
         rules::output(start_len(set), start),
         rules::context(ctx),
-    ]) {
-        return refusal.number();
-    }
+    ]));
     let (sk, randomizer) = signer_of(set, sk, randomizer);
     match sign_start(Form::Pure, msg, ctx, &sk, randomizer, start) {
         Ok(()) => DONE,
@@ -134,20 +124,14 @@ pub extern "C" fn slh_hash_sign_start(
     ensures tagged { result ≡ DONE → InSet set (λ s. IsStart (key s sk.now) start.new) }
     ensures refused { result ≢ DONE → start.new ≡ start.old }
 {
-    let Some(set) = set_of(set) else {
-        return Refusal::NoSuchSet.number();
-    };
-    let Some(function) = function_of(function) else {
-        return Refusal::NoSuchFunction.number();
-    };
-    if let Err(refusal) = judge(&[
+    let set = or_refuse!(set_of(set));
+    let function = or_refuse!(function_of(function));
+    or_refuse!(judge(&[
         rules::secret(set, sk),
         rules::randomizer(set, randomizer),
         rules::output(start_len(set), start),
         rules::context(ctx),
-    ]) {
-        return refusal.number();
-    }
+    ]));
     let (sk, randomizer) = signer_of(set, sk, randomizer);
     match sign_start(Form::PreHash(function), msg, ctx, &sk, randomizer, start) {
         Ok(()) => DONE,
@@ -216,10 +200,15 @@ pub extern "C" fn slh_sign_job(
         answer.new ≡ answer_of c (key c.set sk.now) start.now job) }
     ensures refused { result ≢ DONE → answer.new ≡ answer.old }
 {
-    let (levels, sk) = match job_arguments(set, xmss_levels, fors_levels, sk, start, job, answer) {
-        Ok(arguments) => arguments,
-        Err(refusal) => return refusal.number(),
-    };
+    let (levels, sk) = or_refuse!(job_arguments(
+        set,
+        xmss_levels,
+        fors_levels,
+        sk,
+        start,
+        job,
+        answer
+    ));
     match sign_job(&levels, &sk, start, job, answer) {
         Ok(()) => DONE,
         Err(_) => Refusal::BadStart.number(),

@@ -16,7 +16,7 @@ ghost use Rattle.slh_c.specs.Rules.{first_refusal, sign_join_rules};
 ghost use Rattle.slh_c.specs.declared.refusal.Refusal.TheVariants.{AnswersDisagree, BadStart};
 
 use crate::cuttings::cut_of;
-use crate::refusal::{DONE, Refusal};
+use crate::refusal::{DONE, Refusal, or_refuse};
 use crate::rules::{self, judge};
 use slh_core::SecretKey;
 use slh_jobs::{JobFault, Levels, answers_len, sign_join};
@@ -97,7 +97,7 @@ pub extern "C" fn slh_sign_join(
         → sig.new ≡ signature_by (key c.set sk.now) msg randomizer) }
     ensures refused { result ≢ DONE → sig.new ≡ sig.old }
 {
-    let (levels, sk) = match join_arguments(
+    let (levels, sk) = or_refuse!(join_arguments(
         set,
         xmss_levels,
         fors_levels,
@@ -105,10 +105,7 @@ pub extern "C" fn slh_sign_join(
         start,
         answers,
         sig,
-    ) {
-        Ok(arguments) => arguments,
-        Err(refusal) => return refusal.number(),
-    };
+    ));
     match sign_join(&levels, &sk, start, answers, sig) {
         Ok(()) => DONE,
         Err(JobFault::BadAnswersLength) => Refusal::BadAnswersLength.number(),

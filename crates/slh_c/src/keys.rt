@@ -1,15 +1,41 @@
-ghost use Rattle.std.specs.Prelude.{◌≡◌, ◌≢◌, ◌↔◌, ◌≤◌, length};
+ghost use Rattle.std.specs.Prelude.{◌≡◌, ◌≢◌, ◌↔◌, ◌≤◌, IsOk, IfOk, IfErr, length};
 ghost use Rattle.slh_params.specs.Params.{pk_len, sk_len, sig_len};
 ghost use Rattle.slh_params.specs.ParamSet.{params};
 ghost use Rattle.slh_core.specs.Keys.{public_of, generated_key, IsGeneratedKey};
 ghost use Rattle.slh_c.specs.Keys.{key};
 ghost use Rattle.slh_c.specs.Numbers.{InSet};
 ghost use Rattle.slh_c.specs.Rules.{first_refusal, lengths_rules, keygen_rules, public_rules, check_rules};
+ghost use Rattle.slh_c.specs.declared.refusal.Refusal.TheVariants.{BadLength};
 
 use crate::numbers::set_of;
-use crate::refusal::{DONE, INVALID, Refusal};
+use crate::refusal::{DONE, INVALID, Refusal, or_refuse};
 use crate::rules::{self, judge};
-use slh_core::{SecretKey, check_pair, keygen_internal};
+use slh_core::{PublicKey, SecretKey, check_pair, keygen_internal};
+use slh_params::ParamSet;
+
+/// The public key of these bytes. Refused where they are not 2n.
+pub fn public_key(set: ParamSet, pk: &[u8]) -> Result<PublicKey, Refusal>
+    ensures accepted { IsOk result ↔ (length pk.now ≡ pk_len (params set)) }
+    ensures key { IfOk result (λ it. it ≡ key set pk.now) }
+    ensures refused { IfErr result (λ refusal. refusal ≡ BadLength) }
+{
+    match PublicKey::from_bytes(set, pk) {
+        Ok(pk) => Ok(pk),
+        Err(_) => Err(Refusal::BadLength),
+    }
+}
+
+/// The secret key of these bytes. Refused where they are not 4n.
+pub fn secret_key(set: ParamSet, sk: &[u8]) -> Result<SecretKey, Refusal>
+    ensures accepted { IsOk result ↔ (length sk.now ≡ sk_len (params set)) }
+    ensures key { IfOk result (λ it. it ≡ key set sk.now) }
+    ensures refused { IfErr result (λ refusal. refusal ≡ BadLength) }
+{
+    match SecretKey::from_bytes(set, sk) {
+        Ok(sk) => Ok(sk),
+        Err(_) => Err(Refusal::BadLength),
+    }
+}
 
 /// Writes the lengths of a set's public keys, secret keys and signatures in bytes, and n. Refused, with nothing
 /// written, by `lengths_rules`: where the number is not a set's.
@@ -27,9 +53,7 @@ pub extern "C" fn slh_lengths(
     ensures refused { result ≢ DONE → (public.new ≡ public.old) × (secret.new ≡ secret.old)
         × (signature.new ≡ signature.old) × (n.new ≡ n.old) }
 {
-    let Some(set) = set_of(set) else {
-        return Refusal::NoSuchSet.number();
-    };
+    let set = or_refuse!(set_of(set));
     *public = set.pk_len();
     *secret = set.sk_len();
     *signature = set.sig_len();
@@ -53,17 +77,13 @@ pub extern "C" fn slh_keygen(
     ensures generated { result ≡ DONE → InSet set (λ s. IsGeneratedKey (key s sk.new)) }
     ensures refused { result ≢ DONE → sk.new ≡ sk.old }
 {
-    let Some(set) = set_of(set) else {
-        return Refusal::NoSuchSet.number();
-    };
-    if let Err(refusal) = judge(&[
+    let set = or_refuse!(set_of(set));
+    or_refuse!(judge(&[
         rules::seed(set, sk_seed),
         rules::seed(set, sk_prf),
         rules::seed(set, pk_seed),
         rules::output(set.sk_len(), sk),
-    ]) {
-        return refusal.number();
-    }
+    ]));
     sk.copy_from_slice(keygen_internal(set, sk_seed, sk_prf, pk_seed).bytes());
     DONE
 }
@@ -76,12 +96,8 @@ pub extern "C" fn slh_public(set: u32, sk: &[u8], pk: &mut [u8]) -> u32
     ensures key { result ≡ DONE → InSet set (λ s. key s pk.new ≡ public_of (key s sk.now)) }
     ensures refused { result ≢ DONE → pk.new ≡ pk.old }
 {
-    let Some(set) = set_of(set) else {
-        return Refusal::NoSuchSet.number();
-    };
-    let Ok(sk) = SecretKey::from_bytes(set, sk) else {
-        return Refusal::BadLength.number();
-    };
+    let set = or_refuse!(set_of(set));
+    let sk = or_refuse!(secret_key(set, sk));
     if pk.len() != set.pk_len() {
         return Refusal::BadOutputLength.number();
     }
@@ -99,11 +115,7 @@ pub extern "C" fn slh_check(set: u32, sk: &[u8]) -> u32
         → result ≡ first_refusal (check_rules set sk.now) }
     ensures judged { first_refusal (check_rules set sk.now) ≡ DONE → result ≢ DONE → result ≡ INVALID }
 {
-    let Some(set) = set_of(set) else {
-        return Refusal::NoSuchSet.number();
-    };
-    let Ok(sk) = SecretKey::from_bytes(set, sk) else {
-        return Refusal::BadLength.number();
-    };
+    let set = or_refuse!(set_of(set));
+    let sk = or_refuse!(secret_key(set, sk));
     if check_pair(&sk) { DONE } else { INVALID }
 }

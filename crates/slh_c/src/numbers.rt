@@ -1,6 +1,8 @@
-ghost use Rattle.std.specs.Prelude.{◌≡◌};
+ghost use Rattle.std.specs.Prelude.{◌≡◌, None, Some, IfOk, IfErr};
 ghost use Rattle.slh_c.specs.Numbers.{at_place, set_numbered, function_numbered};
+ghost use Rattle.slh_c.specs.declared.refusal.Refusal.TheVariants.{NoSuchFunction, NoSuchSet};
 
+use crate::refusal::Refusal;
 use slh_core::PreHash;
 use slh_params::ParamSet;
 
@@ -14,20 +16,22 @@ const FUNCTIONS: [PreHash; 6] = [
     PreHash::Sha512_256,
 ];
 
-/// The parameter set of a number. `None` where it is not a set's.
+/// The parameter set of a number. Refused where it is not a set's.
 #[tactic(auto, unfolding(crate::specs::Numbers::set_numbered))]
-pub fn set_of(number: u32) -> Option<ParamSet>
-    ensures { result ≡ set_numbered number }
+pub fn set_of(number: u32) -> Result<ParamSet, Refusal>
+    ensures set { IfOk result (λ set. set_numbered number ≡ Some set) }
+    ensures refused { IfErr result (λ refusal. (refusal ≡ NoSuchSet) × (set_numbered number ≡ None)) }
 {
-    at_place(&ParamSet::all(), number)
+    at_place(&ParamSet::all(), number).ok_or(Refusal::NoSuchSet)
 }
 
-/// The pre-hash function of a number. `None` where it is not a function's.
+/// The pre-hash function of a number. Refused where it is not a function's.
 #[tactic(auto, unfolding(crate::specs::Numbers::function_numbered))]
-pub fn function_of(number: u32) -> Option<PreHash>
-    ensures { result ≡ function_numbered number }
+pub fn function_of(number: u32) -> Result<PreHash, Refusal>
+    ensures function { IfOk result (λ function. function_numbered number ≡ Some function) }
+    ensures refused { IfErr result (λ refusal. (refusal ≡ NoSuchFunction) × (function_numbered number ≡ None)) }
 {
-    at_place(&FUNCTIONS, number)
+    at_place(&FUNCTIONS, number).ok_or(Refusal::NoSuchFunction)
 }
 
 /// The item at a place of a list, counted from 1.

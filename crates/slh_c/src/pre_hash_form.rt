@@ -9,13 +9,12 @@ ghost use Rattle.slh_c.specs.Keys.{key, signature_by};
 ghost use Rattle.slh_c.specs.Numbers.{InSet, WithFunction};
 ghost use Rattle.slh_c.specs.Rules.{first_refusal, hash_sign_rules, hash_sign_digest_rules, hash_verify_rules, hash_verify_digest_rules};
 
+use crate::keys::public_key;
 use crate::numbers::{function_of, set_of};
 use crate::randomizer::signer_of;
-use crate::refusal::{DONE, INVALID, Refusal};
+use crate::refusal::{DONE, INVALID, Refusal, or_refuse};
 use crate::rules::{self, judge};
-use slh_core::{
-    MessageDigest, PublicKey, hash_sign, hash_sign_digest, hash_verify, hash_verify_digest,
-};
+use slh_core::{MessageDigest, hash_sign, hash_sign_digest, hash_verify, hash_verify_digest};
 
 /// Signs a message by its digest under a pre-hash function, and under a context (FIPS 205, Algorithm 23). The lengths
 /// are those of `slh_sign`. Refused, with nothing written, by `hash_sign_rules`: as `slh_sign` is, and for a number
@@ -38,20 +37,14 @@ pub extern "C" fn slh_hash_sign(
         IsGeneratedKey (key s sk.now)
         → IsValid (public_of (key s sk.now)) (pre_hash_message ctx.now f (PH f msg.now)) sig.new)) }
 {
-    let Some(set) = set_of(set) else {
-        return Refusal::NoSuchSet.number();
-    };
-    let Some(function) = function_of(function) else {
-        return Refusal::NoSuchFunction.number();
-    };
-    if let Err(refusal) = judge(&[
+    let set = or_refuse!(set_of(set));
+    let function = or_refuse!(function_of(function));
+    or_refuse!(judge(&[
         rules::secret(set, sk),
         rules::randomizer(set, randomizer),
         rules::output(set.sig_len(), sig),
         rules::context(ctx),
-    ]) {
-        return refusal.number();
-    }
+    ]));
     let (sk, randomizer) = signer_of(set, sk, randomizer);
     match hash_sign(msg, ctx, function, &sk, randomizer, sig) {
         Ok(()) => DONE,
@@ -78,15 +71,9 @@ pub extern "C" fn slh_hash_verify(
         → result ≡ first_refusal (hash_verify_rules set function pk.now) }
     ensures judged { first_refusal (hash_verify_rules set function pk.now) ≡ DONE → result ≢ DONE → result ≡ INVALID }
 {
-    let Some(set) = set_of(set) else {
-        return Refusal::NoSuchSet.number();
-    };
-    let Some(function) = function_of(function) else {
-        return Refusal::NoSuchFunction.number();
-    };
-    let Ok(pk) = PublicKey::from_bytes(set, pk) else {
-        return Refusal::BadLength.number();
-    };
+    let set = or_refuse!(set_of(set));
+    let function = or_refuse!(function_of(function));
+    let pk = or_refuse!(public_key(set, pk));
     if hash_verify(msg, ctx, function, sig, &pk) {
         DONE
     } else {
@@ -116,21 +103,15 @@ pub extern "C" fn slh_hash_sign_digest(
         IsGeneratedKey (key s sk.now)
         → IsValid (public_of (key s sk.now)) (pre_hash_message ctx.now f digest.now) sig.new)) }
 {
-    let Some(set) = set_of(set) else {
-        return Refusal::NoSuchSet.number();
-    };
-    let Some(function) = function_of(function) else {
-        return Refusal::NoSuchFunction.number();
-    };
-    if let Err(refusal) = judge(&[
+    let set = or_refuse!(set_of(set));
+    let function = or_refuse!(function_of(function));
+    or_refuse!(judge(&[
         rules::secret(set, sk),
         rules::digest(function, digest),
         rules::randomizer(set, randomizer),
         rules::output(set.sig_len(), sig),
         rules::context(ctx),
-    ]) {
-        return refusal.number();
-    }
+    ]));
     let (sk, randomizer) = signer_of(set, sk, randomizer);
     let Some(digest) = MessageDigest::from_bytes(function, digest) else {
         unreachable!()
@@ -161,15 +142,9 @@ pub extern "C" fn slh_hash_verify_digest(
     ensures judged { first_refusal (hash_verify_digest_rules set function pk.now digest.now) ≡ DONE
         → result ≢ DONE → result ≡ INVALID }
 {
-    let Some(set) = set_of(set) else {
-        return Refusal::NoSuchSet.number();
-    };
-    let Some(function) = function_of(function) else {
-        return Refusal::NoSuchFunction.number();
-    };
-    let Ok(pk) = PublicKey::from_bytes(set, pk) else {
-        return Refusal::BadLength.number();
-    };
+    let set = or_refuse!(set_of(set));
+    let function = or_refuse!(function_of(function));
+    let pk = or_refuse!(public_key(set, pk));
     let Some(digest) = MessageDigest::from_bytes(function, digest) else {
         return Refusal::BadDigestLength.number();
     };

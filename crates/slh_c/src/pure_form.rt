@@ -8,11 +8,12 @@ ghost use Rattle.slh_c.specs.Keys.{key, signature_by};
 ghost use Rattle.slh_c.specs.Numbers.{InSet};
 ghost use Rattle.slh_c.specs.Rules.{first_refusal, sign_rules, verify_rules};
 
+use crate::keys::public_key;
 use crate::numbers::set_of;
 use crate::randomizer::signer_of;
-use crate::refusal::{DONE, INVALID, Refusal};
+use crate::refusal::{DONE, INVALID, or_refuse};
 use crate::rules::{self, judge};
-use slh_core::{PublicKey, sign, verify};
+use slh_core::{sign, verify};
 
 /// Signs a message under a context (FIPS 205, Algorithm 22), writing `sig_len` bytes. `sk` has 4n bytes, the
 /// randomizer n, or none in the deterministic variant. Refused, with nothing written, by `sign_rules`: a number that
@@ -34,17 +35,13 @@ pub extern "C" fn slh_sign(
         IsGeneratedKey (key s sk.now)
         → IsValid (public_of (key s sk.now)) (pure_message ctx.now msg.now) sig.new) }
 {
-    let Some(set) = set_of(set) else {
-        return Refusal::NoSuchSet.number();
-    };
-    if let Err(refusal) = judge(&[
+    let set = or_refuse!(set_of(set));
+    or_refuse!(judge(&[
         rules::secret(set, sk),
         rules::randomizer(set, randomizer),
         rules::output(set.sig_len(), sig),
         rules::context(ctx),
-    ]) {
-        return refusal.number();
-    }
+    ]));
     let (sk, randomizer) = signer_of(set, sk, randomizer);
     match sign(msg, ctx, &sk, randomizer, sig) {
         Ok(()) => DONE,
@@ -64,12 +61,8 @@ pub extern "C" fn slh_verify(set: u32, pk: &[u8], msg: &[u8], ctx: &[u8], sig: &
         → result ≡ first_refusal (verify_rules set pk.now) }
     ensures judged { first_refusal (verify_rules set pk.now) ≡ DONE → result ≢ DONE → result ≡ INVALID }
 {
-    let Some(set) = set_of(set) else {
-        return Refusal::NoSuchSet.number();
-    };
-    let Ok(pk) = PublicKey::from_bytes(set, pk) else {
-        return Refusal::BadLength.number();
-    };
+    let set = or_refuse!(set_of(set));
+    let pk = or_refuse!(public_key(set, pk));
     if verify(msg, ctx, sig, &pk) {
         DONE
     } else {

@@ -43,6 +43,18 @@ pub enum Refusal {
     BadStart,
 }
 
+/// The value of a result. A call that meets a refusal there returns its number.
+macro_rules! or_refuse {
+    ($result:expr) => {
+        match $result {
+            Ok(value) => value,
+            Err(refusal) => return refusal.number(),
+        }
+    };
+}
+
+pub(crate) use or_refuse;
+
 impl Refusal {
     /// The refusal's number.
     pub fn number(self) -> u32

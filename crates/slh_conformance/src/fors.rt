@@ -3,7 +3,7 @@
 use crate::row::Row;
 use crate::wots::{public_of, seeds_of};
 use slh_core::signing_steps::fors_sig_len;
-use slh_few::{ForsTree, fors_pk_from_sig, fors_sign};
+use slh_few::{ForsTree, fors_node, fors_pk_from_sig, fors_sign};
 use slh_params::ParamSet;
 use slh_tree::{Tree, root};
 
@@ -15,7 +15,9 @@ pub fn fors_root(row: &mut Row) {
     let (tree, leaf, number) = (row.number(), row.word(), row.word());
     if number < set.k() {
         let seeds = seeds_of(set, &sk_seed, &pk_seed);
-        row.is_bytes(&root(&ForsTree::new(&seeds, tree, leaf, number)));
+        let top = fors_node(&seeds, tree, leaf, number, set.a(), 0);
+        row.is_bytes(&top);
+        row.is_true(root(&ForsTree::new(&seeds, tree, leaf, number)).as_slice() == top.as_slice());
     } else {
         row.refuse();
     }
@@ -31,7 +33,10 @@ pub fn fors_leaf(row: &mut Row) {
     let i = row.word();
     if number < set.k() && i < 1 << set.a() {
         let seeds = seeds_of(set, &sk_seed, &pk_seed);
-        row.is_bytes(&ForsTree::new(&seeds, tree, leaf, number).leaf(i));
+        let node = fors_node(&seeds, tree, leaf, number, 0, i);
+        row.is_bytes(&node);
+        let made = ForsTree::new(&seeds, tree, leaf, number).leaf(i);
+        row.is_true(made.as_slice() == node.as_slice());
     } else {
         row.refuse();
     }

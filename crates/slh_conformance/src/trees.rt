@@ -3,7 +3,7 @@ ghost use Rattle.std.specs.Prelude.{◌≡◌, ◌≤◌, ◌<◌, ◌^◌, ◌%
 
 use crate::row::Row;
 use slh_params::{Node, node_of};
-use slh_tree::{Cover, PathRec, Tree, climb, gather, hash_range, path, root};
+use slh_tree::{Cover, PathRec, Tree, climb, gather, hash_range, node, path, root};
 use std::cell::Cell;
 
 /// A tree whose node (z, i) is the bytes z, i and the second bytes of the two children. It counts how often a leaf was
@@ -81,6 +81,7 @@ pub fn tree_leaf(row: &mut Row) {
     row.is_true(
         climb(&tree, idx, &node_of(&[0, idx as u8, 0, 0]), out).as_slice() == top.as_slice(),
     );
+    row.is_true(node(&tree, 0, idx).as_slice() == [0, idx as u8, 0, 0].as_slice());
     for cut in 1..tree.leaves {
         row.is_true(gathers(&tree, cut, idx, out, &top));
     }

@@ -6,8 +6,8 @@ ghost use Rattle.slh_params.specs.ParamSet.{params};
 use crate::row::Row;
 use crate::wots::{public_of, seeds_of};
 use slh_few::{
-    Place, XmssTree, ht_sign, ht_verify, layer_place, wots_sig_len, xmss_pk_from_sig, xmss_sig_len,
-    xmss_sign,
+    Place, XmssTree, ht_sign, ht_verify, layer_place, wots_sig_len, xmss_node, xmss_pk_from_sig,
+    xmss_sig_len, xmss_sign,
 };
 use slh_params::ParamSet;
 use slh_tree::root;
@@ -18,7 +18,10 @@ pub fn xmss_root(row: &mut Row) {
     let sk_seed = row.node(set);
     let pk_seed = row.node(set);
     let (layer, tree) = (row.layer(), row.number());
-    row.is_bytes(&root(&XmssTree::new(&seeds_of(set, &sk_seed, &pk_seed), layer, tree)));
+    let seeds = seeds_of(set, &sk_seed, &pk_seed);
+    let top = xmss_node(&seeds, layer, tree, set.hp(), 0);
+    row.is_bytes(&top);
+    row.is_true(root(&XmssTree::new(&seeds, layer, tree)).as_slice() == top.as_slice());
 }
 
 /// A set, SK.seed, PK.seed, a layer, a tree, a leaf, a message of n bytes; the SHA-256 of the signature, its path, and

@@ -1,9 +1,12 @@
 -- The messages M' that are signed (FIPS 205, section 10.2, Algorithms 22 and 23), for contexts of at most 255 bytes.
-use Rattle.std.specs.Prelude.{ℕ, List, ◌++◌, length, Option, None, Some}
+use Rattle.std.specs.Prelude.{ℕ, List, [], ◌++◌, length, Option, None, Some}
 use Rattle.slh_params.specs.Bits.{to_byte}
 use Rattle.slh_core.specs.PreHash.{PH, oid}
 use Rattle.slh_core.specs.declared.form.Form.{Form}
 use Rattle.slh_core.specs.declared.form.Form.TheVariants as forms
+use Rattle.slh_core.specs.declared.formatted_message.Content.{Content}
+use Rattle.slh_core.specs.declared.formatted_message.Content.TheVariants.{Message, Digest}
+use Rattle.slh_core.specs.declared.formatted_message.FormattedMessage.{FormattedMessage}
 use Rattle.slh_core.specs.declared.pre_hash.PreHash.{PreHash}
 
 -- the pure form: 0, the length of the context, the context, the message
@@ -23,3 +26,16 @@ message_in_form (forms.PreHash function) ctx msg = pre_hash_message ctx function
 abbrev pub form_with : Option PreHash → Form
 form_with None = forms.Pure
 form_with (Some function) = forms.PreHash function
+
+-- what follows the context in M': the object identifier, of which the pure form has none, and the message or its digest
+abbrev pub oid_bytes : Content → List ℕ
+oid_bytes (Message msg) = []
+oid_bytes (Digest oid digest) = oid
+
+abbrev pub message_bytes : Content → List ℕ
+message_bytes (Message msg) = msg.now
+message_bytes (Digest oid digest) = digest.bytes
+
+-- the bytes of a `FormattedMessage`
+unfoldable pub bytes_of : FormattedMessage → List ℕ
+bytes_of message = message.head ++ message.ctx.now ++ oid_bytes message.content ++ message_bytes message.content

@@ -1,16 +1,16 @@
 //! The forms in which a message is signed under a context (FIPS 205, section 10.2), and signing and verifying in each.
-ghost use Rattle.std.specs.Prelude.{◌≡◌, ◌↔◌, ◌≤◌, IsOk, IsTrue, OnOk, OnErr, length};
+ghost use Rattle.std.specs.Prelude.{◌≡◌, ◌↔◌, ◌≤◌, IsOk, IsTrue, IsSome, IfSome, OnOk, OnErr, length};
 ghost use Rattle.slh_params.specs.Params.{sig_len};
 ghost use Rattle.slh_params.specs.ParamSet.{params};
 ghost use Rattle.slh_core.specs.Keys.{public_of, IsGeneratedKey};
-ghost use Rattle.slh_core.specs.Messages.{message_in_form, form_with};
+ghost use Rattle.slh_core.specs.Messages.{message_in_form, form_with, bytes_of};
 ghost use Rattle.slh_core.specs.Randomizers.{HasLength};
 ghost use Rattle.slh_core.specs.Signatures.{signature_by, IsValid};
 
-use crate::context::pure_head;
 use crate::fault::SignFault;
+use crate::formatted_message::FormattedMessage;
 use crate::pre_hash::PreHash;
-use crate::pre_hash_form::{hash_sign_digest, hash_verify_digest, pre_hash_digest};
+use crate::pre_hash_form::pre_hash_digest;
 use crate::public_key::PublicKey;
 use crate::randomizer::Randomizer;
 use crate::secret_key::SecretKey;
@@ -37,6 +37,19 @@ impl Form {
         }
     }
 
+    /// M' of a message in this form, under a context. `None` for a context of over 255 bytes.
+    pub fn message<'a>(self, msg: &'a [u8], ctx: &'a [u8]) -> Option<FormattedMessage<'a>>
+        ensures accepted { IsSome result ↔ (length ctx.now ≤ 255) }
+        ensures bytes { IfSome result (λ message. bytes_of message ≡ message_in_form self ctx.now msg.now) }
+    {
+        match self {
+            Form::Pure => FormattedMessage::of_message(msg, ctx),
+            Form::PreHash(function) => {
+                FormattedMessage::of_digest(pre_hash_digest(msg, function), ctx)
+            }
+        }
+    }
+
     /// Signs a message in this form, under a context (Algorithms 22 and 23), writing `sig_len` bytes. Refused, with
     /// nothing written, where the context has over 255 bytes.
     pub fn sign(
@@ -57,19 +70,11 @@ impl Form {
         ensures authentic { OnOk result (IsGeneratedKey sk.now
             → IsValid (public_of sk.now) (message_in_form self ctx.now msg.now) out.new) }
     {
-        match self {
-            Form::Pure => {
-                let Some(head) = pure_head(ctx) else {
-                    return Err(SignFault::ContextTooLong);
-                };
-                sign_internal(&[&head, ctx, msg], sk, randomizer, out);
-                Ok(())
-            }
-            Form::PreHash(function) => {
-                let digest = pre_hash_digest(msg, function);
-                hash_sign_digest(&digest, ctx, sk, randomizer, out)
-            }
-        }
+        let Some(message) = self.message(msg, ctx) else {
+            return Err(SignFault::ContextTooLong);
+        };
+        sign_internal(&message.parts(), sk, randomizer, out);
+        Ok(())
     }
 
     /// Whether the bytes are a valid signature of a message in this form, under a context (Algorithms 24 and 25). False
@@ -78,15 +83,9 @@ impl Form {
         ensures { IsTrue result ↔ ((length ctx.now ≤ 255)
             × IsValid pk.now (message_in_form self ctx.now msg.now) sig.now) }
     {
-        match self {
-            Form::Pure => match pure_head(ctx) {
-                Some(head) => verify_internal(&[&head, ctx, msg], sig, pk),
-                None => false,
-            },
-            Form::PreHash(function) => {
-                let digest = pre_hash_digest(msg, function);
-                hash_verify_digest(&digest, ctx, sig, pk)
-            }
+        match self.message(msg, ctx) {
+            Some(message) => verify_internal(&message.parts(), sig, pk),
+            None => false,
         }
     }
 }

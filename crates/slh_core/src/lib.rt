@@ -5,6 +5,7 @@
 pub use cut::{Cut, cut_digest};
 pub use fault::{KeyFault, KeygenFault, SignFault};
 pub use form::Form;
+pub use formatted_message::FormattedMessage;
 pub use generation::{check_pair, keygen_internal};
 pub use message_digest::MessageDigest;
 pub use pre_hash::PreHash;
@@ -23,19 +24,16 @@ pub use verifying::verify_internal;
 /// The steps of signing one by one (FIPS 205, Algorithms 19, 22 and 23), for a signer that makes the trees elsewhere,
 /// as `slh_par` and `slh_jobs` do. A user of one thread needs none of them.
 pub mod signing_steps {
-    pub use crate::context::{pre_hash_head, pure_head};
     pub use crate::cut::MOST_DIGEST_LEN;
     pub use crate::layout::fors_sig_len;
-    pub use crate::pre_hash_form::pre_hash_digest;
     pub use crate::signing::randomized_digest;
 }
 
-mod context;
 mod cut;
 mod fault;
 mod form;
+mod formatted_message;
 mod generation;
-mod inner_hash;
 mod layout;
 mod message_digest;
 mod pre_hash;

@@ -48,6 +48,13 @@ impl MessageDigest {
         }
     }
 
+    /// A copy of the digest.
+    pub(crate) fn copy(&self) -> MessageDigest
+        ensures { result ≡ self.now }
+    {
+        MessageDigest::of(self.function, self.bytes())
+    }
+
     /// The pre-hash function.
     pub fn function(&self) -> PreHash
         ensures { result ≡ self.now.function }

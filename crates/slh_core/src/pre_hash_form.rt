@@ -8,9 +8,9 @@ ghost use Rattle.slh_core.specs.PreHash.{PH};
 ghost use Rattle.slh_core.specs.Randomizers.{HasLength};
 ghost use Rattle.slh_core.specs.Signatures.{signature_by, IsValid};
 
-use crate::context::pre_hash_head;
 use crate::fault::SignFault;
 use crate::form::Form;
+use crate::formatted_message::FormattedMessage;
 use crate::message_digest::MessageDigest;
 use crate::pre_hash::PreHash;
 use crate::pre_hasher::PreHasher;
@@ -39,11 +39,10 @@ pub fn hash_sign_digest(
     ensures authentic { OnOk result (IsGeneratedKey sk.now
         → IsValid (public_of sk.now) (pre_hash_message ctx.now digest.now.function digest.now.bytes) out.new) }
 {
-    let Some(head) = pre_hash_head(ctx) else {
+    let Some(message) = FormattedMessage::of_digest(digest.copy(), ctx) else {
         return Err(SignFault::ContextTooLong);
     };
-    let oid = digest.function().oid();
-    sign_internal(&[&head, ctx, &oid, digest.bytes()], sk, randomizer, out);
+    sign_internal(&message.parts(), sk, randomizer, out);
     Ok(())
 }
 
@@ -85,11 +84,8 @@ pub fn hash_verify_digest(digest: &MessageDigest, ctx: &[u8], sig: &[u8], pk: &P
     ensures { IsTrue result ↔ ((length ctx.now ≤ 255)
         × IsValid pk.now (pre_hash_message ctx.now digest.now.function digest.now.bytes) sig.now) }
 {
-    match pre_hash_head(ctx) {
-        Some(head) => {
-            let oid = digest.function().oid();
-            verify_internal(&[&head, ctx, &oid, digest.bytes()], sig, pk)
-        }
+    match FormattedMessage::of_digest(digest.copy(), ctx) {
+        Some(message) => verify_internal(&message.parts(), sig, pk),
         None => false,
     }
 }

@@ -5,11 +5,11 @@ ghost use Rattle.slh_core.specs.Messages.{pure_message};
 ghost use Rattle.slh_core.specs.Signatures.{IsValid};
 ghost use Rattle.slh_core.specs.Verifying.{HoldsFirst, IsVerifierOf};
 
-use crate::context::pure_head;
 use crate::cut::MOST_DIGEST_LEN;
-use crate::inner_hash::InnerHash;
+use crate::formatted_message::pure_head;
 use crate::public_key::PublicKey;
 use crate::verifying::verify_by_digest;
+use slh_hash::HMsg;
 
 /// Verifies a message in the pure form that comes in pieces, none of which is held.
 ///
@@ -18,7 +18,7 @@ use crate::verifying::verify_by_digest;
 pub struct Verifier<'a> {
     pk: &'a PublicKey,
     sig: &'a [u8],
-    inner: Option<InnerHash>,
+    hash: Option<HMsg<'a>>,
 }
 
 impl<'a> Verifier<'a> {
@@ -27,8 +27,8 @@ impl<'a> Verifier<'a> {
     pub fn new(ctx: &[u8], sig: &'a [u8], pk: &'a PublicKey) -> Verifier<'a>
         ensures { IsVerifierOf result pk.now ctx.now sig.now [] }
     {
-        let inner = begun(ctx, sig, pk);
-        Verifier { pk, sig, inner }
+        let hash = begun(ctx, sig, pk);
+        Verifier { pk, sig, hash }
     }
 
     /// Adds a piece to the end of the message.
@@ -37,8 +37,8 @@ impl<'a> Verifier<'a> {
         ensures { (pk : Key) (ctx sig msg : List ℕ) → IsVerifierOf self.old pk ctx sig msg
             → IsVerifierOf self.new pk ctx sig (msg ++ piece.now) }
     {
-        if let Some(inner) = &mut self.inner {
-            inner.update(piece);
+        if let Some(hash) = &mut self.hash {
+            hash.update(piece);
         }
     }
 
@@ -49,8 +49,8 @@ impl<'a> Verifier<'a> {
         ensures { (pk : Key) (ctx sig msg : List ℕ) → IsVerifierOf self.entry pk ctx sig msg
             → (IsTrue result ↔ ((length ctx ≤ 255) × IsValid pk (pure_message ctx msg) sig)) }
     {
-        let Verifier { pk, sig, inner } = self;
-        let Some(inner) = inner else {
+        let Verifier { pk, sig, hash } = self;
+        let Some(hash) = hash else {
             return false;
         };
         let set = pk.set();
@@ -59,22 +59,20 @@ impl<'a> Verifier<'a> {
         }
         let mut buffer = [0; MOST_DIGEST_LEN];
         let digest = &mut buffer[..set.m()];
-        inner.finish(&sig[..set.n()], pk.pk_seed(), digest);
+        hash.finish(digest);
         verify_by_digest(pk, digest, sig)
     }
 }
 
-/// The hash inside H_msg after all that stands before the message: R, PK.seed, PK.root, and the head of M' with the
-/// context. `None` for a context of over 255 bytes. Of a signature shorter than R all is hashed: it is invalid anyway.
-fn begun(ctx: &[u8], sig: &[u8], pk: &PublicKey) -> Option<InnerHash>
+/// H_msg after all that stands before the message: R, PK.seed, PK.root, and the head of M' with the context. `None` for
+/// a context of over 255 bytes. Of a signature shorter than R all is hashed: it is invalid anyway.
+fn begun<'a>(ctx: &[u8], sig: &'a [u8], pk: &'a PublicKey) -> Option<HMsg<'a>>
     ensures { HoldsFirst result pk.now ctx.now sig.now [] }
 {
     let head = pure_head(ctx)?;
-    let mut inner = InnerHash::new(pk.set());
-    inner.update(&sig[..pk.set().n().min(sig.len())]);
-    inner.update(pk.pk_seed());
-    inner.update(pk.pk_root());
-    inner.update(&head);
-    inner.update(ctx);
-    Some(inner)
+    let r = &sig[..pk.set().n().min(sig.len())];
+    let mut hash = HMsg::new(pk.set(), r, pk.pk_seed(), pk.pk_root());
+    hash.update(&head);
+    hash.update(ctx);
+    Some(hash)
 }

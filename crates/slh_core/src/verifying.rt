@@ -39,7 +39,7 @@ fn verify_digest(pk: &PublicKey, digest: &[u8], sig_fors: &[u8], sig_ht: &[u8]) 
     )
 }
 
-/// Whether a signature gives PK.root for a digest (FIPS 205, Algorithm 20, lines 5 to 18).
+/// Whether a signature gives PK.root for a digest (FIPS 205, Algorithm 20, lines 6, 7 and 9 to 18).
 pub(crate) fn verify_by_digest(pk: &PublicKey, digest: &[u8], sig: &[u8]) -> bool
     requires digest { length digest.now ≡ m (params pk.now.set) }
     requires sig { length sig.now ≡ sig_len (params pk.now.set) }

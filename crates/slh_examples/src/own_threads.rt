@@ -14,14 +14,11 @@ ghost use Rattle.slh_examples.specs.JobRanges.{AreAnswersOf, IsRoomFor};
 
 use slh_core::{Form, Randomizer, SecretKey};
 use slh_jobs::{
-    Levels, answer_len, answer_start, answers_len, sign_job, sign_jobs, sign_join, sign_start,
-    start_len,
+    Levels, MOST_START_LEN, answer_len, answer_start, answers_len, sign_job, sign_jobs, sign_join,
+    sign_start, start_len,
 };
 use std::alloc::{AllocError, Allocator};
 use std::thread::{Threads, join_mut};
-
-/// At least the length of the start of a signature, in any set.
-const MOST_START_LEN: usize = 186;
 
 /// What the jobs of one signature are given.
 #[derive(Clone, Copy)]

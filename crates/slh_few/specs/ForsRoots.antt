@@ -7,10 +7,10 @@ use Rattle.slh_few.specs.Fors.{fors_tree, fors_leaf, fors_part_len}
 
 -- the node of height z over leaf x of tree j that the tree's part of a signature gives
 abbrev pub climbed : Params → List ℕ → List ℕ → ℕ → ℕ → ℕ → ℕ → List ℕ → ℕ → List ℕ
-climbed p sk pk t i j x own z =
-    climb_to (fors_tree p sk pk t i j) x (fors_leaf p pk t i (j * 2 ^ p.a + x) (take p.n own))
+climbed p sk_seed pk_seed t i j x own z =
+    climb_to (fors_tree p sk_seed pk_seed t i j) x (fors_leaf p pk_seed t i (j * 2 ^ p.a + x) (take p.n own))
     (path_node p.n (drop p.n own)) z
 
 -- the root of tree j that a whole signature gives
 abbrev pub root_given : Params → List ℕ → List ℕ → ℕ → ℕ → List ℕ → List ℕ → ℕ → List ℕ
-root_given p sk pk t i indices sig j = climbed p sk pk t i j (slice_index indices j) (part (fors_part_len p) sig j) p.a
+root_given p sk_seed pk_seed t i indices sig j = climbed p sk_seed pk_seed t i j (slice_index indices j) (part (fors_part_len p) sig j) p.a

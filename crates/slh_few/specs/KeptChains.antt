@@ -23,26 +23,26 @@ kept_chains_len p = len p * kept_chain_len p
 
 -- kept value j of chain c
 abbrev pub kept_value : Params → List ℕ → List ℕ → Place → ℕ → ℕ → List ℕ
-kept_value p sk pk at c j = chain p pk at c (secret p sk pk at c) 0 (j * spacing p)
+kept_value p sk_seed pk_seed at c j = chain p pk_seed at c (secret p sk_seed pk_seed at c) 0 (j * spacing p)
 
 -- the kept values of chain c
 unfoldable pub kept_chain : Params → List ℕ → List ℕ → Place → ℕ → List ℕ
-kept_chain p sk pk at c = end_to_end (kept_value p sk pk at c) (kept_count p)
+kept_chain p sk_seed pk_seed at c = end_to_end (kept_value p sk_seed pk_seed at c) (kept_count p)
 
 -- those of all chains of a key
 unfoldable pub kept_chains : Params → List ℕ → List ℕ → Place → List ℕ
-kept_chains p sk pk at = end_to_end (kept_chain p sk pk at) (len p)
+kept_chains p sk_seed pk_seed at = end_to_end (kept_chain p sk_seed pk_seed at) (len p)
 
 -- the value of chain c after so many steps, run on from the last value before it among those that are given for the
 -- chain, whatever bytes these are
 abbrev pub run_from_kept : Params → List ℕ → Place → ℕ → List ℕ → ℕ → List ℕ
-run_from_kept p pk at c kept steps =
-    chain p pk at c (part p.n kept (steps / spacing p)) (steps / spacing p * spacing p) (steps % spacing p)
+run_from_kept p pk_seed at c kept steps =
+    chain p pk_seed at c (part p.n kept (steps / spacing p)) (steps / spacing p * spacing p) (steps % spacing p)
 
 -- part c of the signature of a message that given values make
 abbrev pub chain_from_kept : Params → List ℕ → Place → List ℕ → List ℕ → ℕ → List ℕ
-chain_from_kept p pk at kept m c = run_from_kept p pk at c (part (kept_chain_len p) kept c) (digit p m c)
+chain_from_kept p pk_seed at kept m c = run_from_kept p pk_seed at c (part (kept_chain_len p) kept c) (digit p m c)
 
 -- the signature of a message that given values make; by the key's own values, the key's signature
 unfoldable pub wots_sig_from : Params → List ℕ → Place → List ℕ → List ℕ → List ℕ
-wots_sig_from p pk at kept m = end_to_end (chain_from_kept p pk at kept m) (len p)
+wots_sig_from p pk_seed at kept m = end_to_end (chain_from_kept p pk_seed at kept m) (len p)

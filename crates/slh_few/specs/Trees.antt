@@ -23,21 +23,21 @@ unfoldable pub fors_tree_of : ForsTree → MerkleTree
 fors_tree_of t = fors_tree (params t.seeds.set) t.seeds.sk_seed.now t.seeds.pk_seed.now t.idx_tree t.idx_leaf t.tree_no
 
 -- a WOTS+ public key has n bytes
-length-wots_pk : (p : Params) (sk pk : List ℕ) (at : Place) → p.n ≤ 32 → length (wots_pk p sk pk at) ≡ p.n
+length-wots_pk : (p : Params) (sk_seed pk_seed : List ℕ) (at : Place) → p.n ≤ 32 → length (wots_pk p sk_seed pk_seed at) ≡ p.n
 unfolding wots_pk
-length-wots_pk p sk pk at h = length-T p pk _ _ h
+length-wots_pk p sk_seed pk_seed at h = length-T p pk_seed _ _ h
 
 -- all nodes of the two trees have n bytes
-pub xmss_tree-lawful : (s : ParamSet) (sk pk : List ℕ) (l t : ℕ) → Lawful (xmss_tree (params s) sk pk l t)
-xmss_tree-lawful s sk pk l t = record {
-  leaf_width = λ i. length-wots_pk (params s) sk pk _ (n_high s);
-  join_width = λ z i x y. length-T (params s) pk _ _ (n_high s);
+pub xmss_tree-lawful : (s : ParamSet) (sk_seed pk_seed : List ℕ) (l t : ℕ) → Lawful (xmss_tree (params s) sk_seed pk_seed l t)
+xmss_tree-lawful s sk_seed pk_seed l t = record {
+  leaf_width = λ i. length-wots_pk (params s) sk_seed pk_seed _ (n_high s);
+  join_width = λ z i x y. length-T (params s) pk_seed _ _ (n_high s);
 }
 
-pub fors_tree-lawful : (s : ParamSet) (sk pk : List ℕ) (t i j : ℕ) → Lawful (fors_tree (params s) sk pk t i j)
-fors_tree-lawful s sk pk t i j = record {
-  leaf_width = λ v. length-F (params s) pk _ _ (n_high s);
-  join_width = λ z v x y. length-T (params s) pk _ _ (n_high s);
+pub fors_tree-lawful : (s : ParamSet) (sk_seed pk_seed : List ℕ) (t i j : ℕ) → Lawful (fors_tree (params s) sk_seed pk_seed t i j)
+fors_tree-lawful s sk_seed pk_seed t i j = record {
+  leaf_width = λ v. length-F (params s) pk_seed _ _ (n_high s);
+  join_width = λ z v x y. length-T (params s) pk_seed _ _ (n_high s);
 }
 
 -- so have those that `XmssTree` and `ForsTree` are

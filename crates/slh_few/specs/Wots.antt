@@ -13,8 +13,8 @@ wots_address at type chain hash = address at.layer at.tree type at.pair chain ha
 
 -- s steps of chain c from step f on (Algorithm 5)
 unfoldable pub chain : Params → List ℕ → Place → ℕ → List ℕ → ℕ → ℕ → List ℕ
-chain p pk at c x f zero = x
-chain p pk at c x f (suc s) = F p pk (wots_address at WOTS_HASH c (f + s)) (chain p pk at c x f s)
+chain p pk_seed at c x f zero = x
+chain p pk_seed at c x f (suc s) = F p pk_seed (wots_address at WOTS_HASH c (f + s)) (chain p pk_seed at c x f s)
 
 -- how far below the last step the digits are, in all
 abbrev pub checksum : Params → List ℕ → ℕ
@@ -46,35 +46,35 @@ digit p m c = slice_index (digits p m) c
 
 -- the secret of chain c
 unfoldable pub secret : Params → List ℕ → List ℕ → Place → ℕ → List ℕ
-secret p sk pk at c = PRF p pk sk (wots_address at WOTS_PRF c 0)
+secret p sk_seed pk_seed at c = PRF p pk_seed sk_seed (wots_address at WOTS_PRF c 0)
 
 -- T over the ends of all chains
 abbrev pub compressed_ends : Params → List ℕ → Place → (ℕ → List ℕ) → List ℕ
-compressed_ends p pk at ends = T p pk (wots_address at WOTS_PK 0 0) (end_to_end ends (len p))
+compressed_ends p pk_seed at ends = T p pk_seed (wots_address at WOTS_PK 0 0) (end_to_end ends (len p))
 
 -- chain c from its secret to its end
 abbrev pub whole_chain : Params → List ℕ → List ℕ → Place → ℕ → List ℕ
-whole_chain p sk pk at c = chain p pk at c (secret p sk pk at c) 0 (w p - 1)
+whole_chain p sk_seed pk_seed at c = chain p pk_seed at c (secret p sk_seed pk_seed at c) 0 (w p - 1)
 
 -- the public key (Algorithm 6)
 unfoldable pub wots_pk : Params → List ℕ → List ℕ → Place → List ℕ
-wots_pk p sk pk at = compressed_ends p pk at (whole_chain p sk pk at)
+wots_pk p sk_seed pk_seed at = compressed_ends p pk_seed at (whole_chain p sk_seed pk_seed at)
 
 -- chain c from its secret to the message's digit
 abbrev pub signed_chain : Params → List ℕ → List ℕ → Place → List ℕ → ℕ → List ℕ
-signed_chain p sk pk at m c = chain p pk at c (secret p sk pk at c) 0 (digit p m c)
+signed_chain p sk_seed pk_seed at m c = chain p pk_seed at c (secret p sk_seed pk_seed at c) 0 (digit p m c)
 
 -- the signature (Algorithm 7)
 unfoldable pub wots_sig : Params → List ℕ → List ℕ → Place → List ℕ → List ℕ
-wots_sig p sk pk at m = end_to_end (signed_chain p sk pk at m) (len p)
+wots_sig p sk_seed pk_seed at m = end_to_end (signed_chain p sk_seed pk_seed at m) (len p)
 
 -- chain c from the signature's value to its end
 abbrev pub finished_chain : Params → List ℕ → Place → List ℕ → List ℕ → ℕ → List ℕ
-finished_chain p pk at m sig c = chain p pk at c (part p.n sig c) (digit p m c) (w p - 1 - digit p m c)
+finished_chain p pk_seed at m sig c = chain p pk_seed at c (part p.n sig c) (digit p m c) (w p - 1 - digit p m c)
 
 -- the public key that a signature gives (Algorithm 8)
 unfoldable pub wots_pk_from_sig : Params → List ℕ → Place → List ℕ → List ℕ → List ℕ
-wots_pk_from_sig p pk at m sig = compressed_ends p pk at (finished_chain p pk at m sig)
+wots_pk_from_sig p pk_seed at m sig = compressed_ends p pk_seed at (finished_chain p pk_seed at m sig)
 
 -- the first digits are nowhere below the second
 abbrev pub NowhereBelow : List ℕ → List ℕ → Type 0

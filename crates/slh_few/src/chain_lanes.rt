@@ -7,11 +7,11 @@ ghost use Rattle.slh_lanes.specs.Lanes.{HasAddress, IsSeededLanes, value_at};
 ghost use Rattle.slh_few.specs.Parts.{end_to_end, part};
 ghost use Rattle.slh_few.specs.Wots.{wots_address, chain as chain_of, secret};
 
-use crate::base_w::MOST_DIGITS;
 use crate::chain_order::by_steps;
 use crate::nodes::{part_at, put_part};
 use crate::place::{Place, Public, Seeds};
 use crate::wots::{MOST_STEPS, wots_adrs};
+use crate::wots_digits::MOST_DIGITS;
 use slh_lanes::{
     LaneAdrs, LaneNodes, SeededLanes, Words, adrs_lanes, lane_node, node_lanes, set_chains,
     set_lane,
@@ -75,8 +75,8 @@ pub(crate) fn secret_lanes(
     at: Place,
     group: &ChainGroup,
 ) -> LaneNodes
-    ensures { (p : Params) (pk : List ℕ) → IsSeededLanes lanes.now p pk → (j : ℕ) → j < 8
-        → value_at result j p.n ≡ secret p sk_seed.now pk at (slice_index group.now j) }
+    ensures { (p : Params) (pk_seed : List ℕ) → IsSeededLanes lanes.now p pk_seed → (j : ℕ) → j < 8
+        → value_at result j p.n ≡ secret p sk_seed.now pk_seed at (slice_index group.now j) }
 {
     lanes.prf(sk_seed, &chain_adrs(at, AdrsType::WotsPrf, group))
 }
@@ -91,8 +91,9 @@ pub(crate) fn run_lanes(
     counts: Words,
 ) -> LaneNodes
     requires { (j : ℕ) → j < 8 → slice_index from j + slice_index counts j ≤ MOST_STEPS }
-    ensures { (p : Params) (pk : List ℕ) → IsSeededLanes lanes.now p pk → (j : ℕ) → j < 8 → value_at result j p.n
-        ≡ chain_of p pk at (slice_index group.now j) (value_at x.now j p.n)
+    ensures { (p : Params) (pk_seed : List ℕ) → IsSeededLanes lanes.now p pk_seed → (j : ℕ) → j < 8
+        → value_at result j p.n
+        ≡ chain_of p pk_seed at (slice_index group.now j) (value_at x.now j p.n)
         (slice_index from j) (slice_index counts j) }
 {
     lanes.chains_each(&chain_adrs(at, AdrsType::WotsHash, group), x, from, counts)
@@ -138,8 +139,10 @@ fn lanes_at(values: &[u8], n: usize, group: &ChainGroup, used: usize) -> LaneNod
 pub(crate) fn run_secrets(seeds: &Seeds, at: Place, counts: &ChainNumbers, out: &mut [u8])
     requires steps { (c : ℕ) → slice_index counts.now c ≤ MOST_STEPS }
     requires out { length out.old ≡ len (params seeds.now.set) * (params seeds.now.set).n }
-    ensures { let p = params seeds.now.set in let sk = seeds.now.sk_seed.now in let pk = seeds.now.pk_seed.now in
-        out.new ≡ end_to_end (λ c. chain_of p pk at c (secret p sk pk at c) 0 (slice_index counts.now c)) (len p) }
+    ensures { let p = params seeds.now.set in let sk_seed = seeds.now.sk_seed.now in
+        let pk_seed = seeds.now.pk_seed.now in
+        out.new ≡ end_to_end
+        (λ c. chain_of p pk_seed at c (secret p sk_seed pk_seed at c) 0 (slice_index counts.now c)) (len p) }
 {
     let lanes = SeededLanes::new(seeds.set, seeds.pk_seed);
     let n = seeds.set.n();
@@ -167,8 +170,8 @@ pub(crate) fn run_values(
     requires steps { (c : ℕ) → c < MOST_DIGITS → slice_index from.now c + slice_index counts.now c ≤ MOST_STEPS }
     requires values { length values.now ≡ len (params public.now.set) * (params public.now.set).n }
     requires out { length out.old ≡ len (params public.now.set) * (params public.now.set).n }
-    ensures { let p = params public.now.set in let pk = public.now.pk_seed.now in
-        out.new ≡ end_to_end (λ c. chain_of p pk at c (part p.n values.now c)
+    ensures { let p = params public.now.set in let pk_seed = public.now.pk_seed.now in
+        out.new ≡ end_to_end (λ c. chain_of p pk_seed at c (part p.n values.now c)
         (slice_index from.now c) (slice_index counts.now c)) (len p) }
 {
     let lanes = SeededLanes::new(public.set, public.pk_seed);

@@ -4,7 +4,8 @@ ghost use Rattle.slh_params.specs.Params.{md_len};
 ghost use Rattle.slh_params.specs.ParamSet.{params};
 ghost use Rattle.slh_hash.specs.Seeded.{IsSeeded};
 ghost use Rattle.slh_lanes.specs.TreeLanes.{IsSeededTreeLanes};
-ghost use Rattle.slh_tree.specs.Tree.{root as root_of};
+ghost use Rattle.slh_tree.specs.Cover.{past_leaf};
+ghost use Rattle.slh_tree.specs.Tree.{node, root as root_of};
 ghost use Rattle.slh_tree.specs.Climb.{path as path_of, climb as climb_of};
 ghost use Rattle.slh_few.specs.Fors.{fors_tree, fors_leaf, fors_secret, fors_part_len, fors_sig, fors_pk_from_sig, compressed_roots};
 ghost use Rattle.slh_few.specs.Parts.{part};
@@ -26,6 +27,24 @@ pub fn fors_part_len(set: ParamSet) -> usize
     (1 + set.a() as usize) * set.n()
 }
 
+/// fors_node (Algorithm 15): the node of height `z` at index `i` of FORS tree `tree_no` of the key at leaf `idx_leaf` of
+/// tree `idx_tree`, n bytes, from its own leaves alone.
+#[tactic(auto, unfolding(crate::specs::Trees::fors_tree_of))]
+pub fn fors_node(seeds: &Seeds, idx_tree: u64, idx_leaf: u32, tree_no: u32, z: u32, i: u32) -> Node
+    requires tree { tree_no < (params seeds.now.set).k }
+    requires height { z ≤ (params seeds.now.set).a }
+    requires within { past_leaf z i ≤ 2 ^ (params seeds.now.set).a }
+    ensures { let p = params seeds.now.set in let sk_seed = seeds.now.sk_seed.now in
+        let pk_seed = seeds.now.pk_seed.now in
+        result.items ≡ node (fors_tree p sk_seed pk_seed idx_tree idx_leaf tree_no) z i }
+{
+    let seeded = SeededHash::new(seeds.set, seeds.pk_seed);
+    let lanes = SeededLanes::new(seeds.set, seeds.pk_seed);
+    let joins = SeededTreeHash::new(seeds.set, seeds.pk_seed);
+    let tree = SeededForsTree::new(&seeded, &lanes, &joins, seeds, idx_tree, idx_leaf, tree_no);
+    tree.node(&SeededTreeLanes::new(&lanes), z, i)
+}
+
 /// Writes the secret of leaf `i`, then the leaf's path.
 #[tactic(auto, unfolding(crate::specs::Trees::fors_tree_of))]
 fn sign_tree(seeded_tree: &SeededForsTree, lanes: &SeededTreeLanes, i: u32, out: &mut [u8])
@@ -34,10 +53,10 @@ fn sign_tree(seeded_tree: &SeededForsTree, lanes: &SeededTreeLanes, i: u32, out:
     requires leaf { i < 2 ^ (params seeded_tree.now.tree.seeds.set).a }
     requires out { length out.old ≡ fors_part_len (params seeded_tree.now.tree.seeds.set) }
     ensures { let t = seeded_tree.now.tree in let p = params t.seeds.set in
-        let sk = t.seeds.sk_seed.now in let pk = t.seeds.pk_seed.now in
-        IsSeeded seeded_tree.now.seeded.now p pk → out.new
-        ≡ fors_secret p sk pk t.idx_tree t.idx_leaf (t.tree_no * 2 ^ p.a + i)
-        ++ path_of (fors_tree p sk pk t.idx_tree t.idx_leaf t.tree_no) i }
+        let sk_seed = t.seeds.sk_seed.now in let pk_seed = t.seeds.pk_seed.now in
+        IsSeeded seeded_tree.now.seeded.now p pk_seed → out.new
+        ≡ fors_secret p sk_seed pk_seed t.idx_tree t.idx_leaf (t.tree_no * 2 ^ p.a + i)
+        ++ path_of (fors_tree p sk_seed pk_seed t.idx_tree t.idx_leaf t.tree_no) i }
 {
     let tree = &seeded_tree.tree;
     let (secret, auth) = out.split_at_mut(tree.seeds.set.n());
@@ -59,11 +78,11 @@ fn put_tree(
     requires leaf { i < 2 ^ (params seeded_tree.now.tree.seeds.set).a }
     requires out { start + fors_part_len (params seeded_tree.now.tree.seeds.set) ≤ length out.old }
     ensures { let t = seeded_tree.now.tree in let p = params t.seeds.set in
-        let sk = t.seeds.sk_seed.now in let pk = t.seeds.pk_seed.now in
-        IsSeeded seeded_tree.now.seeded.now p pk → take (start + fors_part_len p) out.new
+        let sk_seed = t.seeds.sk_seed.now in let pk_seed = t.seeds.pk_seed.now in
+        IsSeeded seeded_tree.now.seeded.now p pk_seed → take (start + fors_part_len p) out.new
         ≡ take start out.old ++
-        (fors_secret p sk pk t.idx_tree t.idx_leaf (t.tree_no * 2 ^ p.a + i)
-        ++ path_of (fors_tree p sk pk t.idx_tree t.idx_leaf t.tree_no) i) }
+        (fors_secret p sk_seed pk_seed t.idx_tree t.idx_leaf (t.tree_no * 2 ^ p.a + i)
+        ++ path_of (fors_tree p sk_seed pk_seed t.idx_tree t.idx_leaf t.tree_no) i) }
 {
     let end = start + fors_part_len(seeded_tree.tree.seeds.set);
     sign_tree(seeded_tree, lanes, i, &mut out[start..end]);
@@ -76,14 +95,14 @@ pub fn fors_sign(seeds: &Seeds, idx_tree: u64, idx_leaf: u32, md: &[u8], out: &m
     requires md { length md.now ≡ md_len (params seeds.now.set) }
     requires out { let p = params seeds.now.set in
         length out.old ≡ p.k * fors_part_len p }
-    ensures signature { let p = params seeds.now.set in let sk = seeds.now.sk_seed.now in
-        let pk = seeds.now.pk_seed.now in
-        out.new ≡ fors_sig p sk pk idx_tree idx_leaf md.now }
-    ensures key { let p = params seeds.now.set in let sk = seeds.now.sk_seed.now in
-        let pk = seeds.now.pk_seed.now in
-        fors_pk_from_sig p pk idx_tree idx_leaf md.now out.new
-        ≡ compressed_roots p pk idx_tree idx_leaf
-        (λ j. root_of (fors_tree p sk pk idx_tree idx_leaf j)) }
+    ensures signature { let p = params seeds.now.set in let sk_seed = seeds.now.sk_seed.now in
+        let pk_seed = seeds.now.pk_seed.now in
+        out.new ≡ fors_sig p sk_seed pk_seed idx_tree idx_leaf md.now }
+    ensures key { let p = params seeds.now.set in let sk_seed = seeds.now.sk_seed.now in
+        let pk_seed = seeds.now.pk_seed.now in
+        fors_pk_from_sig p pk_seed idx_tree idx_leaf md.now out.new
+        ≡ compressed_roots p pk_seed idx_tree idx_leaf
+        (λ j. root_of (fors_tree p sk_seed pk_seed idx_tree idx_leaf j)) }
 {
     let indices = fors_indices(seeds.set, md);
     let size = fors_part_len(seeds.set);
@@ -111,9 +130,9 @@ fn root_from(seeded_tree: &SeededForsTree, i: u32, sig: &[u8]) -> Node
     requires state { IsSeeded seeded_tree.now.seeded.now
         (params seeded_tree.now.tree.seeds.set) seeded_tree.now.tree.seeds.pk_seed.now }
     ensures value { let t = seeded_tree.now.tree in let p = params t.seeds.set in
-        let sk = t.seeds.sk_seed.now in let pk = t.seeds.pk_seed.now in
-        result.items ≡ climb_of (fors_tree p sk pk t.idx_tree t.idx_leaf t.tree_no) i
-        (fors_leaf p pk t.idx_tree t.idx_leaf (t.tree_no * 2 ^ p.a + i) (take p.n sig.now))
+        let sk_seed = t.seeds.sk_seed.now in let pk_seed = t.seeds.pk_seed.now in
+        result.items ≡ climb_of (fors_tree p sk_seed pk_seed t.idx_tree t.idx_leaf t.tree_no) i
+        (fors_leaf p pk_seed t.idx_tree t.idx_leaf (t.tree_no * 2 ^ p.a + i) (take p.n sig.now))
         (drop p.n sig.now) }
     ensures len { length result.items ≡ (params seeded_tree.now.tree.seeds.set).n }
 {
@@ -133,10 +152,10 @@ fn root_at(seeded_tree: &SeededForsTree, i: u32, sig: &[u8]) -> Node
     requires state { IsSeeded seeded_tree.now.seeded.now
         (params seeded_tree.now.tree.seeds.set) seeded_tree.now.tree.seeds.pk_seed.now }
     ensures { let t = seeded_tree.now.tree in let p = params t.seeds.set in
-        let sk = t.seeds.sk_seed.now in let pk = t.seeds.pk_seed.now in
+        let sk_seed = t.seeds.sk_seed.now in let pk_seed = t.seeds.pk_seed.now in
         let own = part (fors_part_len p) sig.now t.tree_no in
-        result.items ≡ climb_of (fors_tree p sk pk t.idx_tree t.idx_leaf t.tree_no) i
-        (fors_leaf p pk t.idx_tree t.idx_leaf (t.tree_no * 2 ^ p.a + i) (take p.n own)) (drop p.n own) }
+        result.items ≡ climb_of (fors_tree p sk_seed pk_seed t.idx_tree t.idx_leaf t.tree_no) i
+        (fors_leaf p pk_seed t.idx_tree t.idx_leaf (t.tree_no * 2 ^ p.a + i) (take p.n own)) (drop p.n own) }
 {
     let size = fors_part_len(seeded_tree.tree.seeds.set);
     let start = seeded_tree.tree.tree_no as usize * size;
@@ -156,9 +175,9 @@ pub fn fors_root_from_sig(
     requires tree { tree_no < (params public.now.set).k }
     requires leaf { index < 2 ^ (params public.now.set).a }
     requires sig { length sig.now ≡ fors_part_len (params public.now.set) }
-    ensures value { let p = params public.now.set in let pk = public.now.pk_seed.now in
-        result.items ≡ climb_of (fors_tree p [] pk idx_tree idx_leaf tree_no) index
-        (fors_leaf p pk idx_tree idx_leaf (tree_no * 2 ^ p.a + index) (take p.n sig.now)) (drop p.n sig.now) }
+    ensures value { let p = params public.now.set in let pk_seed = public.now.pk_seed.now in
+        result.items ≡ climb_of (fors_tree p [] pk_seed idx_tree idx_leaf tree_no) index
+        (fors_leaf p pk_seed idx_tree idx_leaf (tree_no * 2 ^ p.a + index) (take p.n sig.now)) (drop p.n sig.now) }
     ensures len { length result.items ≡ (params public.now.set).n }
 {
     let seeds = Seeds {
@@ -185,8 +204,8 @@ pub fn fors_pk_from_sig(
     requires md { length md.now ≡ md_len (params public.now.set) }
     requires sig { let p = params public.now.set in
         length sig.now ≡ p.k * fors_part_len p }
-    ensures value { let p = params public.now.set in let pk = public.now.pk_seed.now in
-        result.items ≡ fors_pk_from_sig p pk idx_tree idx_leaf md.now sig.now }
+    ensures value { let p = params public.now.set in let pk_seed = public.now.pk_seed.now in
+        result.items ≡ fors_pk_from_sig p pk_seed idx_tree idx_leaf md.now sig.now }
     ensures len { length result.items ≡ (params public.now.set).n }
 {
     let indices = fors_indices(public.set, md);

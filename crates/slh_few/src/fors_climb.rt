@@ -198,10 +198,10 @@ fn absorb_eight(
     requires trees { first.now.tree_no + 8 ≤ MOST_TREES }
     requires leaves { (j : ℕ) → slice_index indices.now j < 2 ^ (params first.now.seeds.set).a }
     requires sig { let p = params first.now.seeds.set in length sig.now ≡ p.k * fors_part_len p }
-    ensures { let t = first.now in let p = params t.seeds.set in let pk = t.seeds.pk_seed.now in
-        let given = root_given p t.seeds.sk_seed.now pk t.idx_tree t.idx_leaf indices.now sig.now in
-        (a : Address) → HasAbsorbed roots.old p pk a (end_to_end given t.tree_no)
-        → HasAbsorbed roots.new p pk a (end_to_end given (min (t.tree_no + 8) p.k)) }
+    ensures { let t = first.now in let p = params t.seeds.set in let pk_seed = t.seeds.pk_seed.now in
+        let given = root_given p t.seeds.sk_seed.now pk_seed t.idx_tree t.idx_leaf indices.now sig.now in
+        (a : Address) → HasAbsorbed roots.old p pk_seed a (end_to_end given t.tree_no)
+        → HasAbsorbed roots.new p pk_seed a (end_to_end given (min (t.tree_no + 8) p.k)) }
 {
     let used = (first.seeds.set.k() - first.tree_no).min(8) as usize;
     let group = first.roots_from_lanes(lanes, indices, used, sig);
@@ -224,9 +224,10 @@ pub(crate) fn absorb_in_lanes(
     requires leaves { (j : ℕ) → slice_index indices.now j < 2 ^ (params seeds.now.set).a }
     requires sig { let p = params seeds.now.set in length sig.now ≡ p.k * fors_part_len p }
     ensures count { result ≤ (params seeds.now.set).k }
-    ensures roots { let p = params seeds.now.set in let sk = seeds.now.sk_seed.now in let pk = seeds.now.pk_seed.now in
-        (a : Address) → HasAbsorbed roots.old p pk a [] → HasAbsorbed roots.new p pk a
-        (end_to_end (root_given p sk pk idx_tree idx_leaf indices.now sig.now) result) }
+    ensures roots { let p = params seeds.now.set in let sk_seed = seeds.now.sk_seed.now in
+        let pk_seed = seeds.now.pk_seed.now in
+        (a : Address) → HasAbsorbed roots.old p pk_seed a [] → HasAbsorbed roots.new p pk_seed a
+        (end_to_end (root_given p sk_seed pk_seed idx_tree idx_leaf indices.now sig.now) result) }
 {
     let groups = lane_groups(seeds);
     for turn in 0..groups {

@@ -12,7 +12,7 @@ ghost use Rattle.slh_few.specs.Trees.{fors_tree_of};
 use crate::fors_tree::{ForsTree, SeededForsTree};
 use slh_lanes::{LaneNodes, SeededTreeLanes, even_lanes, lane_node, odd_lanes};
 use slh_params::{AdrsType, Node, put_node};
-use slh_tree::node_over;
+use slh_tree::node;
 
 impl<'a> ForsTree<'a> {
     /// The nodes of height `z` from index `i` on: H of their children, which are the sixteen nodes of the two.
@@ -26,14 +26,15 @@ impl<'a> ForsTree<'a> {
     ) -> LaneNodes
         requires height { z ≤ (params self.now.seeds.set).a }
         requires index { i < 2 ^ ((params self.now.seeds.set).a - z) }
-        ensures low { let p = params self.now.seeds.set in let sk = self.now.seeds.sk_seed.now in
-            (pk : List ℕ) → IsSeededTreeLanes lanes.now p pk → length pk ≡ p.n → (j : ℕ) → j < 4 → value_at result j p.n
-            ≡ (fors_tree p sk pk self.now.idx_tree self.now.idx_leaf self.now.tree_no).join z (i + j)
+        ensures low { let p = params self.now.seeds.set in let sk_seed = self.now.seeds.sk_seed.now in
+            (pk_seed : List ℕ) → IsSeededTreeLanes lanes.now p pk_seed → length pk_seed ≡ p.n → (j : ℕ) → j < 4
+            → value_at result j p.n
+            ≡ (fors_tree p sk_seed pk_seed self.now.idx_tree self.now.idx_leaf self.now.tree_no).join z (i + j)
             (value_at left.now (2 * j) p.n) (value_at left.now (2 * j + 1) p.n) }
-        ensures high { let p = params self.now.seeds.set in let sk = self.now.seeds.sk_seed.now in
-            (pk : List ℕ) → IsSeededTreeLanes lanes.now p pk → length pk ≡ p.n
+        ensures high { let p = params self.now.seeds.set in let sk_seed = self.now.seeds.sk_seed.now in
+            (pk_seed : List ℕ) → IsSeededTreeLanes lanes.now p pk_seed → length pk_seed ≡ p.n
             → (j : ℕ) → j < 4 → value_at result (j + 4) p.n
-            ≡ (fors_tree p sk pk self.now.idx_tree self.now.idx_leaf self.now.tree_no).join z (i + (j + 4))
+            ≡ (fors_tree p sk_seed pk_seed self.now.idx_tree self.now.idx_leaf self.now.tree_no).join z (i + (j + 4))
             (value_at right.now (2 * j) p.n) (value_at right.now (2 * j + 1) p.n) }
     {
         lanes.h(
@@ -43,13 +44,14 @@ impl<'a> ForsTree<'a> {
         )
     }
 
-    /// The eight nodes of height `z` from index `i` on (Algorithm 15).
+    /// The eight nodes of height `z` from index `i` on, as fors_node makes each (Algorithm 15).
     fn eight_nodes(&self, lanes: &SeededTreeLanes, z: u32, i: u32) -> LaneNodes
         requires height { z ≤ (params self.now.seeds.set).a }
         requires within { i + 8 ≤ 2 ^ ((params self.now.seeds.set).a - z) }
-        ensures { let p = params self.now.seeds.set in let sk = self.now.seeds.sk_seed.now in
-            (pk : List ℕ) → IsSeededTreeLanes lanes.now p pk → length pk ≡ p.n → (j : ℕ) → j < 8 → value_at result j p.n
-            ≡ node (fors_tree p sk pk self.now.idx_tree self.now.idx_leaf self.now.tree_no) z (i + j) }
+        ensures { let p = params self.now.seeds.set in let sk_seed = self.now.seeds.sk_seed.now in
+            (pk_seed : List ℕ) → IsSeededTreeLanes lanes.now p pk_seed → length pk_seed ≡ p.n → (j : ℕ) → j < 8
+            → value_at result j p.n
+            ≡ node (fors_tree p sk_seed pk_seed self.now.idx_tree self.now.idx_leaf self.now.tree_no) z (i + j) }
     {
         if z == 0 {
             self.leaf_lanes(lanes.lanes(), i)
@@ -65,9 +67,9 @@ impl<'a> ForsTree<'a> {
         requires low { 3 ≤ z }
         requires height { z ≤ (params self.now.seeds.set).a }
         requires index { i < 2 ^ ((params self.now.seeds.set).a - z) }
-        ensures { let p = params self.now.seeds.set in let sk = self.now.seeds.sk_seed.now in
-            (pk : List ℕ) → IsSeededTreeLanes lanes.now p pk → length pk ≡ p.n → result.items
-            ≡ node (fors_tree p sk pk self.now.idx_tree self.now.idx_leaf self.now.tree_no) z i }
+        ensures { let p = params self.now.seeds.set in let sk_seed = self.now.seeds.sk_seed.now in
+            (pk_seed : List ℕ) → IsSeededTreeLanes lanes.now p pk_seed → length pk_seed ≡ p.n → result.items
+            ≡ node (fors_tree p sk_seed pk_seed self.now.idx_tree self.now.idx_leaf self.now.tree_no) z i }
     {
         let eight = self.eight_nodes(lanes, z - 3, 8 * i);
         let four = self.join_lanes(lanes, z - 2, 4 * i, &eight, &eight);
@@ -81,7 +83,8 @@ impl<'a> ForsTree<'a> {
 const EIGHT_NODES: u32 = 3;
 
 impl<'s, 'h> SeededForsTree<'s, 'h> {
-    /// The node of height `z` at index `i`, made from its own leaves alone: where PK.seed has n bytes, in lanes.
+    /// fors_node (Algorithm 15): the node of height `z` at index `i`, from its own leaves alone. Where PK.seed has n
+    /// bytes it is made in lanes.
     #[tactic(auto, unfolding(crate::specs::Trees::fors_tree_of))]
     pub(crate) fn node(&self, lanes: &SeededTreeLanes, z: u32, i: u32) -> Node
         requires lanes { IsSeededTreeLanes lanes.now (params self.now.tree.seeds.set) self.now.tree.seeds.pk_seed.now }
@@ -93,7 +96,7 @@ impl<'s, 'h> SeededForsTree<'s, 'h> {
         if EIGHT_NODES <= z && seeds.pk_seed.len() == seeds.set.n() {
             self.tree.node_from_lanes(lanes, z, i)
         } else {
-            node_over(self, z, i)
+            node(self, z, i)
         }
     }
 

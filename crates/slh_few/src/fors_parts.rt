@@ -36,9 +36,9 @@ pub fn fors_indices(set: ParamSet, md: &[u8]) -> [u32; MOST_TREES]
 pub fn fors_secret(seeds: &Seeds, idx_tree: u64, idx_leaf: u32, tree_no: u32, i: u32) -> Node
     requires tree { tree_no < (params seeds.now.set).k }
     requires leaf { i < 2 ^ (params seeds.now.set).a }
-    ensures value { let p = params seeds.now.set in let sk = seeds.now.sk_seed.now in
-        let pk = seeds.now.pk_seed.now in
-        result.items ≡ fors_secret p sk pk idx_tree idx_leaf (tree_no * 2 ^ p.a + i) }
+    ensures value { let p = params seeds.now.set in let sk_seed = seeds.now.sk_seed.now in
+        let pk_seed = seeds.now.pk_seed.now in
+        result.items ≡ fors_secret p sk_seed pk_seed idx_tree idx_leaf (tree_no * 2 ^ p.a + i) }
     ensures len { length result.items ≡ (params seeds.now.set).n }
 {
     let seeded = SeededHash::new(seeds.set, seeds.pk_seed);

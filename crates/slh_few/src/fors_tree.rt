@@ -66,9 +66,9 @@ impl<'a> ForsTree<'a> {
     #[tactic(auto, unfolding(crate::specs::Trees::fors_tree_of))]
     pub fn new(seeds: &Seeds<'a>, idx_tree: u64, idx_leaf: u32, tree_no: u32) -> Self
         requires { tree_no < (params seeds.now.set).k }
-        ensures { let p = params seeds.now.set in let sk = seeds.now.sk_seed.now in
-            let pk = seeds.now.pk_seed.now in
-            fors_tree_of result ≡ fors_tree p sk pk idx_tree idx_leaf tree_no }
+        ensures { let p = params seeds.now.set in let sk_seed = seeds.now.sk_seed.now in
+            let pk_seed = seeds.now.pk_seed.now in
+            fors_tree_of result ≡ fors_tree p sk_seed pk_seed idx_tree idx_leaf tree_no }
     {
         Self::at(seeds, idx_tree, idx_leaf, tree_no)
     }
@@ -92,12 +92,12 @@ impl<'a> ForsTree<'a> {
     /// The secret of leaf `i` (Algorithm 14).
     pub(crate) fn secret(&self, seeded: &SeededHash, i: u32) -> Node
         requires { i < 2 ^ (params self.now.seeds.set).a }
-        ensures value { let p = params self.now.seeds.set in let sk = self.now.seeds.sk_seed.now in
-            (pk : List ℕ) → IsSeeded seeded.now p pk → result.items
-            ≡ fors_secret p sk pk self.now.idx_tree self.now.idx_leaf
+        ensures value { let p = params self.now.seeds.set in let sk_seed = self.now.seeds.sk_seed.now in
+            (pk_seed : List ℕ) → IsSeeded seeded.now p pk_seed → result.items
+            ≡ fors_secret p sk_seed pk_seed self.now.idx_tree self.now.idx_leaf
             (self.now.tree_no * 2 ^ p.a + i) }
         ensures len { let p = params self.now.seeds.set in
-            (pk : List ℕ) → IsSeeded seeded.now p pk → length result.items ≡ p.n }
+            (pk_seed : List ℕ) → IsSeeded seeded.now p pk_seed → length result.items ≡ p.n }
     {
         let index = index_in_forest(self.tree_no, self.seeds.set.a(), i);
         seeded.prf(
@@ -109,9 +109,9 @@ impl<'a> ForsTree<'a> {
     /// Leaf `i`: F of its secret.
     fn leaf_from(&self, seeded: &SeededHash, i: u32) -> Node
         requires { i < 2 ^ (params self.now.seeds.set).a }
-        ensures { let p = params self.now.seeds.set in let sk = self.now.seeds.sk_seed.now in
-            (pk : List ℕ) → IsSeeded seeded.now p pk → result.items
-            ≡ (fors_tree p sk pk self.now.idx_tree self.now.idx_leaf self.now.tree_no).leaf i }
+        ensures { let p = params self.now.seeds.set in let sk_seed = self.now.seeds.sk_seed.now in
+            (pk_seed : List ℕ) → IsSeeded seeded.now p pk_seed → result.items
+            ≡ (fors_tree p sk_seed pk_seed self.now.idx_tree self.now.idx_leaf self.now.tree_no).leaf i }
     {
         let index = index_in_forest(self.tree_no, self.seeds.set.a(), i);
         let adrs = fors_adrs(self.idx_tree, self.idx_leaf, AdrsType::ForsTree, 0, index);
@@ -124,9 +124,9 @@ impl<'a> ForsTree<'a> {
         requires few { count ≤ 8 }
         requires within { first + count ≤ 2 ^ (params self.now.seeds.set).a }
         ensures len { length result.items ≡ count }
-        ensures leaves { let p = params self.now.seeds.set in let sk = self.now.seeds.sk_seed.now in
-            (pk : List ℕ) → IsSeededLanes lanes.now p pk
-            → AreLeavesFrom (fors_tree p sk pk self.now.idx_tree self.now.idx_leaf self.now.tree_no)
+        ensures leaves { let p = params self.now.seeds.set in let sk_seed = self.now.seeds.sk_seed.now in
+            (pk_seed : List ℕ) → IsSeededLanes lanes.now p pk_seed
+            → AreLeavesFrom (fors_tree p sk_seed pk_seed self.now.idx_tree self.now.idx_leaf self.now.tree_no)
             first result.items }
     {
         let leaves = self.leaf_lanes(lanes, first);
@@ -136,9 +136,9 @@ impl<'a> ForsTree<'a> {
     /// The leaves from `first` on, one in each lane: F of their secrets.
     pub(crate) fn leaf_lanes(&self, lanes: &SeededLanes, first: u32) -> LaneNodes
         requires { first < 2 ^ (params self.now.seeds.set).a }
-        ensures { let p = params self.now.seeds.set in let sk = self.now.seeds.sk_seed.now in
-            (pk : List ℕ) → IsSeededLanes lanes.now p pk → (j : ℕ) → j < 8 → value_at result j p.n
-            ≡ (fors_tree p sk pk self.now.idx_tree self.now.idx_leaf self.now.tree_no).leaf (first + j) }
+        ensures { let p = params self.now.seeds.set in let sk_seed = self.now.seeds.sk_seed.now in
+            (pk_seed : List ℕ) → IsSeededLanes lanes.now p pk_seed → (j : ℕ) → j < 8 → value_at result j p.n
+            ≡ (fors_tree p sk_seed pk_seed self.now.idx_tree self.now.idx_leaf self.now.tree_no).leaf (first + j) }
     {
         let secrets = lanes.prf(
             self.seeds.sk_seed,
@@ -165,9 +165,9 @@ impl<'a> ForsTree<'a> {
     fn join_from(&self, seeded: &SeededTreeHash, z: u32, i: u32, l: &Node, r: &Node) -> Node
         requires height { z ≤ (params self.now.seeds.set).a }
         requires index { i < 2 ^ ((params self.now.seeds.set).a - z) }
-        ensures { let p = params self.now.seeds.set in let sk = self.now.seeds.sk_seed.now in
-            (pk : List ℕ) → IsSeededTree seeded.now p pk → result.items
-            ≡ (fors_tree p sk pk self.now.idx_tree self.now.idx_leaf self.now.tree_no).join z i
+        ensures { let p = params self.now.seeds.set in let sk_seed = self.now.seeds.sk_seed.now in
+            (pk_seed : List ℕ) → IsSeededTree seeded.now p pk_seed → result.items
+            ≡ (fors_tree p sk_seed pk_seed self.now.idx_tree self.now.idx_leaf self.now.tree_no).join z i
             l.now.items r.now.items }
     {
         let index = index_in_forest(self.tree_no, self.seeds.set.a() - z, i);

@@ -81,10 +81,10 @@ fn put_layer(seeds: &Seeds, at: Place, msg: &Node, out: &mut [u8], start: usize)
     requires pair { at.pair < 2 ^ (params seeds.now.set).hp }
     requires msg { length msg.now.items ≡ (params seeds.now.set).n }
     requires out { start + xmss_sig_len (params seeds.now.set) ≤ length out.old }
-    ensures { let p = params seeds.now.set in let sk = seeds.now.sk_seed.now in
-        let pk = seeds.now.pk_seed.now in
+    ensures { let p = params seeds.now.set in let sk_seed = seeds.now.sk_seed.now in
+        let pk_seed = seeds.now.pk_seed.now in
         take (start + xmss_sig_len p) out.new ≡ take start out.old
-        ++ xmss_sig p sk pk at msg.now.items }
+        ++ xmss_sig p sk_seed pk_seed at msg.now.items }
 {
     let end = start + xmss_sig_len(seeds.set);
     xmss_sign(seeds, at, msg, &mut out[start..end]);
@@ -96,13 +96,13 @@ fn sign_layer(seeds: &Seeds, at: Place, msg: &Node, out: &mut [u8], start: usize
     requires pair { at.pair < 2 ^ (params seeds.now.set).hp }
     requires msg { length msg.now.items ≡ (params seeds.now.set).n }
     requires out { start + xmss_sig_len (params seeds.now.set) ≤ length out.old }
-    ensures written { let p = params seeds.now.set in let sk = seeds.now.sk_seed.now in
-        let pk = seeds.now.pk_seed.now in
+    ensures written { let p = params seeds.now.set in let sk_seed = seeds.now.sk_seed.now in
+        let pk_seed = seeds.now.pk_seed.now in
         take (start + xmss_sig_len p) out.new ≡ take start out.old
-        ++ xmss_sig p sk pk at msg.now.items }
-    ensures root { let p = params seeds.now.set in let sk = seeds.now.sk_seed.now in
-        let pk = seeds.now.pk_seed.now in
-        result.items ≡ xmss_pk_from_sig p pk at msg.now.items (xmss_sig p sk pk at msg.now.items) }
+        ++ xmss_sig p sk_seed pk_seed at msg.now.items }
+    ensures root { let p = params seeds.now.set in let sk_seed = seeds.now.sk_seed.now in
+        let pk_seed = seeds.now.pk_seed.now in
+        result.items ≡ xmss_pk_from_sig p pk_seed at msg.now.items (xmss_sig p sk_seed pk_seed at msg.now.items) }
     ensures len { length result.items ≡ (params seeds.now.set).n }
 {
     let end = start + xmss_sig_len(seeds.set);
@@ -121,13 +121,13 @@ pub fn ht_sign(seeds: &Seeds, idx_tree: u64, idx_leaf: u32, msg: &Node, out: &mu
     requires leaf { idx_leaf < 2 ^ (params seeds.now.set).hp }
     requires msg { length msg.now.items ≡ (params seeds.now.set).n }
     requires out { length out.old ≡ (params seeds.now.set).d * xmss_sig_len (params seeds.now.set) }
-    ensures signature { let p = params seeds.now.set in let sk = seeds.now.sk_seed.now in
-        let pk = seeds.now.pk_seed.now in
-        out.new ≡ ht_sig p sk pk msg.now.items idx_tree idx_leaf }
-    ensures key { let p = params seeds.now.set in let sk = seeds.now.sk_seed.now in
-        let pk = seeds.now.pk_seed.now in
-        ht_root_from_sig p pk msg.now.items idx_tree idx_leaf out.new
-        ≡ root_of (xmss_tree p sk pk (p.d - 1) 0) }
+    ensures signature { let p = params seeds.now.set in let sk_seed = seeds.now.sk_seed.now in
+        let pk_seed = seeds.now.pk_seed.now in
+        out.new ≡ ht_sig p sk_seed pk_seed msg.now.items idx_tree idx_leaf }
+    ensures key { let p = params seeds.now.set in let sk_seed = seeds.now.sk_seed.now in
+        let pk_seed = seeds.now.pk_seed.now in
+        ht_root_from_sig p pk_seed msg.now.items idx_tree idx_leaf out.new
+        ≡ root_of (xmss_tree p sk_seed pk_seed (p.d - 1) 0) }
 {
     let size = xmss_sig_len(seeds.set);
     let top = seeds.set.d() as u8 - 1;
@@ -152,8 +152,8 @@ fn root_from(public: &Public, at: Place, msg: &Node, sig: &[u8], layer: usize) -
     requires layer { layer < 256 }
     requires sig { let p = params public.now.set in
         layer * xmss_sig_len p + xmss_sig_len p ≤ length sig.now }
-    ensures value { let p = params public.now.set in let pk = public.now.pk_seed.now in
-        result.items ≡ xmss_pk_from_sig p pk at msg.now.items (part (xmss_sig_len p) sig.now layer) }
+    ensures value { let p = params public.now.set in let pk_seed = public.now.pk_seed.now in
+        result.items ≡ xmss_pk_from_sig p pk_seed at msg.now.items (part (xmss_sig_len p) sig.now layer) }
     ensures len { length result.items ≡ (params public.now.set).n }
 {
     let size = xmss_sig_len(public.set);
@@ -167,8 +167,8 @@ fn ht_root_from_sig(public: &Public, idx_tree: u64, idx_leaf: u32, msg: &Node, s
     requires msg { length msg.now.items ≡ (params public.now.set).n }
     requires sig { let p = params public.now.set in
         length sig.now ≡ p.d * xmss_sig_len p }
-    ensures { let p = params public.now.set in let pk = public.now.pk_seed.now in
-        result.items ≡ ht_root_from_sig p pk msg.now.items idx_tree idx_leaf sig.now }
+    ensures { let p = params public.now.set in let pk_seed = public.now.pk_seed.now in
+        result.items ≡ ht_root_from_sig p pk_seed msg.now.items idx_tree idx_leaf sig.now }
 {
     let mut at = Place {
         layer: 0,
@@ -197,8 +197,8 @@ pub fn ht_verify(
     requires msg { length msg.now.items ≡ (params public.now.set).n }
     requires sig { let p = params public.now.set in
         length sig.now ≡ p.d * xmss_sig_len p }
-    ensures { let p = params public.now.set in let pk = public.now.pk_seed.now in
-        IsTrue result ↔ ht_root_from_sig p pk msg.now.items idx_tree idx_leaf sig.now ≡ root.now }
+    ensures { let p = params public.now.set in let pk_seed = public.now.pk_seed.now in
+        IsTrue result ↔ ht_root_from_sig p pk_seed msg.now.items idx_tree idx_leaf sig.now ≡ root.now }
 {
     let node = ht_root_from_sig(public, idx_tree, idx_leaf, msg, sig);
     node.as_slice() == root

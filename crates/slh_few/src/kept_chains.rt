@@ -8,11 +8,11 @@ ghost use Rattle.slh_few.specs.Parts.{part};
 ghost use Rattle.slh_few.specs.Wots.{whole_chain, wots_pk, wots_sig};
 ghost use Rattle.slh_few.specs.KeptChains.{spacing as spacing_of, kept_count as kept_count_of, kept_chain_len as chain_len, kept_chains_len as chains_len, kept_value, kept_chain, kept_chains, run_from_kept, wots_sig_from};
 
-use crate::base_w::digits_of;
 use crate::chain_lanes::{put_lanes, run_lanes, secret_lanes};
 use crate::nodes::{node_at, part_at, put_part};
 use crate::place::{Place, Public, Seeds};
 use crate::wots::{MOST_VALUES, compressed_ends, run_chain, wots_sig_len};
+use crate::wots_digits::digits_of;
 use slh_hash::SeededHash;
 use slh_lanes::{LaneNodes, SeededLanes, Words, consecutive, lane_node};
 use slh_params::{Node, ParamSet, put_node};
@@ -139,13 +139,13 @@ fn keep_chains(
 #[tactic(auto, using(crate::proofs::Checksum::chain_bounds))]
 pub fn wots_pk_keeping(seeds: &Seeds, at: Place, kept: &mut [u8]) -> Node
     requires { length kept.old ≡ chains_len (params seeds.now.set) }
-    ensures value { let p = params seeds.now.set in let sk = seeds.now.sk_seed.now in
-        let pk = seeds.now.pk_seed.now in
-        result.items ≡ wots_pk p sk pk at }
+    ensures value { let p = params seeds.now.set in let sk_seed = seeds.now.sk_seed.now in
+        let pk_seed = seeds.now.pk_seed.now in
+        result.items ≡ wots_pk p sk_seed pk_seed at }
     ensures len { length result.items ≡ (params seeds.now.set).n }
-    ensures kept { let p = params seeds.now.set in let sk = seeds.now.sk_seed.now in
-        let pk = seeds.now.pk_seed.now in
-        kept.new ≡ kept_chains p sk pk at }
+    ensures kept { let p = params seeds.now.set in let sk_seed = seeds.now.sk_seed.now in
+        let pk_seed = seeds.now.pk_seed.now in
+        kept.new ≡ kept_chains p sk_seed pk_seed at }
 {
     let lanes = SeededLanes::new(seeds.set, seeds.pk_seed);
     let mut buffer = [0; MOST_VALUES];
@@ -195,9 +195,9 @@ pub fn wots_sign_kept(seeds: &Seeds, at: Place, msg: &Node, kept: &[u8], out: &m
     requires kept { length kept.now ≡ chains_len (params seeds.now.set) }
     requires out { length out.old ≡ len (params seeds.now.set) * (params seeds.now.set).n }
     ensures value { out.new ≡ wots_sig_from (params seeds.now.set) seeds.now.pk_seed.now at kept.now msg.now.items }
-    ensures signature { let p = params seeds.now.set in let sk = seeds.now.sk_seed.now in
-        let pk = seeds.now.pk_seed.now in
-        kept.now ≡ kept_chains p sk pk at → out.new ≡ wots_sig p sk pk at msg.now.items }
+    ensures signature { let p = params seeds.now.set in let sk_seed = seeds.now.sk_seed.now in
+        let pk_seed = seeds.now.pk_seed.now in
+        kept.now ≡ kept_chains p sk_seed pk_seed at → out.new ≡ wots_sig p sk_seed pk_seed at msg.now.items }
 {
     let seeded = SeededHash::new(seeds.set, seeds.pk_seed);
     let digits = digits_of(seeds.set, msg);

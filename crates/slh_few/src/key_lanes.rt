@@ -16,11 +16,11 @@ ghost use Rattle.slh_few.specs.Parts.{part};
 ghost use Rattle.slh_few.specs.Wots.{wots_address, chain as chain_of, secret, whole_chain, wots_sig};
 ghost use Rattle.slh_few.specs.Xmss.{AreKeysFrom, place};
 
-use crate::base_w::digits_of;
 use crate::kept_chains::{kept_count, put_value, spacing};
 use crate::nodes::{first_nodes, put_part};
 use crate::place::{Place, Seeds};
 use crate::wots::{wots_adrs, wots_pk};
+use crate::wots_digits::digits_of;
 use slh_hash::{SeededTreeHash, TStream};
 use slh_lanes::{
     LaneAdrs, LaneNodes, LaneStream, SeededLanes, SeededTreeLanes, adrs_lanes, consecutive,
@@ -67,8 +67,8 @@ fn chain_ends(lanes: &SeededLanes, seeds: &Seeds, at: Place, c: u32) -> LaneNode
 /// T at the address of the key `j` leaves after this place, before any end.
 fn key_stream(seeded: &SeededTreeHash, at: Place, j: u32) -> TStream
     requires { at.pair + j < 2 ^ 32 }
-    ensures { (p : Params) (pk : List ℕ) → IsSeededTree seeded.now p pk
-        → HasAbsorbed result p pk (wots_address (place at.layer at.tree (at.pair + j)) WOTS_PK 0 0) [] }
+    ensures { (p : Params) (pk_seed : List ℕ) → IsSeededTree seeded.now p pk_seed
+        → HasAbsorbed result p pk_seed (wots_address (place at.layer at.tree (at.pair + j)) WOTS_PK 0 0) [] }
 {
     let key = Place {
         layer: at.layer,
@@ -125,9 +125,9 @@ fn key_streams(seeds: &Seeds, at: Place) -> KeyStreams
 /// Adds to each T of eight the value of n bytes in its lane.
 fn absorb_alone(streams: &mut [TStream; 8], nodes: &LaneNodes, n: usize)
     requires { n ≤ 32 }
-    ensures { (p : Params) (pk : List ℕ) (a : Address) (x : List ℕ) (j : ℕ) (d : TStream) → j < 8
-        → HasAbsorbed (slice_index_or streams.old j d) p pk a x
-        → HasAbsorbed (slice_index_or streams.new j d) p pk a (x ++ value_at nodes.now j n) }
+    ensures { (p : Params) (pk_seed : List ℕ) (a : Address) (x : List ℕ) (j : ℕ) (d : TStream) → j < 8
+        → HasAbsorbed (slice_index_or streams.old j d) p pk_seed a x
+        → HasAbsorbed (slice_index_or streams.new j d) p pk_seed a (x ++ value_at nodes.now j n) }
 {
     for j in 0..8 {
         streams[j].absorb(&lane_node(nodes, j, n));
@@ -137,8 +137,9 @@ fn absorb_alone(streams: &mut [TStream; 8], nodes: &LaneNodes, n: usize)
 /// Adds to each key's T the value of n bytes in its lane.
 fn absorb_lanes(streams: &mut KeyStreams, nodes: &LaneNodes, n: usize)
     requires { n ≤ 32 }
-    ensures { (p : Params) (pk : List ℕ) (a : Address) (x : List ℕ) (j : ℕ) → j < 8 → p.n ≡ n
-        → HasAbsorbedKey streams.old j p pk a x → HasAbsorbedKey streams.new j p pk a (x ++ value_at nodes.now j n) }
+    ensures { (p : Params) (pk_seed : List ℕ) (a : Address) (x : List ℕ) (j : ℕ) → j < 8 → p.n ≡ n
+        → HasAbsorbedKey streams.old j p pk_seed a x
+        → HasAbsorbedKey streams.new j p pk_seed a (x ++ value_at nodes.now j n) }
 {
     match streams {
         KeyStreams::Lanes(stream) => stream.absorb(nodes),
@@ -149,9 +150,9 @@ fn absorb_lanes(streams: &mut KeyStreams, nodes: &LaneNodes, n: usize)
 /// T of what each of eight absorbed.
 fn finished_alone(streams: [TStream; 8]) -> Leaves
     ensures len { length result.items ≡ 8 }
-    ensures values { (p : Params) (pk : List ℕ) (a : Address) (x : List ℕ) (j : ℕ) (e : ArrayVec ℕ) → j < 8
-        → ((d : TStream) → HasAbsorbed (slice_index_or streams j d) p pk a x)
-        → (slice_index_or result.items j e).items ≡ T p pk a x }
+    ensures values { (p : Params) (pk_seed : List ℕ) (a : Address) (x : List ℕ) (j : ℕ) (e : ArrayVec ℕ) → j < 8
+        → ((d : TStream) → HasAbsorbed (slice_index_or streams j d) p pk_seed a x)
+        → (slice_index_or result.items j e).items ≡ T p pk_seed a x }
 {
     let [a, b, c, d, e, f, g, h] = streams;
     Leaves::from([
@@ -169,8 +170,9 @@ fn finished_alone(streams: [TStream; 8]) -> Leaves
 /// T of what each key's absorbed, of less than 2^28 bytes.
 fn finished(streams: KeyStreams) -> Leaves
     ensures len { length result.items ≡ 8 }
-    ensures values { (p : Params) (pk : List ℕ) (a : Address) (x : List ℕ) (j : ℕ) (e : ArrayVec ℕ) → j < 8
-        → HasAbsorbedKey streams j p pk a x → length x < 2 ^ 28 → (slice_index_or result.items j e).items ≡ T p pk a x }
+    ensures values { (p : Params) (pk_seed : List ℕ) (a : Address) (x : List ℕ) (j : ℕ) (e : ArrayVec ℕ) → j < 8
+        → HasAbsorbedKey streams j p pk_seed a x → length x < 2 ^ 28
+        → (slice_index_or result.items j e).items ≡ T p pk_seed a x }
 {
     match streams {
         KeyStreams::Lanes(stream) => first_nodes(&stream.finish(), stream.set().n(), 8),
@@ -211,9 +213,10 @@ fn chain_ends_signing(
     requires out { c * (params seeds.now.set).n + (params seeds.now.set).n ≤ length out.old }
     ensures ends { let p = params seeds.now.set in (j : ℕ) → j < 8 → value_at result j p.n
         ≡ whole_chain p seeds.now.sk_seed.now seeds.now.pk_seed.now (place at.layer at.tree (at.pair + j)) c }
-    ensures set { let p = params seeds.now.set in let sk = seeds.now.sk_seed.now in let pk = seeds.now.pk_seed.now in
+    ensures set { let p = params seeds.now.set in let sk_seed = seeds.now.sk_seed.now in
+        let pk_seed = seeds.now.pk_seed.now in
         let key = place at.layer at.tree (at.pair + lane) in
-        part p.n out.new c ≡ chain_of p pk key c (secret p sk pk key c) 0 steps }
+        part p.n out.new c ≡ chain_of p pk_seed key c (secret p sk_seed pk_seed key c) 0 steps }
     ensures others { (i : ℕ) → i ≢ c → part (params seeds.now.set).n out.new i
         ≡ part (params seeds.now.set).n out.old i }
 {
@@ -244,9 +247,9 @@ pub(crate) fn first_of_eight(at: Place) -> Place
 pub(crate) fn sign_among_eight(seeds: &Seeds, at: Place, msg: &Node, out: &mut [u8]) -> Leaves
     requires msg { length msg.now.items ≡ (params seeds.now.set).n }
     requires out { length out.old ≡ len (params seeds.now.set) * (params seeds.now.set).n }
-    ensures signature { let p = params seeds.now.set in let sk = seeds.now.sk_seed.now in
-        let pk = seeds.now.pk_seed.now in
-        out.new ≡ wots_sig p sk pk at msg.now.items }
+    ensures signature { let p = params seeds.now.set in let sk_seed = seeds.now.sk_seed.now in
+        let pk_seed = seeds.now.pk_seed.now in
+        out.new ≡ wots_sig p sk_seed pk_seed at msg.now.items }
     ensures len { length result.items ≡ 8 }
     ensures keys { AreKeysFrom (params seeds.now.set) seeds.now.sk_seed.now seeds.now.pk_seed.now
         (place at.layer at.tree (at.pair - at.pair % 8)) result.items }
@@ -280,8 +283,9 @@ fn chain_ends_keeping(
     requires kept { length kept.old ≡ chains_len (params seeds.now.set) }
     ensures ends { let p = params seeds.now.set in (j : ℕ) → j < 8 → value_at result j p.n
         ≡ whole_chain p seeds.now.sk_seed.now seeds.now.pk_seed.now (place at.layer at.tree (at.pair + j)) c }
-    ensures kept { let p = params seeds.now.set in let sk = seeds.now.sk_seed.now in let pk = seeds.now.pk_seed.now in
-        part (chain_len p) kept.new c ≡ kept_chain p sk pk (place at.layer at.tree (at.pair + lane)) c }
+    ensures kept { let p = params seeds.now.set in let sk_seed = seeds.now.sk_seed.now in
+        let pk_seed = seeds.now.pk_seed.now in
+        part (chain_len p) kept.new c ≡ kept_chain p sk_seed pk_seed (place at.layer at.tree (at.pair + lane)) c }
     ensures others { (i : ℕ) → i ≢ c → part (chain_len (params seeds.now.set)) kept.new i
         ≡ part (chain_len (params seeds.now.set)) kept.old i }
 {
@@ -309,9 +313,9 @@ pub(crate) fn eight_pks_keeping(seeds: &Seeds, at: Place, kept: &mut [u8]) -> Le
     ensures len { length result.items ≡ 8 }
     ensures keys { AreKeysFrom (params seeds.now.set) seeds.now.sk_seed.now seeds.now.pk_seed.now
         (place at.layer at.tree (at.pair - at.pair % 8)) result.items }
-    ensures kept { let p = params seeds.now.set in let sk = seeds.now.sk_seed.now in
-        let pk = seeds.now.pk_seed.now in
-        kept.new ≡ kept_chains p sk pk at }
+    ensures kept { let p = params seeds.now.set in let sk_seed = seeds.now.sk_seed.now in
+        let pk_seed = seeds.now.pk_seed.now in
+        kept.new ≡ kept_chains p sk_seed pk_seed at }
 {
     let first = first_of_eight(at);
     let lane = (at.pair % 8) as usize;

@@ -4,7 +4,6 @@
 //! A hash state is made within one call and dropped at its end.
 #![tactic(auto, using(slh_params::proofs::Bounds::bounds))]
 
-mod base_w;
 mod chain_lanes;
 mod chain_order;
 mod fors;
@@ -21,10 +20,10 @@ mod path_bytes;
 mod place;
 mod ranges;
 mod wots;
+mod wots_digits;
 mod xmss;
 
-pub use base_w::digits;
-pub use fors::{fors_part_len, fors_pk_from_sig, fors_root_from_sig, fors_sign};
+pub use fors::{fors_node, fors_part_len, fors_pk_from_sig, fors_root_from_sig, fors_sign};
 pub use fors_parts::{MOST_TREES, fors_indices, fors_roots, fors_secret};
 pub use fors_tree::ForsTree;
 pub use hypertree::{MOST_LAYERS, ht_sign, ht_verify, layer_place, layer_places, xmss_sig_len};
@@ -33,4 +32,5 @@ pub use path_bytes::put_path;
 pub use place::{Place, Public, Seeds};
 pub use ranges::{fors_range, xmss_range, xmss_range_keeping};
 pub use wots::{chain, wots_pk, wots_pk_from_sig, wots_sig_len, wots_sign};
-pub use xmss::{XmssTree, xmss_pk_from_sig, xmss_sign};
+pub use wots_digits::digits;
+pub use xmss::{XmssTree, xmss_node, xmss_pk_from_sig, xmss_sign};

@@ -26,16 +26,16 @@ pub fn xmss_range(seeds: &Seeds, layer: u8, tree: u64, lo: u32, hi: u32, rec: &m
     requires order { lo < hi }
     requires within { hi ≤ 2 ^ (params seeds.now.set).hp }
     requires same_height { rec.old.height ≡ (params seeds.now.set).hp }
-    ensures cover { let p = params seeds.now.set in let sk = seeds.now.sk_seed.now in
-        let pk = seeds.now.pk_seed.now in
-        IsCover (xmss_tree p sk pk layer tree) lo hi result.nodes.items }
+    ensures cover { let p = params seeds.now.set in let sk_seed = seeds.now.sk_seed.now in
+        let pk_seed = seeds.now.pk_seed.now in
+        IsCover (xmss_tree p sk_seed pk_seed layer tree) lo hi result.nodes.items }
     ensures lo { result.lo ≡ lo }
     ensures hi { result.hi ≡ hi }
     ensures block { (z i : ℕ) → lo ≡ first_leaf z i → hi ≡ past_leaf z i
         → (p : Placed) × (result.nodes.items ≡ p ∷ []) × (p.z ≡ z) × (p.i ≡ i) }
-    ensures gained { let p = params seeds.now.set in let sk = seeds.now.sk_seed.now in
-        let pk = seeds.now.pk_seed.now in
-        Gains (xmss_tree p sk pk layer tree) (LiesInRange lo hi rec.old.leaf) rec.old rec.new }
+    ensures gained { let p = params seeds.now.set in let sk_seed = seeds.now.sk_seed.now in
+        let pk_seed = seeds.now.pk_seed.now in
+        Gains (xmss_tree p sk_seed pk_seed layer tree) (LiesInRange lo hi rec.old.leaf) rec.old rec.new }
 {
     hash_range(&SeededXmssTree::new(seeds, layer, tree), lo, hi, rec)
 }
@@ -57,12 +57,12 @@ fn tree_keeping<'a>(
     kept: &mut [u8],
 ) -> KnownLeavesTree<'a>
     requires { length kept.old ≡ kept_chains_len (params seeds.now.set) }
-    ensures tree { let p = params seeds.now.set in let sk = seeds.now.sk_seed.now in
-        let pk = seeds.now.pk_seed.now in
-        xmss_tree_of result.tree.tree ≡ xmss_tree p sk pk at.layer at.tree }
-    ensures kept { let p = params seeds.now.set in let sk = seeds.now.sk_seed.now in
-        let pk = seeds.now.pk_seed.now in
-        kept.new ≡ kept_chains p sk pk at }
+    ensures tree { let p = params seeds.now.set in let sk_seed = seeds.now.sk_seed.now in
+        let pk_seed = seeds.now.pk_seed.now in
+        xmss_tree_of result.tree.tree ≡ xmss_tree p sk_seed pk_seed at.layer at.tree }
+    ensures kept { let p = params seeds.now.set in let sk_seed = seeds.now.sk_seed.now in
+        let pk_seed = seeds.now.pk_seed.now in
+        kept.new ≡ kept_chains p sk_seed pk_seed at }
 {
     if has_eight_in_range(at, lo, hi) {
         let group = eight_pks_keeping(seeds, at, kept);
@@ -88,19 +88,19 @@ pub fn xmss_range_keeping(
     requires within { hi ≤ 2 ^ (params seeds.now.set).hp }
     requires same_height { rec.old.height ≡ (params seeds.now.set).hp }
     requires kept { length kept.old ≡ kept_chains_len (params seeds.now.set) }
-    ensures cover { let p = params seeds.now.set in let sk = seeds.now.sk_seed.now in
-        let pk = seeds.now.pk_seed.now in
-        IsCover (xmss_tree p sk pk at.layer at.tree) lo hi result.nodes.items }
+    ensures cover { let p = params seeds.now.set in let sk_seed = seeds.now.sk_seed.now in
+        let pk_seed = seeds.now.pk_seed.now in
+        IsCover (xmss_tree p sk_seed pk_seed at.layer at.tree) lo hi result.nodes.items }
     ensures lo { result.lo ≡ lo }
     ensures hi { result.hi ≡ hi }
     ensures block { (z i : ℕ) → lo ≡ first_leaf z i → hi ≡ past_leaf z i
         → (p : Placed) × (result.nodes.items ≡ p ∷ []) × (p.z ≡ z) × (p.i ≡ i) }
-    ensures gained { let p = params seeds.now.set in let sk = seeds.now.sk_seed.now in
-        let pk = seeds.now.pk_seed.now in
-        Gains (xmss_tree p sk pk at.layer at.tree) (LiesInRange lo hi rec.old.leaf) rec.old rec.new }
-    ensures kept { let p = params seeds.now.set in let sk = seeds.now.sk_seed.now in
-        let pk = seeds.now.pk_seed.now in
-        kept.new ≡ kept_chains p sk pk at }
+    ensures gained { let p = params seeds.now.set in let sk_seed = seeds.now.sk_seed.now in
+        let pk_seed = seeds.now.pk_seed.now in
+        Gains (xmss_tree p sk_seed pk_seed at.layer at.tree) (LiesInRange lo hi rec.old.leaf) rec.old rec.new }
+    ensures kept { let p = params seeds.now.set in let sk_seed = seeds.now.sk_seed.now in
+        let pk_seed = seeds.now.pk_seed.now in
+        kept.new ≡ kept_chains p sk_seed pk_seed at }
 {
     hash_range(&tree_keeping(seeds, at, lo, hi, kept), lo, hi, rec)
 }
@@ -122,16 +122,16 @@ pub fn fors_range(
     requires order { lo < hi }
     requires within { hi ≤ 2 ^ (params seeds.now.set).a }
     requires same_height { rec.old.height ≡ (params seeds.now.set).a }
-    ensures cover { let p = params seeds.now.set in let sk = seeds.now.sk_seed.now in
-        let pk = seeds.now.pk_seed.now in
-        IsCover (fors_tree p sk pk idx_tree idx_leaf tree_no) lo hi result.nodes.items }
+    ensures cover { let p = params seeds.now.set in let sk_seed = seeds.now.sk_seed.now in
+        let pk_seed = seeds.now.pk_seed.now in
+        IsCover (fors_tree p sk_seed pk_seed idx_tree idx_leaf tree_no) lo hi result.nodes.items }
     ensures lo { result.lo ≡ lo }
     ensures hi { result.hi ≡ hi }
     ensures block { (z i : ℕ) → lo ≡ first_leaf z i → hi ≡ past_leaf z i
         → (p : Placed) × (result.nodes.items ≡ p ∷ []) × (p.z ≡ z) × (p.i ≡ i) }
-    ensures gained { let p = params seeds.now.set in let sk = seeds.now.sk_seed.now in
-        let pk = seeds.now.pk_seed.now in
-        Gains (fors_tree p sk pk idx_tree idx_leaf tree_no) (LiesInRange lo hi rec.old.leaf) rec.old rec.new }
+    ensures gained { let p = params seeds.now.set in let sk_seed = seeds.now.sk_seed.now in
+        let pk_seed = seeds.now.pk_seed.now in
+        Gains (fors_tree p sk_seed pk_seed idx_tree idx_leaf tree_no) (LiesInRange lo hi rec.old.leaf) rec.old rec.new }
 {
     let seeded = SeededHash::new(seeds.set, seeds.pk_seed);
     let lanes = SeededLanes::new(seeds.set, seeds.pk_seed);

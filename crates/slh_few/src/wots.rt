@@ -9,10 +9,10 @@ ghost use Rattle.slh_hash.specs.Seeded.{IsSeeded};
 ghost use Rattle.slh_few.specs.Wots.{wots_address, chain as chain_of, secret, whole_chain, wots_pk, wots_sig, wots_pk_from_sig};
 ghost use Rattle.slh_few.specs.Xmss.{wots_sig_len};
 
-use crate::base_w::{MOST_DIGITS, digits_of};
 use crate::chain_lanes::{ChainNumbers, run_secrets, run_values};
 use crate::nodes::node_at;
 use crate::place::{Place, Public, Seeds};
+use crate::wots_digits::{MOST_DIGITS, digits_of};
 use slh_hash::{SeededHash, TStream};
 use slh_params::{Adrs, AdrsType, Node, ParamSet, copy_of};
 
@@ -43,9 +43,9 @@ pub(crate) fn run_chain(
     steps: u32,
 ) -> Node
     requires { from + steps ≤ MOST_STEPS }
-    ensures value { (p : Params) (pk : List ℕ) → IsSeeded seeded.now p pk → result.items
-        ≡ chain_of p pk at c x.items from steps }
-    ensures len { (p : Params) (pk : List ℕ) → IsSeeded seeded.now p pk → length x.items ≡ p.n
+    ensures value { (p : Params) (pk_seed : List ℕ) → IsSeeded seeded.now p pk_seed → result.items
+        ≡ chain_of p pk_seed at c x.items from steps }
+    ensures len { (p : Params) (pk_seed : List ℕ) → IsSeeded seeded.now p pk_seed → length x.items ≡ p.n
         → length result.items ≡ p.n }
 {
     let mut adrs = wots_adrs(at, AdrsType::WotsHash, c, 0);
@@ -62,11 +62,11 @@ pub(crate) fn run_chain(
 #[tactic(auto, using(slh_params::proofs::Bounds::w_high))]
 pub fn chain(public: &Public, at: Place, chain_no: u32, x: &Node, from: u32, steps: u32) -> Node
     requires { from + steps ≤ w (params public.now.set) - 1 }
-    ensures value { let p = params public.now.set in let pk = public.now.pk_seed.now in
-        result.items ≡ chain_of p pk at chain_no x.now.items from steps }
-    ensures two_parts { let p = params public.now.set in let pk = public.now.pk_seed.now in
+    ensures value { let p = params public.now.set in let pk_seed = public.now.pk_seed.now in
+        result.items ≡ chain_of p pk_seed at chain_no x.now.items from steps }
+    ensures two_parts { let p = params public.now.set in let pk_seed = public.now.pk_seed.now in
         (first rest : ℕ) → first + rest ≡ steps → result.items
-        ≡ chain_of p pk at chain_no (chain_of p pk at chain_no x.now.items from first)
+        ≡ chain_of p pk_seed at chain_no (chain_of p pk_seed at chain_no x.now.items from first)
         (from + first) rest }
 {
     let seeded = SeededHash::new(public.set, public.pk_seed);
@@ -94,9 +94,9 @@ pub(crate) fn compressed_ends(public: &Public, at: Place, ends: &[u8]) -> Node
 /// The public key at a place: n bytes (Algorithm 6).
 #[tactic(auto, using(crate::proofs::Checksum::chain_bounds))]
 pub fn wots_pk(seeds: &Seeds, at: Place) -> Node
-    ensures value { let p = params seeds.now.set in let sk = seeds.now.sk_seed.now in
-        let pk = seeds.now.pk_seed.now in
-        result.items ≡ wots_pk p sk pk at }
+    ensures value { let p = params seeds.now.set in let sk_seed = seeds.now.sk_seed.now in
+        let pk_seed = seeds.now.pk_seed.now in
+        result.items ≡ wots_pk p sk_seed pk_seed at }
     ensures len { length result.items ≡ (params seeds.now.set).n }
 {
     let mut buffer = [0; MOST_VALUES];
@@ -124,9 +124,9 @@ pub fn wots_sig_len(set: ParamSet) -> usize
 pub fn wots_sign(seeds: &Seeds, at: Place, msg: &Node, out: &mut [u8])
     requires msg { length msg.now.items ≡ (params seeds.now.set).n }
     requires out { length out.old ≡ len (params seeds.now.set) * (params seeds.now.set).n }
-    ensures signature { let p = params seeds.now.set in let sk = seeds.now.sk_seed.now in
-        let pk = seeds.now.pk_seed.now in
-        out.new ≡ wots_sig p sk pk at msg.now.items }
+    ensures signature { let p = params seeds.now.set in let sk_seed = seeds.now.sk_seed.now in
+        let pk_seed = seeds.now.pk_seed.now in
+        out.new ≡ wots_sig p sk_seed pk_seed at msg.now.items }
     ensures key { wots_pk_from_sig (params seeds.now.set) seeds.now.pk_seed.now at msg.now.items out.new
         ≡ wots_pk (params seeds.now.set) seeds.now.sk_seed.now seeds.now.pk_seed.now at }
 {
@@ -154,8 +154,8 @@ fn steps_left(set: ParamSet, digits: &ChainNumbers) -> ChainNumbers
 pub fn wots_pk_from_sig(public: &Public, at: Place, msg: &Node, sig: &[u8]) -> Node
     requires msg { length msg.now.items ≡ (params public.now.set).n }
     requires sig { length sig.now ≡ len (params public.now.set) * (params public.now.set).n }
-    ensures value { let p = params public.now.set in let pk = public.now.pk_seed.now in
-        result.items ≡ wots_pk_from_sig p pk at msg.now.items sig.now }
+    ensures value { let p = params public.now.set in let pk_seed = public.now.pk_seed.now in
+        result.items ≡ wots_pk_from_sig p pk_seed at msg.now.items sig.now }
     ensures len { length result.items ≡ (params public.now.set).n }
 {
     let digits = digits_of(public.set, msg);

@@ -6,7 +6,8 @@ ghost use Rattle.slh_params.specs.Params.{len};
 ghost use Rattle.slh_params.specs.ParamSet.{params};
 ghost use Rattle.slh_hash.specs.Stream.{IsSeededTree};
 ghost use Rattle.slh_tree.specs.Leaves.{AreLeavesFrom};
-ghost use Rattle.slh_tree.specs.Tree.{root as root_of};
+ghost use Rattle.slh_tree.specs.Cover.{past_leaf};
+ghost use Rattle.slh_tree.specs.Tree.{node, root as root_of};
 ghost use Rattle.slh_few.specs.Trees.{xmss_tree_of};
 ghost use Rattle.slh_few.specs.Wots.{wots_pk};
 ghost use Rattle.slh_few.specs.Xmss.{AreKeysFrom, xmss_tree, xmss_sig, xmss_pk_from_sig, xmss_sig_len};
@@ -16,7 +17,7 @@ use crate::place::{Place, Public, Seeds};
 use crate::wots::{wots_pk, wots_pk_from_sig, wots_sign};
 use slh_hash::SeededTreeHash;
 use slh_params::{Adrs, AdrsType, Node, ParamSet, copy_of};
-use slh_tree::{Leaves, Tree, climb, path};
+use slh_tree::{Leaves, Tree, climb, node, path};
 
 /// One tree of a layer of the hypertree. Its leaves are WOTS+ public keys (Algorithm 9).
 #[derive(Drop)]
@@ -32,9 +33,9 @@ impl<'a> XmssTree<'a> {
     /// Tree `tree` of layer `layer`: of height h', with nodes of n bytes.
     #[tactic(auto, unfolding(crate::specs::Trees::xmss_tree_of))]
     pub fn new(seeds: &Seeds<'a>, layer: u8, tree: u64) -> Self
-        ensures { let p = params seeds.now.set in let sk = seeds.now.sk_seed.now in
-            let pk = seeds.now.pk_seed.now in
-            xmss_tree_of result ≡ xmss_tree p sk pk layer tree }
+        ensures { let p = params seeds.now.set in let sk_seed = seeds.now.sk_seed.now in
+            let pk_seed = seeds.now.pk_seed.now in
+            xmss_tree_of result ≡ xmss_tree p sk_seed pk_seed layer tree }
     {
         Self::at(seeds, layer, tree)
     }
@@ -51,9 +52,9 @@ impl<'a> XmssTree<'a> {
 
     /// Node `i` of height `z`: H of its two children.
     fn join_from(&self, seeded: &SeededTreeHash, z: u32, i: u32, l: &Node, r: &Node) -> Node
-        ensures { let p = params self.now.seeds.set in let sk = self.now.seeds.sk_seed.now in
-            (pk : List ℕ) → IsSeededTree seeded.now p pk → result.items
-            ≡ (xmss_tree p sk pk self.now.layer self.now.tree).join z i l.now.items r.now.items }
+        ensures { let p = params self.now.seeds.set in let sk_seed = self.now.seeds.sk_seed.now in
+            (pk_seed : List ℕ) → IsSeededTree seeded.now p pk_seed → result.items
+            ≡ (xmss_tree p sk_seed pk_seed self.now.layer self.now.tree).join z i l.now.items r.now.items }
     {
         let mut adrs = Adrs::zero();
         adrs.set_layer(self.layer);
@@ -125,9 +126,9 @@ impl<'a> SeededXmssTree<'a> {
     /// Tree `tree` of layer `layer`.
     #[tactic(auto, unfolding(crate::specs::Trees::xmss_tree_of))]
     pub(crate) fn new(seeds: &Seeds<'a>, layer: u8, tree: u64) -> Self
-        ensures { let p = params seeds.now.set in let sk = seeds.now.sk_seed.now in
-            let pk = seeds.now.pk_seed.now in
-            xmss_tree_of result.tree ≡ xmss_tree p sk pk layer tree }
+        ensures { let p = params seeds.now.set in let sk_seed = seeds.now.sk_seed.now in
+            let pk_seed = seeds.now.pk_seed.now in
+            xmss_tree_of result.tree ≡ xmss_tree p sk_seed pk_seed layer tree }
     {
         let joins = SeededTreeHash::new(seeds.set, seeds.pk_seed);
         let tree = XmssTree::at(seeds, layer, tree);
@@ -163,6 +164,19 @@ impl<'a> Tree for SeededXmssTree<'a> {
     }
 }
 
+/// xmss_node (Algorithm 9): the node of height `z` at index `i` of tree `tree` of layer `layer`, n bytes, from its own
+/// leaves alone.
+#[tactic(auto, unfolding(crate::specs::Trees::xmss_tree_of))]
+pub fn xmss_node(seeds: &Seeds, layer: u8, tree: u64, z: u32, i: u32) -> Node
+    requires height { z ≤ (params seeds.now.set).hp }
+    requires within { past_leaf z i ≤ 2 ^ (params seeds.now.set).hp }
+    ensures { let p = params seeds.now.set in let sk_seed = seeds.now.sk_seed.now in
+        let pk_seed = seeds.now.pk_seed.now in
+        result.items ≡ node (xmss_tree p sk_seed pk_seed layer tree) z i }
+{
+    node(&SeededXmssTree::new(seeds, layer, tree), z, i)
+}
+
 /// An XMSS tree of which some leaves, one after another, were made before.
 #[derive(Drop)]
 pub(crate) struct KnownLeavesTree<'a> {
@@ -177,9 +191,9 @@ impl<'a> KnownLeavesTree<'a> {
     #[tactic(auto, unfolding(crate::specs::Trees::xmss_tree_of))]
     pub(crate) fn new(seeds: &Seeds<'a>, at: Place, known: Leaves) -> Self
         requires { AreKeysFrom (params seeds.now.set) seeds.now.sk_seed.now seeds.now.pk_seed.now at known.items }
-        ensures { let p = params seeds.now.set in let sk = seeds.now.sk_seed.now in
-            let pk = seeds.now.pk_seed.now in
-            xmss_tree_of result.tree.tree ≡ xmss_tree p sk pk at.layer at.tree }
+        ensures { let p = params seeds.now.set in let sk_seed = seeds.now.sk_seed.now in
+            let pk_seed = seeds.now.pk_seed.now in
+            xmss_tree_of result.tree.tree ≡ xmss_tree p sk_seed pk_seed at.layer at.tree }
     {
         let tree = SeededXmssTree::new(seeds, at.layer, at.tree);
         let first = at.pair;
@@ -252,12 +266,12 @@ fn sign_in_group(seeds: &Seeds, at: Place, msg: &Node, out: &mut [u8]) -> Node
     requires pair { at.pair < 2 ^ (params seeds.now.set).hp }
     requires msg { length msg.now.items ≡ (params seeds.now.set).n }
     requires out { length out.old ≡ xmss_sig_len (params seeds.now.set) }
-    ensures signature { let p = params seeds.now.set in let sk = seeds.now.sk_seed.now in
-        let pk = seeds.now.pk_seed.now in
-        out.new ≡ xmss_sig p sk pk at msg.now.items }
-    ensures leaf { let p = params seeds.now.set in let sk = seeds.now.sk_seed.now in
-        let pk = seeds.now.pk_seed.now in
-        result.items ≡ wots_pk p sk pk at }
+    ensures signature { let p = params seeds.now.set in let sk_seed = seeds.now.sk_seed.now in
+        let pk_seed = seeds.now.pk_seed.now in
+        out.new ≡ xmss_sig p sk_seed pk_seed at msg.now.items }
+    ensures leaf { let p = params seeds.now.set in let sk_seed = seeds.now.sk_seed.now in
+        let pk_seed = seeds.now.pk_seed.now in
+        result.items ≡ wots_pk p sk_seed pk_seed at }
 {
     let (wots, auth) = out.split_at_mut(seeds.set.len() * seeds.set.n());
     let group = sign_among_eight(seeds, at, msg, wots);
@@ -272,9 +286,9 @@ fn sign_alone(seeds: &Seeds, at: Place, msg: &Node, out: &mut [u8])
     requires pair { at.pair < 2 ^ (params seeds.now.set).hp }
     requires msg { length msg.now.items ≡ (params seeds.now.set).n }
     requires out { length out.old ≡ xmss_sig_len (params seeds.now.set) }
-    ensures { let p = params seeds.now.set in let sk = seeds.now.sk_seed.now in
-        let pk = seeds.now.pk_seed.now in
-        out.new ≡ xmss_sig p sk pk at msg.now.items }
+    ensures { let p = params seeds.now.set in let sk_seed = seeds.now.sk_seed.now in
+        let pk_seed = seeds.now.pk_seed.now in
+        out.new ≡ xmss_sig p sk_seed pk_seed at msg.now.items }
 {
     let (wots, auth) = out.split_at_mut(seeds.set.len() * seeds.set.n());
     wots_sign(seeds, at, msg, wots);
@@ -290,12 +304,12 @@ pub(crate) fn sign_tree(seeds: &Seeds, at: Place, msg: &Node, out: &mut [u8]) ->
     requires pair { at.pair < 2 ^ (params seeds.now.set).hp }
     requires msg { length msg.now.items ≡ (params seeds.now.set).n }
     requires out { length out.old ≡ xmss_sig_len (params seeds.now.set) }
-    ensures signature { let p = params seeds.now.set in let sk = seeds.now.sk_seed.now in
-        let pk = seeds.now.pk_seed.now in
-        out.new ≡ xmss_sig p sk pk at msg.now.items }
-    ensures leaf { let p = params seeds.now.set in let sk = seeds.now.sk_seed.now in
-        let pk = seeds.now.pk_seed.now in
-        result.items ≡ wots_pk p sk pk at }
+    ensures signature { let p = params seeds.now.set in let sk_seed = seeds.now.sk_seed.now in
+        let pk_seed = seeds.now.pk_seed.now in
+        out.new ≡ xmss_sig p sk_seed pk_seed at msg.now.items }
+    ensures leaf { let p = params seeds.now.set in let sk_seed = seeds.now.sk_seed.now in
+        let pk_seed = seeds.now.pk_seed.now in
+        result.items ≡ wots_pk p sk_seed pk_seed at }
 {
     if has_eight_leaves(seeds.set) {
         return sign_in_group(seeds, at, msg, out);
@@ -315,12 +329,12 @@ pub fn xmss_sign(seeds: &Seeds, at: Place, msg: &Node, out: &mut [u8])
     requires pair { at.pair < 2 ^ (params seeds.now.set).hp }
     requires msg { length msg.now.items ≡ (params seeds.now.set).n }
     requires out { length out.old ≡ xmss_sig_len (params seeds.now.set) }
-    ensures signature { let p = params seeds.now.set in let sk = seeds.now.sk_seed.now in
-        let pk = seeds.now.pk_seed.now in
-        out.new ≡ xmss_sig p sk pk at msg.now.items }
-    ensures key { let p = params seeds.now.set in let sk = seeds.now.sk_seed.now in
-        let pk = seeds.now.pk_seed.now in
-        xmss_pk_from_sig p pk at msg.now.items out.new ≡ root_of (xmss_tree p sk pk at.layer at.tree) }
+    ensures signature { let p = params seeds.now.set in let sk_seed = seeds.now.sk_seed.now in
+        let pk_seed = seeds.now.pk_seed.now in
+        out.new ≡ xmss_sig p sk_seed pk_seed at msg.now.items }
+    ensures key { let p = params seeds.now.set in let sk_seed = seeds.now.sk_seed.now in
+        let pk_seed = seeds.now.pk_seed.now in
+        xmss_pk_from_sig p pk_seed at msg.now.items out.new ≡ root_of (xmss_tree p sk_seed pk_seed at.layer at.tree) }
 {
     if has_eight_leaves(seeds.set) {
         sign_in_group(seeds, at, msg, out);
@@ -334,8 +348,8 @@ pub fn xmss_pk_from_sig(public: &Public, at: Place, msg: &Node, sig: &[u8]) -> N
     requires pair { at.pair < 2 ^ (params public.now.set).hp }
     requires msg { length msg.now.items ≡ (params public.now.set).n }
     requires sig { length sig.now ≡ xmss_sig_len (params public.now.set) }
-    ensures value { let p = params public.now.set in let pk = public.now.pk_seed.now in
-        result.items ≡ xmss_pk_from_sig p pk at msg.now.items sig.now }
+    ensures value { let p = params public.now.set in let pk_seed = public.now.pk_seed.now in
+        result.items ≡ xmss_pk_from_sig p pk_seed at msg.now.items sig.now }
     ensures len { length result.items ≡ (params public.now.set).n }
 {
     let (wots, auth) = sig.split_at(public.set.len() * public.set.n());

@@ -8,7 +8,7 @@ use Rattle.std.specs.Prelude.{MatchResult}
 use Rattle.hex.specs.Hex.{decode_of, decode_sized, is_hex_digit}
 use Rattle.hex.specs.declared.FromHexError.{FromHexError}
 use Rattle.hex.proofs.HexLemmas.{decode_of-digits, decode_sized-twice}
-use Rattle.slh_files.proofs.Cut.{no_feed}
+use Rattle.slh_files.proofs.LineFeeds.{no_feed}
 
 -- digits that were decoded into room for their bytes
 pub decoded_whole : (s : List ℕ) (n : ℕ) (r : Result (Unit {0}) FromHexError) (out : List ℕ) → length s ≡ 2 * n → list_all is_hex_digit s ≡ true

@@ -23,7 +23,7 @@ use Rattle.slh_files.specs.declared.key_kind.Version.{Version}
 use Rattle.slh_files.specs.declared.key_kind.Version.TheVariants.{One, Two}
 use Rattle.slh_files.specs.Lines.{Text, cut_line, last_line}
 use Rattle.slh_files.specs.KeyFile.{AreReadAlike, IsKeyFront, after_kind, after_set, first_line, key_digits, key_file, key_len, key_line, set_of_line, version_of, with_rest, ◌>>=◌}
-use Rattle.slh_files.proofs.Cut.{cut_line-at, cut_line-none, no_feed}
+use Rattle.slh_files.proofs.LineFeeds.{cut_line-at, cut_line-none, no_feed}
 use Rattle.slh_files.proofs.Decoding.{digit_no_feed}
 use Rattle.slh_files.proofs.Reading.{after_first, digits_of, set_of_line-is, version_of-is}
 

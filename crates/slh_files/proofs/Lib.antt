@@ -1,4 +1,4 @@
-pub mod Cut
+pub mod LineFeeds
 pub mod Decoding
 pub mod Front
 pub mod Reading

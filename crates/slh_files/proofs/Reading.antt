@@ -25,7 +25,7 @@ use Rattle.slh_files.specs.declared.key_file.AnyKey.{AnyKey}
 use Rattle.slh_files.specs.declared.key_file.AnyKey.TheVariants as any
 use Rattle.slh_files.specs.Lines.{Text, line, cut_line, last_line}
 use Rattle.slh_files.specs.KeyFile.{IsAnyKey, IsAnyKeyFile, IsKey, IsKeyFile, after_kind, after_set, allows, any_key_file, any_key_text, or_secret, first_line, key_digits, key_file, key_len, key_line, key_text, set_of_line, upgraded, version_of, with_rest, ◌>>=◌}
-use Rattle.slh_files.proofs.Cut.{cut_line-Some, cut_line-at, last_line-at, last_line-whole, no_feed}
+use Rattle.slh_files.proofs.LineFeeds.{cut_line-Some, cut_line-at, last_line-at, last_line-whole, no_feed}
 use Rattle.slh_files.proofs.Decoding.{digits_no_feed}
 
 -- ---- the steps of reading

@@ -139,7 +139,7 @@ or_secret (Err fault) secret = Err fault
 abbrev pub any_key_file : Text → Result AnyKey FileFault
 any_key_file file = or_secret (key_file Public file) (key_file Secret file)
 
--- the file that is written of a file's key, which `slh upgrade` writes
+-- the file that is written of a file's key: what `slh upgrade` writes (`UpgradesKey` of slh_tool)
 abbrev pub upgraded : Text → Result Text FileFault
 upgraded file = do
   key ← any_key_file file

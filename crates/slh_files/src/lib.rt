@@ -10,7 +10,7 @@ pub use key_file::{AnyKey, read_key, read_public, read_secret};
 pub use key_front::push_key_bytes;
 pub use key_kind::KeyKind;
 pub use key_text::{either_is_read, upgraded_stays, write_public, write_secret, written_is_read};
-pub use slh_devices::{Sink, WriteFault};
+pub use slh_io::{Sink, WriteFault};
 pub use slh_vectors::{Outcome, Test, VectorFault, read_vectors, report, run_test, run_vectors};
 
 mod digits;

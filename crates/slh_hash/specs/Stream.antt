@@ -1,4 +1,4 @@
--- What the hashers of H, T_l and HMAC hold. Ours, over FIPS 205, section 11.2.
+-- What the hashers of H, T_l, HMAC and H_msg hold. Ours, over FIPS 205, section 11.2.
 use Rattle.std.specs.Prelude.{◌≡◌, ℕ, ◌-◌, List, ◌++◌, true, false, ◌==◌}
 use Rattle.sha2.specs.Hashers.{Holds256, Holds512}
 use Rattle.slh_params.specs.Address.{Address}
@@ -11,6 +11,7 @@ use Rattle.slh_hash.specs.Keyed.{key_block, xor_each}
 use Rattle.slh_hash.specs.declared.category_hasher.CategoryHasher.{CategoryHasher}
 use Rattle.slh_hash.specs.declared.category_hasher.CategoryHasher.TheVariants.{Short, Long}
 use Rattle.slh_hash.specs.declared.category_hmac.CategoryHmac.{CategoryHmac}
+use Rattle.slh_hash.specs.declared.message.HMsg.{HMsg}
 use Rattle.slh_hash.specs.declared.t_stream.SeededTreeHash.{SeededTreeHash}
 use Rattle.slh_hash.specs.declared.t_stream.TStream.{TStream}
 
@@ -33,3 +34,8 @@ IsKeyed h p key text =
     (params h.set ≡ p)
     × (HoldsFor h.inner p (xor_each 0x36 (key_block (category_function p) key) ++ text)
     × HoldsFor h.outer p (xor_each 0x5c (key_block (category_function p) key)))
+
+-- the inner hash of H_msg holds R, PK.seed, PK.root and the message, under these parameters
+unfoldable pub HasMessage : HMsg → Params → List ℕ → List ℕ → List ℕ → List ℕ → Type 0
+HasMessage h p r pk_seed pk_root msg =
+    (h.r.now ≡ r) × ((h.pk_seed.now ≡ pk_seed) × HoldsFor h.inner p (r ++ pk_seed ++ pk_root ++ msg))

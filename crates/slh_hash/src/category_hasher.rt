@@ -1,15 +1,17 @@
 //! The running hash of a security category: SHA-256 or SHA-512 (FIPS 205, section 11.2).
-ghost use Rattle.std.specs.Prelude.{◌≡◌, ◌≤◌, ◌++◌, ℕ, List, [], take};
+ghost use Rattle.std.specs.Prelude.{◌≡◌, ◌≤◌, ◌^◌, ◌++◌, ℕ, List, [], take, length};
 ghost use Rattle.slh_params.specs.Params.{Params};
 ghost use Rattle.slh_params.specs.ParamSet.{params};
 ghost use Rattle.slh_hash.specs.HashFunctions.{category_function};
+ghost use Rattle.slh_hash.specs.Keyed.{mgf1};
 
 use crate::hash_function::{DigestBytes, HashFunctionOf};
+use crate::mgf1::{mgf1_sha256, mgf1_sha512};
 use crate::tweakable::truncated;
 use sha2::{Digest, Sha256, Sha512};
 use slh_params::{Node, ParamSet};
 
-/// The hash function of H and T_l: SHA-256 in category 1, SHA-512 in categories 3 and 5.
+/// The hash function of H, T_l, PRF_msg and H_msg: SHA-256 in category 1, SHA-512 in categories 3 and 5.
 #[derive(Drop)]
 pub(crate) enum CategoryHasher {
     Short(Sha256),
@@ -67,6 +69,18 @@ impl CategoryHasher {
         match self {
             CategoryHasher::Short(hasher) => hasher.finish(),
             CategoryHasher::Long(hasher) => hasher.finish(),
+        }
+    }
+
+    /// MGF1 of R, PK.seed and the digest, put end to end: as many bytes as `out` has.
+    pub(crate) fn put_mgf1(self, r: &[u8], pk_seed: &[u8], out: &mut [u8])
+        requires { length out.old ≤ 2 ^ 32 }
+        ensures { (p : Params) (m : List ℕ) → HoldsFor self p m → out.new
+            ≡ mgf1 (category_function p) (r.now ++ pk_seed.now ++ (category_function p).hash m) (length out.old) }
+    {
+        match self {
+            CategoryHasher::Short(hasher) => mgf1_sha256(&[r, pk_seed, &hasher.finalize()], out),
+            CategoryHasher::Long(hasher) => mgf1_sha512(&[r, pk_seed, &hasher.finalize()], out),
         }
     }
 

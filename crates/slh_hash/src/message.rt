@@ -1,12 +1,12 @@
 //! The message hashes PRF_msg and H_msg (FIPS 205, section 11.2).
-ghost use Rattle.std.specs.Prelude.{◌≡◌, ◌≤◌, ◌^◌, length};
-ghost use Rattle.slh_hash.specs.Keyed.{joined, mgf1, PRF_msg, H_msg, h_msg_seed};
-ghost use Rattle.slh_params.specs.Params.{m};
+ghost use Rattle.std.specs.Prelude.{◌≡◌, ◌≤◌, ◌^◌, ◌++◌, ℕ, List, [], length};
+ghost use Rattle.slh_hash.specs.Keyed.{joined, PRF_msg, H_msg};
+ghost use Rattle.slh_hash.specs.Stream.{HasMessage};
+ghost use Rattle.slh_params.specs.Params.{Params, m};
 ghost use Rattle.slh_params.specs.ParamSet.{params};
 
-use crate::hash_function::{HashFunctionOf, absorb};
+use crate::category_hasher::CategoryHasher;
 use crate::hmac::hmac_of;
-use crate::mgf1::mgf1_of;
 use crate::tweakable::truncated;
 use sha2::{Sha256, Sha512};
 use slh_params::{Node, ParamSet};
@@ -25,8 +25,49 @@ pub fn prf_msg(set: ParamSet, sk_prf: &[u8], opt_rand: &[u8], parts: &[&[u8]]) -
     }
 }
 
+/// H_msg (section 11.2) of a message that comes in pieces, none of which is held.
+///
+/// Contracts see it by the relation `HasMessage`.
+#[derive(Drop)]
+pub struct HMsg<'a> {
+    r: &'a [u8],
+    pk_seed: &'a [u8],
+    inner: CategoryHasher,
+}
+
+impl<'a> HMsg<'a> {
+    /// H_msg under R and a public key, of the empty message.
+    pub fn new(set: ParamSet, r: &'a [u8], pk_seed: &'a [u8], pk_root: &[u8]) -> HMsg<'a>
+        ensures { HasMessage result (params set) r.now pk_seed.now pk_root.now [] }
+    {
+        let mut inner = CategoryHasher::new(set);
+        inner.update(r);
+        inner.update(pk_seed);
+        inner.update(pk_root);
+        HMsg { r, pk_seed, inner }
+    }
+
+    /// Adds a piece to the end of the message.
+    pub fn update(&mut self, piece: &[u8])
+        ensures { (p : Params) (r pk_seed pk_root msg : List ℕ) → HasMessage self.old p r pk_seed pk_root msg
+            → HasMessage self.new p r pk_seed pk_root (msg ++ piece.now) }
+    {
+        self.inner.update(piece);
+    }
+
+    /// Writes the digest of the pieces put end to end. `out` has m bytes.
+    pub fn finish(self, out: &mut [u8])
+        requires { length out.old ≤ 2 ^ 32 }
+        ensures { (p : Params) (r pk_seed pk_root msg : List ℕ) → HasMessage self.entry p r pk_seed pk_root msg
+            → length out.old ≡ m p → out.new ≡ H_msg p r pk_seed pk_root msg }
+    {
+        let HMsg { r, pk_seed, inner } = self;
+        inner.put_mgf1(r, pk_seed, out);
+    }
+}
+
 /// H_msg (section 11.2): the digest of a message, whose bytes are the parts put end to end. `out` has m bytes.
-#[tactic(auto, using(slh_params::proofs::Bounds::m_high), unfolding(crate::specs::Keyed::H_msg))]
+#[tactic(auto, using(slh_params::proofs::Bounds::m_high))]
 pub fn h_msg(
     set: ParamSet,
     r: &[u8],
@@ -38,27 +79,9 @@ pub fn h_msg(
     requires { length out.old ≡ m (params set) }
     ensures { out.new ≡ H_msg (params set) r.now pk_seed.now pk_root.now (joined parts.now) }
 {
-    if set.n() == 16 {
-        h_msg_of::<Sha256>(r, pk_seed, pk_root, parts, out);
-    } else {
-        h_msg_of::<Sha512>(r, pk_seed, pk_root, parts, out);
+    let mut hash = HMsg::new(set, r, pk_seed, pk_root);
+    for part in parts {
+        hash.update(part);
     }
-}
-
-/// H_msg with the hash function of a category, as many bytes as `out` has.
-fn h_msg_of<D: HashFunctionOf>(
-    r: &[u8],
-    pk_seed: &[u8],
-    pk_root: &[u8],
-    parts: &[&[u8]],
-    out: &mut [u8],
-)
-    requires { length out.old ≤ 2 ^ 32 }
-    ensures { out.new
-        ≡ mgf1 D.function (h_msg_seed D.function r.now pk_seed.now pk_root.now (joined parts.now)) (length out.old) }
-{
-    let mut inner = D::new();
-    absorb(&mut inner, &[r, pk_seed, pk_root]);
-    absorb(&mut inner, parts);
-    mgf1_of::<D>(&[r, pk_seed, inner.finish().as_slice()], out);
+    hash.finish(out);
 }

@@ -34,8 +34,8 @@ impl SeededHash {
 
     /// The first n bytes of the digest of PK.seed, zeros, the address and the bytes.
     fn digest(&self, adrs: &Adrs, x: &[u8]) -> Node
-        ensures value { (p : Params) (pk : List ℕ) → IsSeeded self.now p pk
-            → result.items ≡ tweaked_hash SHA_256 p pk adrs.now x.now }
+        ensures value { (p : Params) (pk_seed : List ℕ) → IsSeeded self.now p pk_seed
+            → result.items ≡ tweaked_hash SHA_256 p pk_seed adrs.now x.now }
         ensures len { length result.items ≡ (params self.now.set).n }
     {
         let Ok(mut state) = self.state.clone() else {
@@ -50,9 +50,9 @@ impl SeededHash {
     /// F (FIPS 205, section 11.2): the hash of a node of n bytes at an address.
     #[tactic(auto, unfolding(crate::specs::Hash::F))]
     pub fn f(&self, adrs: &Adrs, x: &Node) -> Node
-        ensures value { (p : Params) (pk : List ℕ) → IsSeeded self.now p pk
-            → result.items ≡ F p pk adrs.now x.now.items }
-        ensures len { (p : Params) (pk : List ℕ) → IsSeeded self.now p pk → length result.items ≡ p.n }
+        ensures value { (p : Params) (pk_seed : List ℕ) → IsSeeded self.now p pk_seed
+            → result.items ≡ F p pk_seed adrs.now x.now.items }
+        ensures len { (p : Params) (pk_seed : List ℕ) → IsSeeded self.now p pk_seed → length result.items ≡ p.n }
     {
         self.digest(adrs, x.as_slice())
     }
@@ -60,9 +60,9 @@ impl SeededHash {
     /// PRF (section 11.2): the secret at an address, from SK.seed of n bytes.
     #[tactic(auto, unfolding(crate::specs::Hash::PRF))]
     pub fn prf(&self, sk_seed: &[u8], adrs: &Adrs) -> Node
-        ensures value { (p : Params) (pk : List ℕ) → IsSeeded self.now p pk
-            → result.items ≡ PRF p pk sk_seed.now adrs.now }
-        ensures len { (p : Params) (pk : List ℕ) → IsSeeded self.now p pk → length result.items ≡ p.n }
+        ensures value { (p : Params) (pk_seed : List ℕ) → IsSeeded self.now p pk_seed
+            → result.items ≡ PRF p pk_seed sk_seed.now adrs.now }
+        ensures len { (p : Params) (pk_seed : List ℕ) → IsSeeded self.now p pk_seed → length result.items ≡ p.n }
     {
         self.digest(adrs, sk_seed)
     }

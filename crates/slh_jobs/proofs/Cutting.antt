@@ -7,7 +7,6 @@ use Rattle.std.proofs.lemmas.Bool.{cases_lt}
 use Rattle.std.proofs.lemmas.List.FromFn.{get_or-range_with_len, length-range_with_len, length-map-range_with_len}
 use Rattle.std.proofs.lemmas.Nat.{pow_pos}
 use Rattle.std.proofs.lemmas.Option.{slice_get_read, slice_get-map}
-use Rattle.slh_params.specs.ParamSet.{params}
 use Rattle.slh_subtrees.specs.Jobs.{IsTreeOf, cut_points_of, tree_ranges, tree_jobs, signing_jobs, first_job_of}
 use Rattle.slh_subtrees.specs.Points.{level_points, ranges}
 use Rattle.slh_subtrees.specs.declared.range.JobTree.{JobTree}

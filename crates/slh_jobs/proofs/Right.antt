@@ -9,7 +9,7 @@ use Rattle.slh_tree.specs.Climb.{path, path_below}
 use Rattle.slh_tree.proofs.Authentic.{node_width, length-path_below}
 use Rattle.slh_tree.proofs.Branch.{branch_below}
 use Rattle.slh_few.proofs.XmssLaw.{take_front}
-use Rattle.slh_jobs.specs.Ranges.{IsShape, below, own_part, range_answer, given, node_given, tag_given, path_given, rest_given, top_given, auth_given}
+use Rattle.slh_jobs.specs.Ranges.{IsShape, below, own_part, range_answer, given, node_given, tag_given, path_given, rest_given, upper_given, auth_given}
 use Rattle.slh_jobs.specs.declared.shape.Shape.{Shape}
 use Rattle.slh_jobs.proofs.Indices.{range_below}
 
@@ -80,7 +80,7 @@ rest-right t s v rest tag bytes first is =
 -- where the nodes are the ranges', those above them are the tree's
 top-nodes : (t : MerkleTree) (s : Shape) (bytes : List ℕ) (first : ℕ)
     → ((r : ℕ) → r < 2 ^ s.levels → node_given s bytes (first + r) ≡ node t (below s) r)
-    → (z i : ℕ) → z ≤ s.levels → i < 2 ^ (s.levels - z) → node (top_given t s bytes first) z i ≡ node t (below s + z) i
+    → (z i : ℕ) → z ≤ s.levels → i < 2 ^ (s.levels - z) → node (upper_given t s bytes first) z i ≡ node t (below s + z) i
 unfolding node
 top-nodes t s bytes first own zero i le lt =
     let whole : s.levels - 0 ≡ s.levels = omega arith in
@@ -92,7 +92,7 @@ top-nodes t s bytes first own (suc z) i le lt =
     let twice : 2 ^ (s.levels - z) ≡ 2 ^ (s.levels - suc z) * 2 = ap (λ (k : ℕ). 2 ^ k) up ∙ rw add-one (pow-suc 2 (s.levels - suc z)) in
     let left = top-nodes t s bytes first own z (2 * i) (omega arith) (omega (arith, twice)) in
     let right = top-nodes t s bytes first own z (2 * i + 1) (omega arith) (omega (arith, twice)) in
-    ap (λ (x : List ℕ). t.join (below s + suc z) i x (node (top_given t s bytes first) z (2 * i + 1))) left
+    ap (λ (x : List ℕ). t.join (below s + suc z) i x (node (upper_given t s bytes first) z (2 * i + 1))) left
     ∙ ap (λ (y : List ℕ). t.join (below s + suc z) i (node t (below s + z) (2 * i)) y) right
     ∙ ap (λ (k : ℕ). t.join k i (node t (below s + z) (2 * i)) (node t (below s + z) (2 * i + 1))) (sym next)
     ∙ ap (λ (k : ℕ). node t k i) next
@@ -100,7 +100,7 @@ top-nodes t s bytes first own (suc z) i le lt =
 -- so the root that they give is the tree's
 pub root-nodes : (t : MerkleTree) (s : Shape) (bytes : List ℕ) (first : ℕ) → s.levels ≤ s.height → s.height ≡ t.height
     → ((r : ℕ) → r < 2 ^ s.levels → node_given s bytes (first + r) ≡ node t (below s) r)
-    → root (top_given t s bytes first) ≡ root t
+    → root (upper_given t s bytes first) ≡ root t
 root-nodes t s bytes first some height own =
     let one : s.levels - s.levels ≡ 0 = omega arith in
     let first_node : 0 < 2 ^ (s.levels - s.levels) = rw one (omega arith) in
@@ -108,19 +108,19 @@ root-nodes t s bytes first some height own =
     top-nodes t s bytes first own s.levels 0 (omega arith) first_node ∙ ap (λ (k : ℕ). node t k 0) high
 
 pub root-right : (t : MerkleTree) (s : Shape) (v : ℕ) (rest : List ℕ) (tag : ℕ → List ℕ → List ℕ) (bytes : List ℕ) (first : ℕ) → AreOfTree t s v rest tag bytes first
-    → root (top_given t s bytes first) ≡ root t
+    → root (upper_given t s bytes first) ≡ root t
 root-right t s v rest tag bytes first is = root-nodes t s bytes first is.shape.some is.height (node-right t s v rest tag bytes first is)
 
 -- and the path of the leaf's range, after that below it, the leaf's
 above-right : (t : MerkleTree) (s : Shape) (v : ℕ) (rest : List ℕ) (tag : ℕ → List ℕ → List ℕ) (bytes : List ℕ) (first : ℕ) → AreOfTree t s v rest tag bytes first
-    → (j : ℕ) → j ≤ s.levels → path_below t v (below s) ++ path_below (top_given t s bytes first) (v / 2 ^ below s) j ≡ path_below t v (below s + j)
+    → (j : ℕ) → j ≤ s.levels → path_below t v (below s) ++ path_below (upper_given t s bytes first) (v / 2 ^ below s) j ≡ path_below t v (below s + j)
 unfolding path_below
 above-right t s v rest tag bytes first is zero le =
     let none : below s ≡ below s + 0 = omega arith in
     append-nil (path_below t v (below s)) ∙ ap (path_below t v) none
 above-right t s v rest tag bytes first is (suc j) le =
     let r = v / 2 ^ below s in
-    let top = top_given t s bytes first in
+    let top = upper_given t s bytes first in
     let own : r / 2 ^ j < 2 ^ (s.levels - j) = branch_below r s.levels j (range_below s is.shape v is.leaf) (omega arith) in
     let one : 1 < 2 ^ (s.levels - j) = pow_below 0 (s.levels - j) (omega arith) in
     let inside : bit_xor (r / 2 ^ j) 1 < 2 ^ (s.levels - j) = xor_lt (s.levels - j) (r / 2 ^ j) 1 own one in
@@ -136,6 +136,6 @@ pub auth-right : (t : MerkleTree) (s : Shape) (v : ℕ) (rest : List ℕ) (tag :
     → auth_given t s bytes first v ≡ path t v
 auth-right t s v rest tag bytes first is =
     let high : below s + s.levels ≡ t.height = omega (arith, is.shape.some, is.height) in
-    ap (λ (xs : List ℕ). xs ++ path (top_given t s bytes first) (v / 2 ^ below s)) (lower-right t s v rest tag bytes first is)
+    ap (λ (xs : List ℕ). xs ++ path (upper_given t s bytes first) (v / 2 ^ below s)) (lower-right t s v rest tag bytes first is)
     ∙ above-right t s v rest tag bytes first is s.levels (omega arith)
     ∙ ap (path_below t v) high

@@ -9,7 +9,7 @@ use Rattle.slh_subtrees.specs.Assembled.{TreeAnswers, fors_part_by, signed_by, l
 use Rattle.slh_subtrees.specs.Trees.{TreeSource, place_of, tree_of, leaf_of}
 use Rattle.slh_subtrees.specs.declared.range.JobTree.{JobTree}
 use Rattle.slh_subtrees.specs.declared.range.JobTree.TheVariants.{Xmss, Fors}
-use Rattle.slh_jobs.specs.Ranges.{below, answer_len, node_given, tag_given, rest_given, top_given, auth_given}
+use Rattle.slh_jobs.specs.Ranges.{below, answer_len, node_given, tag_given, rest_given, upper_given, auth_given}
 use Rattle.slh_jobs.specs.Jobs.{params_of, xmss_shape, fors_shape, shape_of, xmss_jobs, fors_jobs, first_of_kind, r_in, source, tag_of}
 use Rattle.slh_jobs.specs.declared.levels.Levels.{Levels}
 use Rattle.slh_jobs.specs.declared.shape.Shape.{Shape}
@@ -31,7 +31,7 @@ rest_in c s bytes tree =
 -- what the answers say of the trees
 abbrev pub answers_given : Levels → TreeSource → List ℕ → TreeAnswers
 answers_given c s bytes = record {
-  root = λ tree. root_of (top_given (tree_of s tree) (shape_of c tree) (answers_of_kind c bytes tree) (first_of_kind c tree));
+  root = λ tree. root_of (upper_given (tree_of s tree) (shape_of c tree) (answers_of_kind c bytes tree) (first_of_kind c tree));
   path = λ tree. auth_given (tree_of s tree) (shape_of c tree) (answers_of_kind c bytes tree) (first_of_kind c tree) (leaf_of s tree);
   secret = λ j. rest_in c s bytes (Fors j);
   chains = λ l. rest_in c s bytes (Xmss l);

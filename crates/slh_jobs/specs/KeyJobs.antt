@@ -4,7 +4,7 @@ use Rattle.slh_hash.specs.Stream.{IsKeyed}
 use Rattle.slh_hash.specs.declared.category_hmac.CategoryHmac.{CategoryHmac}
 use Rattle.slh_tree.specs.Tree.{MerkleTree, node, root}
 use Rattle.slh_few.specs.Xmss.{xmss_tree}
-use Rattle.slh_jobs.specs.Ranges.{below, given, node_given, tag_given, top_given}
+use Rattle.slh_jobs.specs.Ranges.{below, given, node_given, tag_given, upper_given}
 use Rattle.slh_jobs.specs.Jobs.{params_of}
 use Rattle.slh_jobs.specs.Tags.{OfKeyAnswer, head, tag}
 use Rattle.slh_jobs.specs.declared.levels.Levels.{Levels}
@@ -41,7 +41,7 @@ AreKeyAnswers c sk prf pk bytes = (n : ℕ) → n < key_jobs c → given (key_sh
 
 -- the root that answers give, whatever bytes they are
 abbrev pub key_root : Levels → List ℕ → List ℕ → List ℕ → List ℕ
-key_root c sk pk bytes = root (top_given (key_tree c sk pk) (key_shape c) bytes 0)
+key_root c sk pk bytes = root (upper_given (key_tree c sk pk) (key_shape c) bytes 0)
 
 -- each node has its tag
 abbrev pub AreTagged : Levels → List ℕ → List ℕ → List ℕ → List ℕ → Type 0

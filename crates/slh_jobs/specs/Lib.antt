@@ -1,11 +1,11 @@
 pub mod Ranges
-pub mod Tops
+pub mod UpperTrees
 pub mod SeededTrees
 pub mod Tags
 pub mod Jobs
 pub mod Starts
 pub mod Joined
-pub mod Answered
+pub mod AllAnswers
 pub mod KeyJobs
 pub mod JobFault
 -- cited by public clauses

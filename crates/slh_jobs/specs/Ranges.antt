@@ -52,8 +52,8 @@ abbrev pub rest_given : Shape → List ℕ → ℕ → List ℕ
 rest_given s bytes c = drop (below s * s.n) (drop (2 * s.n) (given s bytes c))
 
 -- what the tree is above the ranges, where their nodes are those given, from answer `first` on
-abbrev pub top_given : MerkleTree → Shape → List ℕ → ℕ → MerkleTree
-top_given t s bytes first = record {
+abbrev pub upper_given : MerkleTree → Shape → List ℕ → ℕ → MerkleTree
+upper_given t s bytes first = record {
   height = s.levels;
   width = s.n;
   leaf = λ r. node_given s bytes (first + r);
@@ -63,4 +63,4 @@ top_given t s bytes first = record {
 -- the path of leaf v: as its range's answer gives it, and then above the ranges
 abbrev pub auth_given : MerkleTree → Shape → List ℕ → ℕ → ℕ → List ℕ
 auth_given t s bytes first v =
-    path_given s bytes (first + v / 2 ^ below s) ++ path (top_given t s bytes first) (v / 2 ^ below s)
+    path_given s bytes (first + v / 2 ^ below s) ++ path (upper_given t s bytes first) (v / 2 ^ below s)

@@ -30,9 +30,8 @@ impl<'a> Signing<'a> {
         requires range { range < 2 ^ (shape_of self.now.levels tree).levels }
         ensures { result.items ≡ node (tree_in self.now.trees tree) (below (shape_of self.now.levels tree)) range }
     {
-        let (lo, hi) = self.levels.shape(tree).leaves(range);
-        let hashed = self.trees.hashed(tree, lo, hi);
-        copy_of(&hashed.cover.nodes[0].node)
+        self.trees
+            .node(tree, self.levels.shape(tree).below(), range)
     }
 
     /// What is made of the leaves from `lo` to `hi`, `hi` left out, of a tree, its signing leaf among them. Writes what

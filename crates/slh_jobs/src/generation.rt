@@ -7,19 +7,18 @@ ghost use Rattle.slh_jobs.specs.Ranges.{IsShape, below, answer_len};
 ghost use Rattle.slh_jobs.specs.KeyJobs.{key_shape, key_jobs, key_tree, key_answer, key_root, AreKeyAnswers, AreTagged};
 ghost use Rattle.slh_jobs.specs.declared.fault.JobFault.TheVariants.{BadAnswersLength};
 
+use crate::answer_bytes::AnswerBytes;
 use crate::fault::JobFault;
-use crate::given::Given;
 use crate::jobs::ranges;
 use crate::levels::Levels;
 use crate::seeded_trees::SeededXmssTree;
 use crate::shape::Shape;
 use crate::tag::{answer_tag, are_same, keyed_for_key};
-use crate::top_tree::top_root;
+use crate::upper_tree::top_root;
 use slh_core::SecretKey;
-use slh_few::{Seeds, xmss_range};
+use slh_few::{Seeds, xmss_node};
 use slh_hash::SeededTreeHash;
-use slh_params::{Node, ParamSet, copy_of};
-use slh_tree::PathRec;
+use slh_params::{Node, ParamSet};
 
 /// How the tree of the top layer is cut.
 fn key_shape(levels: &Levels) -> Shape
@@ -60,11 +59,8 @@ fn key_node(levels: &Levels, sk_seed: &[u8], pk_seed: &[u8], range: u32) -> Node
         sk_seed,
         pk_seed,
     };
-    let (lo, hi) = key_shape(levels).leaves(range);
-    // The nodes of a path are wanted of no leaf.
-    let mut path = PathRec::for_leaf(set.hp(), 0);
-    let cover = xmss_range(&seeds, set.d() as u8 - 1, 0, lo, hi, &mut path);
-    copy_of(&cover.nodes[0].node)
+    let top = set.d() as u8 - 1;
+    xmss_node(&seeds, top, 0, key_shape(levels).below(), range)
 }
 
 /// Writes the answer of a job of the generation of the key of three seeds of n bytes each, 2n bytes. It is a function
@@ -92,7 +88,13 @@ pub fn keygen_job(
 }
 
 /// Whether each node has its tag.
-fn are_tagged(levels: &Levels, sk_seed: &[u8], sk_prf: &[u8], pk_seed: &[u8], given: &Given) -> bool
+fn are_tagged(
+    levels: &Levels,
+    sk_seed: &[u8],
+    sk_prf: &[u8],
+    pk_seed: &[u8],
+    given: &AnswerBytes,
+) -> bool
     requires sk_seed { length sk_seed.now ≡ (params levels.now.set).n }
     requires sk_prf { length sk_prf.now ≡ (params levels.now.set).n }
     requires pk_seed { length pk_seed.now ≡ (params levels.now.set).n }
@@ -145,7 +147,7 @@ pub fn keygen_join(
     if answers.len() != keygen_jobs(levels) as usize * shape.answer_len() {
         return Err(JobFault::BadAnswersLength);
     }
-    let given = Given {
+    let given = AnswerBytes {
         shape,
         bytes: answers,
     };

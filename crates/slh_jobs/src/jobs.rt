@@ -5,18 +5,20 @@ ghost use Rattle.slh_params.specs.ParamSet.{params};
 ghost use Rattle.slh_subtrees.specs.Jobs.{IsTreeOf, signing_jobs};
 ghost use Rattle.slh_jobs.specs.declared.levels.Levels.{Levels};
 ghost use Rattle.slh_jobs.specs.Jobs.{xmss_shape, fors_shape, shape_of, xmss_jobs, fors_jobs, jobs, first_of_kind, first_job, tree_at, range_at, cut_by, job_at, start_of, len_of, answers_len};
+ghost use Rattle.slh_subtrees.specs.declared.jobs.TheConstants.{MOST_JOBS_OF_A_KIND};
+ghost use Rattle.slh_jobs.specs.declared.shape.TheConstants.{MOST_OWN_LEN};
 
 use crate::levels::Levels;
 use crate::shape::Shape;
 use slh_few::kept_chains_len;
-use slh_subtrees::JobTree;
+use slh_subtrees::{JobTree, ranges_of};
 
 impl Levels {
     /// How the XMSS trees are cut.
     pub(crate) fn xmss_shape(&self) -> Shape
         ensures value { result ≡ xmss_shape self.now }
         ensures shape { IsShape result }
-        ensures own { result.own ≤ 68608 }
+        ensures own { result.own ≤ MOST_OWN_LEN }
     {
         let set = self.set;
         Shape {
@@ -31,7 +33,7 @@ impl Levels {
     pub(crate) fn fors_shape(&self) -> Shape
         ensures value { result ≡ fors_shape self.now }
         ensures shape { IsShape result }
-        ensures own { result.own ≤ 68608 }
+        ensures own { result.own ≤ MOST_OWN_LEN }
     {
         let set = self.set;
         Shape {
@@ -46,7 +48,7 @@ impl Levels {
     pub(crate) fn shape(&self, tree: JobTree) -> Shape
         ensures value { result ≡ shape_of self.now tree }
         ensures shape { IsShape result }
-        ensures own { result.own ≤ 68608 }
+        ensures own { result.own ≤ MOST_OWN_LEN }
     {
         match tree {
             JobTree::Xmss(_) => self.xmss_shape(),
@@ -58,11 +60,11 @@ impl Levels {
     pub(crate) fn first_of_kind(&self, tree: JobTree) -> u32
         requires { IsTreeOf (params self.now.set) tree }
         ensures value { result ≡ first_of_kind self.now tree }
-        ensures few { result ≤ 16640 }
+        ensures few { result ≤ MOST_JOBS_OF_A_KIND }
     {
         match tree {
-            JobTree::Xmss(layer) => times(u32::from(layer), ranges(self.xmss)),
-            JobTree::Fors(number) => times(number, ranges(self.fors)),
+            JobTree::Xmss(layer) => ranges_of(u32::from(layer), ranges(self.xmss)),
+            JobTree::Fors(number) => ranges_of(number, ranges(self.fors)),
         }
     }
 
@@ -89,17 +91,17 @@ impl Levels {
     /// The number of jobs of the XMSS trees.
     pub(crate) fn xmss_jobs(&self) -> u32
         ensures value { result ≡ xmss_jobs self.now }
-        ensures few { result ≤ 16640 }
+        ensures few { result ≤ MOST_JOBS_OF_A_KIND }
     {
-        times(self.set.d(), ranges(self.xmss))
+        ranges_of(self.set.d(), ranges(self.xmss))
     }
 
     /// The number of jobs of the FORS trees.
     pub(crate) fn fors_jobs(&self) -> u32
         ensures value { result ≡ fors_jobs self.now }
-        ensures few { result ≤ 16640 }
+        ensures few { result ≤ MOST_JOBS_OF_A_KIND }
     {
-        times(self.set.k(), ranges(self.fors))
+        ranges_of(self.set.k(), ranges(self.fors))
     }
 }
 
@@ -112,16 +114,6 @@ pub(crate) fn ranges(levels: u32) -> u32
     1 << levels
 }
 
-/// The ranges of this many trees, each cut into as many.
-fn times(trees: u32, ranges: u32) -> u32
-    requires trees { trees ≤ 65 }
-    requires ranges { ranges ≤ 256 }
-    ensures product { result ≡ trees * ranges }
-    ensures few { result ≤ 16640 }
-{
-    trees * ranges
-}
-
 /// The law that levels are a cutting: job n is that of the same number of `slh_subtrees`, where the trees are cut by
 /// these levels. It does nothing: the law is its contract.
 pub fn levels_are_a_cutting()
@@ -132,7 +124,7 @@ pub fn levels_are_a_cutting()
 /// trees.
 pub fn sign_jobs(levels: &Levels) -> u32
     ensures value { result ≡ jobs levels.now }
-    ensures few { result ≤ 33280 }
+    ensures few { result ≤ 2 * MOST_JOBS_OF_A_KIND }
 {
     levels.xmss_jobs() + levels.fors_jobs()
 }

@@ -9,14 +9,14 @@ ghost use Rattle.slh_core.specs.Keys.{public_of, pk_root, IsGeneratedKey};
 ghost use Rattle.slh_core.specs.Signatures.{signature_by, IsValid};
 ghost use Rattle.slh_core.specs.declared.randomizer.Randomizer.{Randomizer};
 ghost use Rattle.slh_subtrees.specs.Assembled.{fors_part_by, signed_by, layer_part_by, sig_fors_by, sig_ht_by};
-ghost use Rattle.slh_jobs.specs.Answered.{params_in, source_in, answers_in};
+ghost use Rattle.slh_jobs.specs.AllAnswers.{params_in, source_in, answers_in};
 ghost use Rattle.slh_jobs.specs.Jobs.{AreAnswers, answers_len, r_in};
 ghost use Rattle.slh_jobs.specs.Joined.{signature_given, AreFitting, FitTogether};
 ghost use Rattle.slh_jobs.specs.Starts.{IsStart, start_by, signature_from};
 ghost use Rattle.slh_jobs.specs.Tags.{start_len};
 ghost use Rattle.slh_jobs.specs.declared.fault.JobFault.TheVariants.{BadAnswersLength, BadStart};
 
-use crate::answered::Answered;
+use crate::all_answers::AllAnswers;
 use crate::fault::JobFault;
 use crate::jobs::answers_len;
 use crate::levels::Levels;
@@ -35,7 +35,7 @@ const MOST_SIGNED_LEN: usize = 65 * 32;
 /// answers are another's to change, no layer signs anything else.
 #[derive(Drop)]
 struct Judged<'j, 'a> {
-    answered: &'j Answered<'a>,
+    answered: &'j AllAnswers<'a>,
     signed: &'j [u8],
     ghost signed_is: { signed.now
         ≡ end_to_end (signed_by (source_in answered.now) (answers_in answered.now)) (params_in answered.now).d },
@@ -84,7 +84,7 @@ impl<'j, 'a> Answers for Judged<'j, 'a> {
     }
 }
 
-impl<'a> Answered<'a> {
+impl<'a> AllAnswers<'a> {
     /// Writes the signature, from the FORS signature and what the layers sign, as they were judged.
     fn put_signature(&self, sig_fors: &[u8], signed: &[u8], out: &mut [u8])
         requires sig_fors { sig_fors.now ≡ sig_fors_by (source_in self.now) (answers_in self.now) }
@@ -180,7 +180,7 @@ pub fn sign_join(
     if answers.len() != answers_len(levels) {
         return Err(JobFault::BadAnswersLength);
     }
-    let Some(answered) = Answered::new(levels, sk, start, answers) else {
+    let Some(answered) = AllAnswers::new(levels, sk, start, answers) else {
         return Err(JobFault::BadStart);
     };
     if answered.join(out) {

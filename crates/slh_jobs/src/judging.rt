@@ -9,22 +9,23 @@ ghost use Rattle.slh_subtrees.specs.Assembled.{fors_part_by, signed_by, layer_pa
 ghost use Rattle.slh_jobs.specs.Ranges.{node_given, tag_given, answer_len};
 ghost use Rattle.slh_jobs.specs.Jobs.{HoldsFront, xmss_shape, fors_shape, xmss_jobs, fors_jobs, tag_of};
 ghost use Rattle.slh_jobs.specs.Joined.{fors_answers, TagsFit, ForsFits, LayerFits, AreFitting};
-ghost use Rattle.slh_jobs.specs.Answered.{params_in, source_in, answers_in};
+ghost use Rattle.slh_jobs.specs.AllAnswers.{params_in, source_in, answers_in};
+ghost use Rattle.slh_subtrees.specs.declared.jobs.TheConstants.{MOST_JOBS_OF_A_KIND};
 
-use crate::answered::Answered;
-use crate::given::Given;
+use crate::all_answers::AllAnswers;
+use crate::answer_bytes::AnswerBytes;
 use crate::tag::{answer_tag, are_same, keyed_for_answers};
 use slh_few::{fors_part_len, fors_root_from_sig, fors_roots, xmss_pk_from_sig, xmss_sig_len};
 use slh_hash::CategoryHmac;
-use slh_params::{Node, copy_of, node_of};
+use slh_params::{Node, copy_of, node_of, put_node};
 use slh_subtrees::{JobTree, fors_part, layer_part};
 
 /// At least the length of an XMSS signature in any set: 133 chains and 12 nodes of 32 bytes.
 const MOST_XMSS_SIG_LEN: usize = (133 + 12) * 32;
 
-impl<'a> Answered<'a> {
+impl<'a> AllAnswers<'a> {
     /// Whether the node of an answer has the tag of this job.
-    fn tag_fits(&self, keyed: &CategoryHmac, given: &Given, c: u32, job: u32) -> bool
+    fn tag_fits(&self, keyed: &CategoryHmac, given: &AnswerBytes, c: u32, job: u32) -> bool
         requires keyed { HoldsFront keyed.now
             self.now.signing.levels self.now.signing.sk.now self.now.signing.start.now }
         requires n { given.now.shape.n ≡ (params self.now.signing.levels.set).n }
@@ -38,13 +39,13 @@ impl<'a> Answered<'a> {
     }
 
     /// Whether the nodes of the first `count` answers have the tags of the jobs from `first` on.
-    fn tags_fit(&self, keyed: &CategoryHmac, given: &Given, count: u32, first: u32) -> bool
+    fn tags_fit(&self, keyed: &CategoryHmac, given: &AnswerBytes, count: u32, first: u32) -> bool
         requires keyed { HoldsFront keyed.now
             self.now.signing.levels self.now.signing.sk.now self.now.signing.start.now }
         requires n { given.now.shape.n ≡ (params self.now.signing.levels.set).n }
         requires there { count * answer_len given.now.shape ≤ length given.now.bytes.now }
-        requires count { count ≤ 16640 }
-        requires first { first ≤ 16640 }
+        requires count { count ≤ MOST_JOBS_OF_A_KIND }
+        requires first { first ≤ MOST_JOBS_OF_A_KIND }
         ensures { let t = self.now.signing in
             IsTrue result ↔ TagsFit t.levels t.sk.now t.start.now given.now.shape given.now.bytes.now first count }
     {
@@ -186,7 +187,7 @@ impl<'a> Answered<'a> {
         let n = signing.trees.seeds.set.n();
         let mut msg = copy_of(pk_fors);
         for layer in 0..signing.trees.seeds.set.d() as u8 {
-            put_at(&msg, signed, layer as usize * n);
+            put_node(signed, layer as usize * n, &msg);
             let Some(root) = self.layer_root(layer, &msg) else {
                 return false;
             };
@@ -224,12 +225,4 @@ impl<'a> Answered<'a> {
         };
         self.judge_layers(&pk_fors, signed)
     }
-}
-
-/// Writes a node, from `start` on.
-fn put_at(node: &Node, out: &mut [u8], start: usize)
-    requires { start + length node.now.items ≤ length out.old }
-    ensures { take (start + length node.now.items) out.new ≡ take start out.old ++ node.now.items }
-{
-    out[start..start + node.len()].copy_from_slice(node);
 }

@@ -8,11 +8,11 @@
 //! answer holds values of one-time keys: it is to be kept as the secret key is.
 #![tactic(auto, using(slh_params::proofs::Bounds::bounds))]
 
-mod answered;
+mod all_answers;
+mod answer_bytes;
 mod answers;
 mod fault;
 mod generation;
-mod given;
 mod jobs;
 mod joining;
 mod judging;
@@ -22,7 +22,7 @@ mod shape;
 mod signing;
 mod start;
 mod tag;
-mod top_tree;
+mod upper_tree;
 
 pub use answers::sign_job;
 pub use fault::JobFault;
@@ -30,5 +30,5 @@ pub use generation::{key_answer_len, keygen_job, keygen_jobs, keygen_join};
 pub use jobs::{answer_len, answer_start, answers_len, levels_are_a_cutting, sign_jobs};
 pub use joining::sign_join;
 pub use levels::Levels;
-pub use start::{sign_start, start_len};
+pub use start::{MOST_START_LEN, sign_start, start_len};
 pub use tag::texts_differ;

@@ -2,6 +2,17 @@
 ghost use Rattle.std.specs.Prelude.{◌≡◌, ◌+◌, ◌*◌, ◌^◌, ◌<◌, ◌≤◌};
 ghost use Rattle.slh_tree.specs.Cover.{first_leaf, past_leaf};
 ghost use Rattle.slh_jobs.specs.Ranges.{below, answer_len, IsShape};
+ghost use Rattle.slh_jobs.specs.declared.shape.TheConstants.{MOST_ANSWER_LEN, MOST_OWN_LEN, MOST_PATH_LEN};
+
+/// No path is longer than 14 nodes of 32 bytes.
+const MOST_PATH_LEN: usize = 14 * 32;
+
+/// No answer has more beside a node and its tag. A key has at most 133 chains, of each of which at most 16 values of 32
+/// bytes are kept; a path has fewer bytes than one chain.
+pub(crate) const MOST_OWN_LEN: usize = (133 + 1) * 16 * 32;
+
+/// No answer is longer.
+const MOST_ANSWER_LEN: usize = 2 * 32 + MOST_OWN_LEN;
 
 /// How the trees of one kind are cut into ranges of one size, and how long the answer of a range is.
 #[derive(Clone, Copy)]
@@ -29,7 +40,7 @@ impl Shape {
     pub(crate) fn path_len(&self) -> usize
         requires { IsShape self.now }
         ensures value { result ≡ below self.now * self.now.n }
-        ensures small { result ≤ 448 }
+        ensures small { result ≤ MOST_PATH_LEN }
     {
         self.below() as usize * self.n
     }
@@ -37,9 +48,9 @@ impl Shape {
     /// The length of an answer.
     pub(crate) fn answer_len(&self) -> usize
         requires shape { IsShape self.now }
-        requires own { self.now.own ≤ 68608 }
+        requires own { self.now.own ≤ MOST_OWN_LEN }
         ensures value { result ≡ answer_len self.now }
-        ensures small { result ≤ 68672 }
+        ensures small { result ≤ MOST_ANSWER_LEN }
     {
         2 * self.n + self.own
     }

@@ -1,22 +1,27 @@
 //! The begin of a signature: R, the digest of the message, and their tag.
-ghost use Rattle.std.specs.Prelude.{◌≡◌, ◌↔◌, ◌≤◌, IsTrue, IsOk, OnOk, OnErr, length};
+ghost use Rattle.std.specs.Prelude.{◌≡◌, ◌↔◌, ◌+◌, ◌≤◌, IsTrue, IsOk, OnOk, OnErr, length};
 ghost use Rattle.slh_params.specs.ParamSet.{params};
 ghost use Rattle.slh_hash.specs.Keyed.{joined};
 ghost use Rattle.slh_core.specs.Keys.{public_of};
 ghost use Rattle.slh_core.specs.Messages.{message_in_form};
 ghost use Rattle.slh_core.specs.Randomizers.{HasLength};
 ghost use Rattle.slh_jobs.specs.Starts.{begun_by, start_by, IsStart};
+ghost use Rattle.slh_core.specs.declared.cut.TheConstants.{MOST_DIGEST_LEN};
 ghost use Rattle.slh_jobs.specs.Tags.{begun_len, start_len};
+ghost use Rattle.slh_jobs.specs.declared.start.TheConstants.{MOST_START_LEN};
 
 use crate::tag::{are_same, start_tag};
-use slh_core::signing_steps::{pre_hash_digest, pre_hash_head, pure_head, randomized_digest};
+use slh_core::signing_steps::{MOST_DIGEST_LEN, randomized_digest};
 use slh_core::{Form, Randomizer, SecretKey, SignFault};
 use slh_params::{ParamSet, node_of};
+
+/// No start is longer, in any set: R, a digest and a tag.
+pub const MOST_START_LEN: usize = 32 + MOST_DIGEST_LEN + 32;
 
 /// The length of what `sign_start` writes, in bytes: 2n + m.
 pub fn start_len(set: ParamSet) -> usize
     ensures value { result ≡ start_len (params set) }
-    ensures small { result ≤ 186 }
+    ensures small { result ≤ MOST_START_LEN }
 {
     begun_len(set) + set.n()
 }
@@ -24,7 +29,7 @@ pub fn start_len(set: ParamSet) -> usize
 /// The length of R and a digest.
 fn begun_len(set: ParamSet) -> usize
     ensures value { result ≡ begun_len (params set) }
-    ensures small { result ≤ 154 }
+    ensures small { result ≤ 32 + MOST_DIGEST_LEN }
 {
     set.n() + set.m()
 }
@@ -80,21 +85,9 @@ pub fn sign_start(
     ensures tagged { OnOk result (IsStart sk.now start.new) }
     ensures refused { OnErr result (start.new ≡ start.old) }
 {
-    match form {
-        Form::Pure => {
-            let Some(head) = pure_head(ctx) else {
-                return Err(SignFault::ContextTooLong);
-            };
-            start_parts(&[&head, ctx, msg], sk, randomizer, start);
-        }
-        Form::PreHash(function) => {
-            let Some(head) = pre_hash_head(ctx) else {
-                return Err(SignFault::ContextTooLong);
-            };
-            let digest = pre_hash_digest(msg, function);
-            let parts = [&head, ctx, &function.oid(), digest.bytes()];
-            start_parts(&parts, sk, randomizer, start);
-        }
-    }
+    let Some(message) = form.message(msg, ctx) else {
+        return Err(SignFault::ContextTooLong);
+    };
+    start_parts(&message.parts(), sk, randomizer, start);
     Ok(())
 }

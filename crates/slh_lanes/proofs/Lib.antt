@@ -15,6 +15,6 @@ mod Streams
 mod LongStreams
 mod LaneStreams
 mod LongTweaked
-mod Cut
+mod FirstBytes
 mod Picks
 pub mod NodeLengths

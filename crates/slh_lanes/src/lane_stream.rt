@@ -36,8 +36,8 @@ pub struct LaneStream {
 impl LaneStream {
     /// T at the address in each lane, before any node. Where PK.seed has another length than n, nothing is said.
     pub fn new(lanes: &SeededTreeLanes, adrs: &LaneAdrs) -> Self
-        ensures { (p : Params) (pk : List ℕ) → IsSeededTreeLanes lanes.now p pk → length pk ≡ p.n
-            → (j : ℕ) → j < 8 → (a : Address) → HasAddress adrs.now j a → HasAbsorbedAt result j p pk a [] }
+        ensures { (p : Params) (pk_seed : List ℕ) → IsSeededTreeLanes lanes.now p pk_seed → length pk_seed ≡ p.n
+            → (j : ℕ) → j < 8 → (a : Address) → HasAddress adrs.now j a → HasAbsorbedAt result j p pk_seed a [] }
     {
         let set = lanes.lanes.set;
         let stream = if set.n() == 16 {
@@ -50,16 +50,17 @@ impl LaneStream {
 
     /// The parameter set.
     pub fn set(&self) -> ParamSet
-        ensures { (p : Params) (pk : List ℕ) (j : ℕ) (a : Address) (x : List ℕ)
-            → HasAbsorbedAt self.now j p pk a x → params result ≡ p }
+        ensures { (p : Params) (pk_seed : List ℕ) (j : ℕ) (a : Address) (x : List ℕ)
+            → HasAbsorbedAt self.now j p pk_seed a x → params result ≡ p }
     {
         self.set
     }
 
     /// Adds the node of n bytes in each lane.
     pub fn absorb(&mut self, nodes: &LaneNodes)
-        ensures { (p : Params) (pk : List ℕ) (j : ℕ) (a : Address) (x : List ℕ) → j < 8
-            → HasAbsorbedAt self.old j p pk a x → HasAbsorbedAt self.new j p pk a (x ++ value_at nodes.now j p.n) }
+        ensures { (p : Params) (pk_seed : List ℕ) (j : ℕ) (a : Address) (x : List ℕ) → j < 8
+            → HasAbsorbedAt self.old j p pk_seed a x
+            → HasAbsorbedAt self.new j p pk_seed a (x ++ value_at nodes.now j p.n) }
     {
         let count = self.set.n() / 4;
         match &mut self.stream {
@@ -70,8 +71,8 @@ impl LaneStream {
 
     /// T of the nodes absorbed, in their order, in each lane. Of 2^28 bytes or more nothing is said.
     pub fn finish(self) -> LaneNodes
-        ensures { (p : Params) (pk : List ℕ) (j : ℕ) (a : Address) (x : List ℕ) → j < 8
-            → HasAbsorbedAt self j p pk a x → length x < 2 ^ 28 → value_at result j p.n ≡ T p pk a x }
+        ensures { (p : Params) (pk_seed : List ℕ) (j : ℕ) (a : Address) (x : List ℕ) → j < 8
+            → HasAbsorbedAt self j p pk_seed a x → length x < 2 ^ 28 → value_at result j p.n ≡ T p pk_seed a x }
     {
         match self.stream {
             CategoryStream::Short(stream) => stream.finish(),

@@ -46,9 +46,9 @@ impl<'a> SeededLanes<'a> {
 
     /// F (FIPS 205, section 11.2) in each lane: the hash of its value of n bytes at its address.
     pub fn f(&self, adrs: &LaneAdrs, x: &LaneNodes) -> LaneNodes
-        ensures { (p : Params) (pk : List ℕ) → IsSeededLanes self.now p pk
+        ensures { (p : Params) (pk_seed : List ℕ) → IsSeededLanes self.now p pk_seed
             → (j : ℕ) → j < 8 → (a : Address) → HasAddress adrs.now j a
-            → value_at result j p.n ≡ F p pk a (value_at x.now j p.n) }
+            → value_at result j p.n ≡ F p pk_seed a (value_at x.now j p.n) }
     {
         if self.pk_seed.len() == self.set.n() {
             self.digests(adrs, x, self.set.n())
@@ -59,9 +59,9 @@ impl<'a> SeededLanes<'a> {
 
     /// PRF (section 11.2) in each lane: the secret at its address, from SK.seed of n bytes.
     pub fn prf(&self, sk_seed: &[u8], adrs: &LaneAdrs) -> LaneNodes
-        ensures { (p : Params) (pk : List ℕ) → IsSeededLanes self.now p pk
+        ensures { (p : Params) (pk_seed : List ℕ) → IsSeededLanes self.now p pk_seed
             → (j : ℕ) → j < 8 → (a : Address) → HasAddress adrs.now j a
-            → value_at result j p.n ≡ PRF p pk sk_seed.now a }
+            → value_at result j p.n ≡ PRF p pk_seed sk_seed.now a }
     {
         if self.pk_seed.len() == self.set.n() && sk_seed.len() == self.set.n() {
             self.digests(adrs, &node_lanes(sk_seed), self.set.n())
@@ -73,9 +73,9 @@ impl<'a> SeededLanes<'a> {
     /// H (section 11.2) of two nodes of 16 bytes in each lane, the hash of both at its address. Of other nodes, or
     /// where PK.seed has another length, nothing is said.
     pub fn h(&self, adrs: &LaneAdrs, left: &LaneNodes, right: &LaneNodes) -> LaneNodes
-        ensures { (p : Params) (pk : List ℕ) → IsSeededLanes self.now p pk → p.n ≡ 16 → length pk ≡ 16
+        ensures { (p : Params) (pk_seed : List ℕ) → IsSeededLanes self.now p pk_seed → p.n ≡ 16 → length pk_seed ≡ 16
             → (j : ℕ) → j < 8 → (a : Address) → HasAddress adrs.now j a
-            → value_at result j p.n ≡ H p pk a (value_at left.now j p.n) (value_at right.now j p.n) }
+            → value_at result j p.n ≡ H p pk_seed a (value_at left.now j p.n) (value_at right.now j p.n) }
     {
         self.digests(adrs, &two_short(left, right), 32)
     }
@@ -83,9 +83,9 @@ impl<'a> SeededLanes<'a> {
     /// Runs eight chains on from their values after `from` steps, each by `count` steps (section 5, Algorithm 5).
     pub fn chains(&self, adrs: &LaneAdrs, x: &LaneNodes, from: u32, count: u32) -> LaneNodes
         requires { from + count ≤ 2 ^ 32 }
-        ensures { (p : Params) (pk : List ℕ) → IsSeededLanes self.now p pk
+        ensures { (p : Params) (pk_seed : List ℕ) → IsSeededLanes self.now p pk_seed
             → (j : ℕ) → j < 8 → (a : Address) → HasAddress adrs.now j a
-            → value_at result j p.n ≡ steps p pk a (value_at x.now j p.n) from count }
+            → value_at result j p.n ≡ steps p pk_seed a (value_at x.now j p.n) from count }
     {
         let mut nodes = *x;
         for step in 0..count {
@@ -106,9 +106,10 @@ impl<'a> SeededLanes<'a> {
         counts: Words,
     ) -> LaneNodes
         requires { (j : ℕ) → j < 8 → slice_index from j + slice_index counts j ≤ 2 ^ 32 }
-        ensures { (p : Params) (pk : List ℕ) → IsSeededLanes self.now p pk
+        ensures { (p : Params) (pk_seed : List ℕ) → IsSeededLanes self.now p pk_seed
             → (j : ℕ) → j < 8 → (a : Address) → HasAddress adrs.now j a
-            → value_at result j p.n ≡ steps p pk a (value_at x.now j p.n) (slice_index from j) (slice_index counts j) }
+            → value_at result j p.n
+            ≡ steps p pk_seed a (value_at x.now j p.n) (slice_index from j) (slice_index counts j) }
     {
         let mut nodes = *x;
         for step in 0..most(counts) {
@@ -124,9 +125,9 @@ impl<'a> SeededLanes<'a> {
     /// In each lane the first n bytes of the digest of PK.seed, zeros, the address and the value of `len` bytes.
     fn digests(&self, adrs: &LaneAdrs, x: &LaneNodes, len: usize) -> LaneNodes
         requires { (len ≡ 16) ⊎ (len ≡ 24) ⊎ (len ≡ 32) }
-        ensures { (p : Params) (pk : List ℕ) → IsSeededLanes self.now p pk → length pk ≡ p.n
+        ensures { (p : Params) (pk_seed : List ℕ) → IsSeededLanes self.now p pk_seed → length pk_seed ≡ p.n
             → (j : ℕ) → j < 8 → (a : Address) → HasAddress adrs.now j a
-            → value_at result j p.n ≡ tweaked_hash SHA_256 p pk a (value_at x.now j len) }
+            → value_at result j p.n ≡ tweaked_hash SHA_256 p pk_seed a (value_at x.now j len) }
     {
         let mut state = splat_all(&self.state);
         compress(&mut state, &second_block(len, adrs, x));
@@ -135,9 +136,9 @@ impl<'a> SeededLanes<'a> {
 
     /// F in one lane after the other, for a PK.seed of another length than n.
     fn f_alone(&self, adrs: &LaneAdrs, x: &LaneNodes) -> LaneNodes
-        ensures { (p : Params) (pk : List ℕ) → IsSeededLanes self.now p pk
+        ensures { (p : Params) (pk_seed : List ℕ) → IsSeededLanes self.now p pk_seed
             → (j : ℕ) → j < 8 → (a : Address) → HasAddress adrs.now j a
-            → value_at result j p.n ≡ F p pk a (value_at x.now j p.n) }
+            → value_at result j p.n ≡ F p pk_seed a (value_at x.now j p.n) }
     {
         let mut nodes = *x;
         for j in 0..8 {
@@ -149,9 +150,9 @@ impl<'a> SeededLanes<'a> {
 
     /// PRF in one lane after the other, for a seed of another length than n.
     fn prf_alone(&self, sk_seed: &[u8], adrs: &LaneAdrs) -> LaneNodes
-        ensures { (p : Params) (pk : List ℕ) → IsSeededLanes self.now p pk
+        ensures { (p : Params) (pk_seed : List ℕ) → IsSeededLanes self.now p pk_seed
             → (j : ℕ) → j < 8 → (a : Address) → HasAddress adrs.now j a
-            → value_at result j p.n ≡ PRF p pk sk_seed.now a }
+            → value_at result j p.n ≡ PRF p pk_seed sk_seed.now a }
     {
         let mut nodes = [Words::splat(0); 8];
         for j in 0..8 {
@@ -164,8 +165,9 @@ impl<'a> SeededLanes<'a> {
     /// The digest of PK.seed, zeros, the address in lane `j` and the bytes.
     fn digest_alone(&self, adrs: &LaneAdrs, j: usize, x: &[u8]) -> [u8; 32]
         requires { j < 8 }
-        ensures { (p : Params) (pk : List ℕ) → IsSeededLanes self.now p pk → (a : Address) → HasAddress adrs.now j a
-            → result ≡ sha256 (tweaked 64 p pk a x.now) }
+        ensures { (p : Params) (pk_seed : List ℕ) → IsSeededLanes self.now p pk_seed → (a : Address)
+            → HasAddress adrs.now j a
+            → result ≡ sha256 (tweaked 64 p pk_seed a x.now) }
     {
         let mut hasher = Sha256::new();
         hasher.update(self.pk_seed);

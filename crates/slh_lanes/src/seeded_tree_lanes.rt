@@ -32,7 +32,8 @@ pub struct SeededTreeLanes<'a> {
 impl<'a> SeededTreeLanes<'a> {
     /// The lanes of H under the PK.seed of these lanes, of n bytes.
     pub fn new(lanes: &SeededLanes<'a>) -> Self
-        ensures { (p : Params) (pk : List ℕ) → IsSeededLanes lanes.now p pk → IsSeededTreeLanes result p pk }
+        ensures { (p : Params) (pk_seed : List ℕ) → IsSeededLanes lanes.now p pk_seed
+            → IsSeededTreeLanes result p pk_seed }
     {
         SeededTreeLanes {
             lanes: *lanes,
@@ -42,7 +43,8 @@ impl<'a> SeededTreeLanes<'a> {
 
     /// The lanes of F and PRF under the same PK.seed.
     pub fn lanes(&self) -> &SeededLanes<'a>
-        ensures { (p : Params) (pk : List ℕ) → IsSeededTreeLanes self.now p pk → IsSeededLanes result.now p pk }
+        ensures { (p : Params) (pk_seed : List ℕ) → IsSeededTreeLanes self.now p pk_seed
+            → IsSeededLanes result.now p pk_seed }
     {
         &self.lanes
     }
@@ -50,9 +52,9 @@ impl<'a> SeededTreeLanes<'a> {
     /// H (FIPS 205, section 11.2) of two nodes of n bytes in each lane, the hash of both at its address. Where PK.seed
     /// has another length than n, nothing is said.
     pub fn h(&self, adrs: &LaneAdrs, left: &LaneNodes, right: &LaneNodes) -> LaneNodes
-        ensures { (p : Params) (pk : List ℕ) → IsSeededTreeLanes self.now p pk → length pk ≡ p.n
+        ensures { (p : Params) (pk_seed : List ℕ) → IsSeededTreeLanes self.now p pk_seed → length pk_seed ≡ p.n
             → (j : ℕ) → j < 8 → (a : Address) → HasAddress adrs.now j a
-            → value_at result j p.n ≡ H p pk a (value_at left.now j p.n) (value_at right.now j p.n) }
+            → value_at result j p.n ≡ H p pk_seed a (value_at left.now j p.n) (value_at right.now j p.n) }
     {
         let n = self.lanes.set.n();
         if n == 16 {
@@ -72,10 +74,10 @@ fn long_digests(
     right: &LaneNodes,
 ) -> LaneNodes
     requires { (n ≡ 24) ⊎ (n ≡ 32) }
-    ensures { (p : Params) (pk : List ℕ) → p.n ≡ n → length pk ≡ p.n
-        → state.now ≡ compress initial_hash_512 (long_first_block p pk)
+    ensures { (p : Params) (pk_seed : List ℕ) → p.n ≡ n → length pk_seed ≡ p.n
+        → state.now ≡ compress initial_hash_512 (long_first_block p pk_seed)
         → (j : ℕ) → j < 8 → (a : Address) → HasAddress adrs.now j a
-        → value_at result j p.n ≡ H p pk a (value_at left.now j p.n) (value_at right.now j p.n) }
+        → value_at result j p.n ≡ H p pk_seed a (value_at left.now j p.n) (value_at right.now j p.n) }
 {
     let mut lanes = splat_all(state);
     compress(&mut lanes, &second_block(n, adrs, left, right));

@@ -9,7 +9,7 @@ use Rattle.slh_subtrees.specs.CutTrees.{CutTrees}
 use Rattle.slh_params.specs.ParamSet.{params}
 use Rattle.slh_subtrees.specs.Jobs.{IsTreeOf, signing_jobs}
 use Rattle.slh_subtrees.specs.declared.range.JobRange.{JobRange}
-use Rattle.slh_par.specs.JobAnswers.{IsAnswer, AreAnswers, kept_by}
+use Rattle.slh_par.specs.JobAnswers.{IsAnswer, AreRangeAnswers, kept_by}
 use Rattle.slh_subtrees.specs.declared.hashed_range.HashedRange.{HashedRange}
 use Rattle.slh_subtrees.specs.declared.signing_trees.SigningTrees.{SigningTrees}
 
@@ -33,7 +33,7 @@ pub answers_apart :
     AllRight s cut xs →
     cs ≡ map (λ x. x.0.cover) xs →
     rs ≡ map (λ x. x.0.path) xs →
-    AreAnswers s cut cs rs
+    AreRangeAnswers s cut cs rs
 answers_apart s cut xs cs rs count right covers records =
     let cover_of : Answer → Cover = λ x. x.0.cover in
     let path_of : Answer → KnownPath = λ x. x.0.path in

@@ -17,7 +17,7 @@ use Rattle.slh_subtrees.specs.declared.range.JobRange.{JobRange}
 use Rattle.slh_subtrees.specs.Joined.{AreHashed}
 use Rattle.slh_subtrees.specs.SigningTrees.{source_of, tree_in, leaf_in}
 use Rattle.slh_subtrees.proofs.TreeLaw.{tree-height}
-use Rattle.slh_par.specs.JobAnswers.{IsAnswer, AreAnswers}
+use Rattle.slh_par.specs.JobAnswers.{IsAnswer, AreRangeAnswers}
 use Rattle.slh_subtrees.specs.declared.signing_trees.SigningTrees.{SigningTrees}
 
 -- the cover of this range
@@ -80,7 +80,7 @@ pub record AreJobsOf (cut : CutTrees) (tree : JobTree) (first count : ℕ) : Typ
   pub some : 0 < count
   pub ends : EndToEnd 0 (2 ^ height_of (params cut.set) tree) (tree_ranges cut tree)
 
-module _ (s : SigningTrees) (cut : CutTrees) (tree : JobTree) (cs : List Cover) (rs : List KnownPath) (first count : ℕ) (same_set : cut.set ≡ s.seeds.set) (answers : AreAnswers s cut cs rs) (jobs : AreJobsOf cut tree first count) where
+module _ (s : SigningTrees) (cut : CutTrees) (tree : JobTree) (cs : List Cover) (rs : List KnownPath) (first count : ℕ) (same_set : cut.set ≡ s.seeds.set) (answers : AreRangeAnswers s cut cs rs) (jobs : AreJobsOf cut tree first count) where
   -- they are some of all jobs
   pub jobs_fit : first + count ≤ length (signing_jobs cut)
   jobs_fit = omega (arith, part_within (signing_jobs cut) (tree_jobs cut tree) first (job_of tree (0, 0)) jobs.at (omega (arith, jobs.all, jobs.some)), jobs.all)

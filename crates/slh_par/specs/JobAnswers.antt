@@ -32,7 +32,7 @@ as_list None = []
 as_list (Some x) = x ∷ []
 
 -- the covers and the records of all jobs of the signature, in the order of their numbers
-pub record AreAnswers (s : SigningTrees) (cut : CutTrees) (cs : List Cover) (rs : List KnownPath) : Type 0 where
+pub record AreRangeAnswers (s : SigningTrees) (cut : CutTrees) (cs : List Cover) (rs : List KnownPath) : Type 0 where
   pub covers : length cs ≡ length (signing_jobs cut)
   pub records : length rs ≡ length (signing_jobs cut)
   pub each : (n : ℕ) (job : JobRange) (c : Cover) (r : KnownPath) → slice_get (signing_jobs cut) n ≡ Some job → IsAnswer s job (slice_index_or cs n c) (slice_index_or rs n r)

@@ -12,26 +12,31 @@ ghost use Rattle.slh_par.specs.declared.fault.ParFault.TheVariants.{Stopped};
 use crate::fault::ParFault;
 use crate::parallel::Parallel;
 use crate::signing::sign_parts_par;
-use slh_core::signing_steps::{pre_hash_digest, pre_hash_head, pure_head};
 use slh_core::{Form, PreHash, Randomizer, SecretKey};
 use slh_subtrees::Cutting;
 use slh_workers::{Gate, Workers};
 use std::alloc::Allocator;
 use std::thread::Threads;
 
-/// Signs a message in a form, under a context, writing `sig_len` bytes: those of `Form::sign` of `slh_core`. Refused as
-/// `sign_par` is.
-fn sign_form_par<R: Threads + Sync, A: Allocator + Clone + Send + Sync, G: Gate>(
-    parallel: Parallel<'_, R, A, G>,
+/// Signs a message in a form, under a context (FIPS 205, Algorithms 22 and 23), by several workers, writing `sig_len`
+/// bytes: those of `Form::sign` of `slh_core`. Refused, with nothing written: first `ContextTooLong`, before any thread
+/// is started, where the context has over 255 bytes; then `NoMemory` where a growth was refused; then `Stopped` where
+/// the gate stopped the run. It waits only for the threads that it started.
+pub fn sign_form_par<R: Threads + Sync, A: Allocator + Clone + Send + Sync, G: Gate>(
+    rt: &R,
+    alloc: A,
     form: Form,
     msg: &[u8],
     ctx: &[u8],
     sk: &SecretKey,
     randomizer: Randomizer,
+    workers: Workers,
+    cutting: &Cutting,
+    gate: &G,
     out: &mut [u8],
 ) -> Result<(), ParFault>
     requires randomizer { HasLength randomizer (params sk.now.set).n }
-    requires cutting { parallel.cutting.now.set ≡ sk.now.set }
+    requires cutting { cutting.now.set ≡ sk.now.set }
     requires out { length out.old ≡ sig_len (params sk.now.set) }
     ensures signature { OnOk result (out.new
         ≡ signature_by sk.now (message_in_form form ctx.now msg.now) randomizer.entry) }
@@ -40,31 +45,24 @@ fn sign_form_par<R: Threads + Sync, A: Allocator + Clone + Send + Sync, G: Gate>
     ensures refused { OnErr result (out.new ≡ out.old) }
     ensures len { length out.new ≡ length out.old }
     ensures too_long { (result ≡ Err ParFault.ContextTooLong) ↔ (255 < length ctx.now) }
-    ensures stopped { IfErr result (λ fault. fault ≡ Stopped → G.may_stop parallel.entry.gate.now) }
+    ensures stopped { IfErr result (λ fault. fault ≡ Stopped → G.may_stop gate.now) }
 {
-    match form {
-        Form::Pure => {
-            let Some(head) = pure_head(ctx) else {
-                return Err(ParFault::ContextTooLong);
-            };
-            sign_parts_par(parallel, &[&head, ctx, msg], sk, randomizer, out)?;
-        }
-        Form::PreHash(function) => {
-            let Some(head) = pre_hash_head(ctx) else {
-                return Err(ParFault::ContextTooLong);
-            };
-            let digest = pre_hash_digest(msg, function);
-            let parts = [&head, ctx, &function.oid(), digest.bytes()];
-            sign_parts_par(parallel, &parts, sk, randomizer, out)?;
-        }
-    }
+    let Some(message) = form.message(msg, ctx) else {
+        return Err(ParFault::ContextTooLong);
+    };
+    let parallel = Parallel {
+        rt,
+        alloc,
+        workers,
+        cutting,
+        gate,
+    };
+    sign_parts_par(parallel, &message.parts(), sk, randomizer, out)?;
     Ok(())
 }
 
 /// Signs a message under a context (FIPS 205, Algorithm 22) by several workers, writing `sig_len` bytes: those of
-/// `slh_core::sign`. Refused, with nothing written: first `ContextTooLong`, before any thread is started, where the
-/// context has over 255 bytes; then `NoMemory` where a growth was refused; then `Stopped` where the gate stopped the
-/// run. It waits only for the threads that it started.
+/// `slh_core::sign`. It is `sign_form_par` in the pure form, and refused as that is.
 pub fn sign_par<R: Threads + Sync, A: Allocator + Clone + Send + Sync, G: Gate>(
     rt: &R,
     alloc: A,
@@ -89,18 +87,15 @@ pub fn sign_par<R: Threads + Sync, A: Allocator + Clone + Send + Sync, G: Gate>(
     ensures too_long { (result ≡ Err ParFault.ContextTooLong) ↔ (255 < length ctx.now) }
     ensures stopped { IfErr result (λ fault. fault ≡ Stopped → G.may_stop gate.now) }
 {
-    let parallel = Parallel {
-        rt,
-        alloc,
-        workers,
-        cutting,
-        gate,
-    };
-    sign_form_par(parallel, Form::Pure, msg, ctx, sk, randomizer, out)
+    let form = Form::Pure;
+    sign_form_par(
+        rt, alloc, form, msg, ctx, sk, randomizer, workers, cutting, gate, out,
+    )
 }
 
 /// Signs a message by its digest under `function`, and under a context (FIPS 205, Algorithm 23), by several workers,
-/// writing `sig_len` bytes: those of `slh_core::hash_sign`. The refusals are those of `sign_par`, in the same order.
+/// writing `sig_len` bytes: those of `slh_core::hash_sign`. It is `sign_form_par` in the pre-hash form, and refused as
+/// that is.
 pub fn hash_sign_par<R: Threads + Sync, A: Allocator + Clone + Send + Sync, G: Gate>(
     rt: &R,
     alloc: A,
@@ -126,13 +121,8 @@ pub fn hash_sign_par<R: Threads + Sync, A: Allocator + Clone + Send + Sync, G: G
     ensures too_long { (result ≡ Err ParFault.ContextTooLong) ↔ (255 < length ctx.now) }
     ensures stopped { IfErr result (λ fault. fault ≡ Stopped → G.may_stop gate.now) }
 {
-    let parallel = Parallel {
-        rt,
-        alloc,
-        workers,
-        cutting,
-        gate,
-    };
     let form = Form::PreHash(function);
-    sign_form_par(parallel, form, msg, ctx, sk, randomizer, out)
+    sign_form_par(
+        rt, alloc, form, msg, ctx, sk, randomizer, workers, cutting, gate, out,
+    )
 }

@@ -6,7 +6,7 @@ ghost use Rattle.slh_subtrees.specs.Jobs.{IsTreeOf, height_of, tree_ranges, tree
 ghost use Rattle.slh_subtrees.specs.Points.{EndToEnd};
 ghost use Rattle.slh_subtrees.specs.Joined.{IsJoined};
 ghost use Rattle.slh_par.specs.JoinedTrees.{AreJoined, numbered};
-ghost use Rattle.slh_par.specs.JobAnswers.{AreAnswers, as_list};
+ghost use Rattle.slh_par.specs.JobAnswers.{AreRangeAnswers, as_list};
 ghost use Rattle.slh_subtrees.specs.SigningTrees.{source_of, tree_in, leaf_in};
 
 use crate::ranges::{JobAnswer, LayerChains};
@@ -96,7 +96,7 @@ fn tree_of_ranges(
 ) -> JoinedTree
     requires set { cutting.now.set ≡ trees.now.seeds.set }
     requires tree { IsTreeOf (params cutting.now.set) tree }
-    requires answers { AreAnswers trees.now cutting.now covers.now records.now }
+    requires answers { AreRangeAnswers trees.now cutting.now covers.now records.now }
     ensures { IsJoined (tree_in trees.now tree) (leaf_in trees.now tree) result }
 {
     let first = cutting.first_job(tree);
@@ -118,7 +118,7 @@ pub(crate) fn trees_of_ranges<A: Allocator>(
     records: &[PathRec],
 ) -> Result<Vec<JoinedTree, A>, NoMemory>
     requires set { cutting.now.set ≡ trees.now.seeds.set }
-    requires answers { AreAnswers trees.now cutting.now covers.now records.now }
+    requires answers { AreRangeAnswers trees.now cutting.now covers.now records.now }
     ensures { IfOk result (λ xs. AreJoined (source_of trees.now) xs.items) }
 {
     let set = cutting.set();

@@ -84,4 +84,14 @@ impl ParamSet {
         a: 9,
         k: 35,
     };
+
+    /// The six sets, in the order of the standard's table.
+    pub const ALL: [ParamSet; 6] = [
+        ParamSet::S128s,
+        ParamSet::S128f,
+        ParamSet::S192s,
+        ParamSet::S192f,
+        ParamSet::S256s,
+        ParamSet::S256f,
+    ];
 }

@@ -3,7 +3,7 @@ pub mod Rising
 pub mod Levels
 pub mod Ranges
 pub mod Ends
-pub mod Trees
+pub mod Pieces
 pub mod Numbered
 pub mod Hashed
 pub mod Merging

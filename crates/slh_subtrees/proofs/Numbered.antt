@@ -13,7 +13,7 @@ use Rattle.slh_subtrees.specs.declared.range.JobTree.TheVariants.{Xmss, Fors}
 use Rattle.slh_subtrees.specs.declared.range.JobRange.{JobRange}
 use Rattle.slh_params.proofs.Bounds.{d_low}
 use Rattle.slh_subtrees.proofs.Ranges.{length-ranges, lo-ranges, hi-ranges}
-use Rattle.slh_subtrees.proofs.Trees.{length-pieces, at-pieces, below_pieces, piece_below}
+use Rattle.slh_subtrees.proofs.Pieces.{length-pieces, at-pieces, below_pieces, piece_below}
 use Rattle.slh_subtrees.proofs.Ends.{end_to_end-at}
 
 abbrev pub in_tree : JobTree → ℕ × ℕ → JobRange

@@ -2,7 +2,7 @@ pub mod CutTrees
 pub mod Points
 pub mod CutFaults
 pub mod Jobs
-pub mod Kept
+pub mod CuttingFields
 pub mod Trees
 pub mod SigningTrees
 pub mod Joined

@@ -25,7 +25,7 @@ impl Model for Cutting {
 
     ghost Value = { CutTrees };
 
-    ghost use Rattle.slh_subtrees.specs.Kept.{cut_trees_of, HasGoodPoints};
+    ghost use Rattle.slh_subtrees.specs.CuttingFields.{cut_trees_of, HasGoodPoints};
 
     ghost view = { cut_trees_of };
 

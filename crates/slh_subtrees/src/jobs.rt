@@ -2,9 +2,13 @@
 ghost use Rattle.std.specs.Prelude.{◌≡◌, ℕ, ◌+◌, ◌-◌, ◌*◌, ◌<◌, ◌≤◌, ◌^◌, length, Some, slice_get};
 ghost use Rattle.slh_params.specs.ParamSet.{params};
 ghost use Rattle.slh_subtrees.specs.Jobs.{IsTreeOf, height_of, signing_jobs, key_generation_jobs};
+ghost use Rattle.slh_subtrees.specs.declared.jobs.TheConstants.{MOST_JOBS_OF_A_KIND};
 
 use crate::cutting::Cutting;
 use crate::range::{JobRange, JobTree};
+
+/// At least the jobs of all trees of one kind in any set: 65 trees of 256 ranges.
+pub const MOST_JOBS_OF_A_KIND: u32 = 65 * 256;
 
 /// The number of jobs of a signature: the ranges of its d XMSS trees and of its k FORS trees.
 pub fn sign_jobs(cutting: &Cutting) -> u32
@@ -13,7 +17,7 @@ pub fn sign_jobs(cutting: &Cutting) -> u32
         + (params cutting.now.set).k * (length cutting.now.fors + 1) }
 {
     let set = cutting.set();
-    times(set.d(), cutting.xmss_ranges()) + times(set.k(), cutting.fors_ranges())
+    ranges_of(set.d(), cutting.xmss_ranges()) + ranges_of(set.k(), cutting.fors_ranges())
 }
 
 /// The number of jobs of key generation: the ranges of one XMSS tree.
@@ -21,7 +25,7 @@ pub fn keygen_jobs(cutting: &Cutting) -> u32
     ensures jobs { result ≡ length (key_generation_jobs cutting.now) }
     ensures ranges { result ≡ length cutting.now.xmss + 1 }
 {
-    times(1, cutting.xmss_ranges())
+    cutting.xmss_ranges()
 }
 
 /// The signing job of this number: first come the ranges of the XMSS trees, from layer 0 on, and then those of the FORS
@@ -35,7 +39,7 @@ pub fn job(cutting: &Cutting, number: u32) -> JobRange
 {
     let set = cutting.set();
     let each = cutting.xmss_ranges();
-    let xmss_jobs = times(set.d(), each);
+    let xmss_jobs = ranges_of(set.d(), each);
     if number < xmss_jobs {
         cutting.job_in(JobTree::Xmss((number / each) as u8), number % each)
     } else {
@@ -61,11 +65,11 @@ pub fn keygen_job(cutting: &Cutting, number: u32) -> JobRange
 }
 
 /// The ranges of this many trees, each cut into as many.
-fn times(trees: u32, ranges: u32) -> u32
+pub fn ranges_of(trees: u32, ranges: u32) -> u32
     requires trees { trees ≤ 65 }
     requires ranges { ranges ≤ 256 }
     ensures product { result ≡ trees * ranges }
-    ensures few { result ≤ 16640 }
+    ensures few { result ≤ MOST_JOBS_OF_A_KIND }
 {
     trees * ranges
 }

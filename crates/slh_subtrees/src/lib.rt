@@ -25,7 +25,7 @@ pub use cuts::{Cuts, levels_cut_evenly};
 pub use cutting::Cutting;
 pub use fault::{CutFault, CutTree};
 pub use hashed_range::HashedRange;
-pub use jobs::{job, keygen_job, keygen_jobs, sign_jobs};
+pub use jobs::{MOST_JOBS_OF_A_KIND, job, keygen_job, keygen_jobs, ranges_of, sign_jobs};
 pub use joining::JoinedTree;
 pub use range::{JobRange, JobTree};
 pub use signing_trees::SigningTrees;

@@ -10,8 +10,8 @@ use crate::hashed_range::HashedRange;
 use crate::joining::{JoinedTree, joined};
 use crate::range::JobTree;
 use slh_few::{
-    ForsTree, MOST_LAYERS, MOST_TREES, Place, Public, Seeds, XmssTree, fors_indices, fors_range,
-    fors_secret, layer_places, xmss_range, xmss_range_keeping,
+    ForsTree, MOST_LAYERS, MOST_TREES, Place, Public, Seeds, XmssTree, fors_indices, fors_node,
+    fors_range, fors_secret, layer_places, xmss_node, xmss_range, xmss_range_keeping,
 };
 use slh_params::Node;
 use slh_tree::{Cover, PathRec};
@@ -39,6 +39,7 @@ pub struct SigningTrees<'a> {
 
 impl<'a> SigningTrees<'a> {
     ghost use Rattle.slh_tree.specs.Cover.{first_leaf, past_leaf};
+    ghost use Rattle.slh_tree.specs.Tree.{node};
     ghost use Rattle.slh_tree.specs.declared.cover.Placed.{Placed};
     ghost use Rattle.slh_few.specs.KeptChains.{kept_chains_len};
     ghost use Rattle.slh_subtrees.specs.Jobs.{IsTreeOf, height_of};
@@ -102,8 +103,8 @@ impl<'a> SigningTrees<'a> {
         }
     }
 
-    /// What is made of the leaves from `lo` to `hi`, `hi` left out, of the XMSS tree of a layer, the signing leaf among
-    /// them. Writes what is kept of the chains of that leaf's key, `kept_chains_len` bytes.
+    /// What is made of the leaves from `lo` to `hi`, `hi` left out, of the XMSS tree of a layer. Writes what is kept of the
+    /// chains of the key that signs there, `kept_chains_len` bytes; where its leaf is among these, no chain is made twice.
     #[tactic(auto, using(slh_params::proofs::Bounds::hp_low, slh_params::proofs::Bounds::hp_high))]
     pub fn hashed_keeping(&self, layer: u8, lo: u32, hi: u32, kept: &mut [u8]) -> HashedRange
         requires layer { layer < (params self.now.seeds.set).d }
@@ -167,6 +168,20 @@ impl<'a> SigningTrees<'a> {
             &mut path,
         );
         HashedRange { cover, path }
+    }
+
+    /// The node of height `z` at index `i` of a tree, n bytes, from its own leaves alone (FIPS 205, Algorithms 9 and 15).
+    pub fn node(&self, tree: JobTree, z: u32, i: u32) -> Node
+        requires tree { IsTreeOf (params self.now.seeds.set) tree }
+        requires height { z ≤ height_of (params self.now.seeds.set) tree }
+        requires within { past_leaf z i ≤ 2 ^ height_of (params self.now.seeds.set) tree }
+        ensures { result.items ≡ node (tree_in self.now tree) z i }
+    {
+        let seeds = &self.seeds;
+        match tree {
+            JobTree::Xmss(layer) => xmss_node(seeds, layer, self.layer_place(layer).tree, z, i),
+            JobTree::Fors(number) => fors_node(seeds, self.idx_tree, self.idx_leaf, number, z, i),
+        }
     }
 
     /// The place at a layer: the tree there, and the leaf of it whose key signs (FIPS 205, Algorithm 12, lines 7 and

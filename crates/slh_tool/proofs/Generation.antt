@@ -3,7 +3,7 @@ use Rattle.std.proofs.Common.{◌≡◌, Some, ap, subst, sym, ◌∙◌}
 use Rattle.clap.specs.Words.{Text}
 use Rattle.slh_core.specs.Keys.{Key}
 use Rattle.slh_subtrees.specs.CutTrees.{CutTrees}
-use Rattle.slh_devices.specs.Devices.{SourceState}
+use Rattle.slh_io.specs.Devices.{SourceState}
 use Rattle.slh_files.specs.KeyFile.{key_text}
 use Rattle.slh_files.specs.declared.key_kind.KeyKind.TheVariants.{Secret}
 use Rattle.slh_params.specs.Label.{set_of_label}

@@ -7,7 +7,7 @@ use Rattle.slh_core.specs.Keys.{Key}
 use Rattle.slh_core.specs.Signatures.{IsValid}
 use Rattle.slh_params.specs.Params.{sig_len}
 use Rattle.slh_params.specs.ParamSet.{params}
-use Rattle.slh_devices.specs.Devices.{EndsBy, FilesState, Grew, HasPart}
+use Rattle.slh_io.specs.Devices.{EndsBy, FilesState, Grew, HasPart}
 use Rattle.std.proofs.lemmas.Bool.Decides.{Decides-eqb, not_from_Decides}
 use Rattle.slh_files.specs.KeyFile.{AreReadAlike, any_key_file, key_file, or_secret}
 use Rattle.slh_files.specs.declared.fault.FileFault.{FileFault}

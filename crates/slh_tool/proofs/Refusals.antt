@@ -1,15 +1,16 @@
 -- Refusals after a key was read.
-use Rattle.std.proofs.Common.{◌≡◌, ◌⊎◌, ◌<◌, ◌≤◌, Bool, length, Option, None, OnOk, Result, Some, Ok, Err, IfOk, IfErr, IsErrAnd, inl, inr, subst, sym}
+use Rattle.std.proofs.Common.{◌≡◌, ◌⊎◌, ◌<◌, ◌≤◌, Bool, length, Option, OnOk, Result, Some, Ok, Err, IfOk, IfErr, IsErrAnd, inl, inr, subst, sym}
 use Rattle.clap.specs.Words.{Text}
 use Rattle.slh_core.specs.Keys.{Key}
-use Rattle.slh_devices.specs.Devices.{FilesState, SourceState}
+use Rattle.slh_io.specs.Devices.{FilesState, SourceState}
 use Rattle.slh_files.specs.declared.key_kind.KeyKind.TheVariants.{Public, Secret}
 use Rattle.slh_params.specs.declared.param_set.ParamSet.{ParamSet}
 use Rattle.slh_params.specs.Label.{set_of_label}
 use Rattle.slh_params.specs.Params.{sig_len}
 use Rattle.slh_params.specs.ParamSet.{params}
-use Rattle.slh_core.specs.Messages.{message_in_form, form_with}
-use Rattle.slh_core.specs.declared.pre_hash.PreHash.{PreHash}
+use Rattle.slh_core.specs.Messages.{message_in_form}
+use Rattle.slh_core.specs.declared.form.Form.{Form}
+use Rattle.slh_core.specs.declared.form.Form.TheVariants.{Pure}
 use Rattle.slh_subtrees.specs.CutTrees.{CutTrees}
 use Rattle.slh_tool.specs.Options.{HasForm, random_of, signature_of}
 use Rattle.slh_tool.specs.Cuts.{HasCutting, IsCutting, RefusesCutting}
@@ -115,24 +116,24 @@ pub signed_with : {T : Type 0} (bytes : T → Text) (options : SignOptions) (old
 signed_with bytes options old mid key (Ok x) held kept h = (key, held, subst (λ (s : FilesState). SignsWith options s key (bytes x)) kept h)
 signed_with bytes options old mid key (Err e) held kept h = tt
 
-pub made : {T : Type 0} (bytes : T → Text) (options : SignOptions) (files : FilesState) (key : Key) (context : Text) (prehash : Option PreHash) (random : Option Text)
-    (message : Text) (cutting : CutTrees) (r : Result T Fault) → HasForm options.form context prehash → random_of key.set options.random ≡ Some random
+pub made : {T : Type 0} (bytes : T → Text) (options : SignOptions) (files : FilesState) (key : Key) (context : Text) (form : Form) (random : Option Text)
+    (message : Text) (cutting : CutTrees) (r : Result T Fault) → HasForm options.form context form → random_of key.set options.random ≡ Some random
     → IsCutting options.work key.set cutting → IsFile files options.message message → OnOk r (length context ≤ 255)
-    → IfOk r (λ x. bytes x ≡ signature_of key (message_in_form (form_with prehash) context message) random) → IfOk r (λ x. SignsWith options files key (bytes x))
-made bytes options files key context prehash random message cutting (Ok x) form randomizer cut read short signed = record {
+    → IfOk r (λ x. bytes x ≡ signature_of key (message_in_form form context message) random) → IfOk r (λ x. SignsWith options files key (bytes x))
+made bytes options files key context form random message cutting (Ok x) asked randomizer cut read short signed = record {
   context = context;
-  prehash = prehash;
+  form = form;
   random = random;
   message = message;
   cutting = cutting;
-  form = form;
+  asked = asked;
   randomizer = randomizer;
   cut = cut;
   read = read;
   short = short;
   signed = signed;
 }
-made bytes options files key context prehash random message cutting (Err e) form randomizer cut read short signed = tt
+made bytes options files key context form random message cutting (Err e) asked randomizer cut read short signed = tt
 
 -- the fault that `?` hands on
 pub handed_on : {T : Type 0} (P : Fault → Type 0) (r : Result T Fault) (e : Fault) → IsErrAnd r (λ f. f ≡ e) → P e → IfErr r P
@@ -142,7 +143,7 @@ handed_on P (Err f) e h p = subst P (sym h) p
 -- the verdict on a message is that on both files
 pub judged_files : (options : VerifyOptions) (old mid : FilesState) (key : Key) (context front : Text) (r : Result Bool Fault) → mid ≡ old
     → IsFrontOfFile old options.signature (sig_len (params key.set)) front → IfOk r (JudgesMessage mid options.message key context front)
-    → IfOk r (JudgesFiles options old key context None)
+    → IfOk r (JudgesFiles options old key context Pure)
 judged_files options old mid key context front (Ok answer) kept signature judged = record {
   message = judged.0;
   signature = signature.0;

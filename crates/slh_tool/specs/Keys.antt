@@ -2,7 +2,7 @@
 use Rattle.std.specs.Prelude.{◌≡◌, ◌⊎◌, ⊤, ℕ, List, take, drop, Some, None, Ok, Err}
 use Rattle.clap.specs.Words.{Text}
 use Rattle.slh_core.specs.Keys.{Key, generated_key}
-use Rattle.slh_devices.specs.Devices.{FilesState, SourceState}
+use Rattle.slh_io.specs.Devices.{FilesState, SourceState}
 use Rattle.slh_files.specs.KeyFile.{any_key_file, key_file}
 use Rattle.slh_files.specs.declared.fault.FileFault.{FileFault}
 use Rattle.slh_files.specs.declared.key_file.AnyKey.{AnyKey}

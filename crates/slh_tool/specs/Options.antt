@@ -6,7 +6,8 @@ use Rattle.hex.specs.Hex.{decode_of, decode_sized}
 use Rattle.slh_core.specs.Keys.{Key, pk_seed, public_of}
 use Rattle.slh_core.specs.PreHash.{function_named}
 use Rattle.slh_core.specs.Signatures.{signature}
-use Rattle.slh_core.specs.declared.pre_hash.PreHash.{PreHash}
+use Rattle.slh_core.specs.declared.form.Form.{Form}
+use Rattle.slh_core.specs.declared.form.Form.TheVariants.{Pure, PreHash}
 use Rattle.slh_params.specs.ParamSet.{params}
 use Rattle.slh_params.specs.declared.param_set.ParamSet.{ParamSet}
 use Rattle.slh_tool.specs.Requests.{FormOptions}
@@ -18,25 +19,25 @@ unfoldable pub context_of : Option Text → Option Text
 context_of None = Some []
 context_of (Some digits) = result_ok (decode_of digits)
 
--- the pre-hash function that an option names, if it stands there
-unfoldable pub prehash_of : Option Text → Option (Option PreHash)
-prehash_of None = Some None
-prehash_of (Some text) = option_map (λ function. Some function) (function_named text)
+-- the pre-hash form with the function that an option names, or the pure form where it does not stand
+unfoldable pub form_of : Option Text → Option Form
+form_of None = Some Pure
+form_of (Some text) = option_map (λ function. PreHash function) (function_named text)
 
 -- the n bytes of a randomizer that an option spells, if it stands there
 unfoldable pub random_of : ParamSet → Option Text → Option (Option Text)
 random_of set None = Some None
 random_of set (Some digits) = option_map (λ bytes. Some bytes) (result_ok (decode_sized digits (params set).n))
 
--- the context and the pre-hash function that the options give
-abbrev pub HasForm : FormOptions → Text → Option PreHash → Type 0
-HasForm form context prehash = (context_of form.context ≡ Some context) × (prehash_of form.prehash ≡ Some prehash)
+-- the context and the form that the options give
+abbrev pub HasForm : FormOptions → Text → Form → Type 0
+HasForm options context form = (context_of options.context ≡ Some context) × (form_of options.prehash ≡ Some form)
 
 -- why the options give none: memory, or one of them has an invalid value
 abbrev pub RefusesForm : FormOptions → Fault → Type 0
-RefusesForm form NoMemory = ⊤
-RefusesForm form BadOption = (context_of form.context ≡ None) ⊎ (prehash_of form.prehash ≡ None)
-RefusesForm form fault = ⊥
+RefusesForm options NoMemory = ⊤
+RefusesForm options BadOption = (context_of options.context ≡ None) ⊎ (form_of options.prehash ≡ None)
+RefusesForm options fault = ⊥
 
 -- opt_rand: the given randomizer, or PK.seed in the deterministic variant (FIPS 205, Algorithm 19, line 2)
 abbrev pub opt_rand_of : Option Text → Text → Text

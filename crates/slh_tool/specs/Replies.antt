@@ -1,22 +1,22 @@
 -- What each command writes, and why it is refused.
-use Rattle.std.specs.Prelude.{◌≡◌, ⊤, ◌⊎◌, ◌↔◌, ℕ, ◌<◌, ◌≤◌, List, Bool, true, false, IsTrue, [], ◌∷◌, ◌++◌, length, Option, Some, None, codes}
+use Rattle.std.specs.Prelude.{◌≡◌, ⊤, ◌⊎◌, ◌↔◌, ℕ, ◌<◌, ◌≤◌, List, Bool, true, false, IsTrue, [], ◌∷◌, ◌++◌, length, Option, Some, None, Ok, codes}
 use Rattle.clap.specs.Words.{Kinds, Text, fault_of, subcommand_of}
 use Rattle.hex.specs.Hex.{encode_lower}
 use Rattle.slh_core.specs.Keys.{IsGeneratedKey, Key, public_of}
-use Rattle.slh_core.specs.Messages.{message_in_form, form_with}
+use Rattle.slh_core.specs.Messages.{message_in_form}
 use Rattle.slh_core.specs.Signatures.{IsValid}
-use Rattle.slh_core.specs.declared.pre_hash.PreHash.{PreHash}
+use Rattle.slh_core.specs.declared.form.Form.{Form}
+use Rattle.slh_core.specs.declared.form.Form.TheVariants.{Pure}
 use Rattle.slh_subtrees.specs.CutTrees.{CutTrees}
-use Rattle.slh_devices.specs.Devices.{FilesState, SourceState}
-use Rattle.slh_files.specs.KeyFile.{any_key_text, key_text}
+use Rattle.slh_io.specs.Devices.{FilesState, SourceState}
+use Rattle.slh_files.specs.KeyFile.{key_text, upgraded}
 use Rattle.slh_files.specs.Lines.{line}
-use Rattle.slh_files.specs.declared.key_file.AnyKey.{AnyKey}
 use Rattle.slh_files.specs.declared.key_kind.KeyKind.TheVariants.{Public, Secret}
 use Rattle.slh_params.specs.Label.{set_of_label}
 use Rattle.slh_params.specs.ParamSet.{sets}
 use Rattle.slh_params.specs.declared.param_set.ParamSet.{ParamSet}
 use Rattle.slh_tool.specs.Cuts.{HasCutting, IsCutting, RefusesCutting}
-use Rattle.slh_tool.specs.Keys.{HoldsAnyKey, HoldsKey, IsGeneratedFrom, RefusesAnyKey, RefusesKey, RefusesSeedsOf}
+use Rattle.slh_tool.specs.Keys.{HoldsKey, IsGeneratedFrom, RefusesAnyKey, RefusesKey, RefusesSeedsOf}
 use Rattle.slh_tool.specs.Options.{HasForm, RefusesForm, random_of, signature_of}
 use Rattle.slh_tool.specs.Reading.{IsFile, RefusesFile}
 use Rattle.slh_arguments.specs.Command.{slh_app}
@@ -72,21 +72,21 @@ ChecksKey path files status text = (key : Key) × HoldsKey Secret files path key
 
 -- `upgrade`: the key file of version 2 of a key file of either kind and version
 abbrev pub UpgradesKey : Text → FilesState → Text → Type 0
-UpgradesKey path files text = (key : AnyKey) × HoldsAnyKey files path key × (text ≡ any_key_text key)
+UpgradesKey path files text = (file : Text) × IsFile files path file × (upgraded file ≡ Ok text)
 
 -- a signature with a key, whatever the cutting
 pub record SignsWith (options : SignOptions) (files : FilesState) (key : Key) (text : Text) : Type 0 where
   pub context : Text
-  pub prehash : Option PreHash
+  pub form : Form
   pub random : Option Text
   pub message : Text
   pub cutting : CutTrees
-  pub form : HasForm options.form context prehash
+  pub asked : HasForm options.form context form
   pub randomizer : random_of key.set options.random ≡ Some random
   pub cut : IsCutting options.work key.set cutting
   pub read : IsFile files options.message message
   pub short : length context ≤ 255
-  pub signed : text ≡ signature_of key (message_in_form (form_with prehash) context message) random
+  pub signed : text ≡ signature_of key (message_in_form form context message) random
 
 -- `sign`: the signature with the key of a secret key file
 abbrev pub SignsMessage : SignOptions → FilesState → Text → Type 0
@@ -98,7 +98,7 @@ RefusesSignForm options set fault = RefusesForm options.form fault ⊎ ((fault �
 
 -- the options of `sign` have valid values, with this context
 abbrev pub HasSignForm : SignOptions → ParamSet → Text → Type 0
-HasSignForm options set context = ((prehash : Option PreHash) × HasForm options.form context prehash)
+HasSignForm options set context = ((form : Form) × HasForm options.form context form)
     × ((random : Option Text) × (random_of set options.random ≡ Some random))
 
 -- why no message is signed under a context: the message, then the context's length
@@ -117,26 +117,26 @@ RefusesSign options old new fault = RefusesKey Secret old new options.key fault
     ⊎ ((key : Key) × HoldsKey Secret old options.key key × RefusesSigning options key.set old new fault)
 
 -- whether the context is short enough and the signature valid (FIPS 205, Algorithms 24 and 25)
-abbrev pub IsValidIn : Option PreHash → Text → Text → Text → Key → Type 0
-IsValidIn prehash context message signature key =
-    (length context ≤ 255) × IsValid key (message_in_form (form_with prehash) context message) signature
+abbrev pub IsValidIn : Form → Text → Text → Text → Key → Type 0
+IsValidIn form context message signature key =
+    (length context ≤ 255) × IsValid key (message_in_form form context message) signature
 
 -- the truth of a signature of a message file, in the pure form
 abbrev pub JudgesMessage : FilesState → Text → Key → Text → Text → Bool → Type 0
 JudgesMessage files path key context signature answer =
-    (message : Text) × IsFile files path message × (IsTrue answer ↔ IsValidIn None context message signature key)
+    (message : Text) × IsFile files path message × (IsTrue answer ↔ IsValidIn Pure context message signature key)
 
 -- the truth of a signature file with a key, in a form
-pub record JudgesFiles (options : VerifyOptions) (files : FilesState) (key : Key) (context : Text) (prehash : Option PreHash) (answer : Bool) : Type 0 where
+pub record JudgesFiles (options : VerifyOptions) (files : FilesState) (key : Key) (context : Text) (form : Form) (answer : Bool) : Type 0 where
   pub message : Text
   pub signature : Text
   pub read : IsFile files options.message message
   pub signature_read : IsFile files options.signature signature
-  pub truth : IsTrue answer ↔ IsValidIn prehash context message signature key
+  pub truth : IsTrue answer ↔ IsValidIn form context message signature key
 
 abbrev pub JudgesWith : VerifyOptions → FilesState → Key → Bool → Type 0
-JudgesWith options files key answer = (context : Text) × ((prehash : Option PreHash) × HasForm options.form context prehash
-    × JudgesFiles options files key context prehash answer)
+JudgesWith options files key answer = (context : Text) × ((form : Form) × HasForm options.form context form
+    × JudgesFiles options files key context form answer)
 
 -- `verify`: the truth of a signature file with the key of a public key file
 abbrev pub VerifiesMessage : VerifyOptions → FilesState → ℕ → Text → Type 0
@@ -151,7 +151,7 @@ RefusesFiles options old new fault = RefusesFile old new options.message fault
 -- why nothing is verified with a key that was read: an option, then the files
 abbrev pub RefusesVerifying : VerifyOptions → FilesState → FilesState → Fault → Type 0
 RefusesVerifying options old new fault = RefusesForm options.form fault
-    ⊎ ((context : Text) × ((prehash : Option PreHash) × HasForm options.form context prehash × RefusesFiles options old new fault))
+    ⊎ ((context : Text) × ((form : Form) × HasForm options.form context form × RefusesFiles options old new fault))
 
 abbrev pub RefusesVerify : VerifyOptions → FilesState → FilesState → Fault → Type 0
 RefusesVerify options old new fault = RefusesKey Public old new options.key fault

@@ -2,7 +2,7 @@
 use Rattle.std.specs.Prelude.{◌≡◌, ◌⊎◌, ⊤, ℕ, List}
 use Rattle.std.specs.Io.KnownBytes.{Appends}
 use Rattle.clap.specs.Words.{Text}
-use Rattle.slh_devices.specs.Devices.{FilesState, Grew, LetsThrough, SinkState, SourceState}
+use Rattle.slh_io.specs.Devices.{FilesState, Grew, LetsThrough, SinkState, SourceState}
 use Rattle.slh_tool.specs.Replies.{IsRefusal, IsReply}
 use Rattle.slh_tool.specs.Requests.{AreBad, AskHelp, Asked, Asks}
 use Rattle.slh_tool.specs.declared.fault.Fault.{Fault}

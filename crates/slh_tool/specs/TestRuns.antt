@@ -2,7 +2,7 @@
 use Rattle.std.specs.Prelude.{◌≡◌, ◌⊎◌, ℕ, List}
 use Rattle.std.specs.List.{All}
 use Rattle.clap.specs.Words.{Text}
-use Rattle.slh_devices.specs.Devices.{FilesState}
+use Rattle.slh_io.specs.Devices.{FilesState}
 use Rattle.slh_tool.specs.Faults.{of_vectors}
 use Rattle.slh_tool.specs.Reading.{IsFile, RefusesFile}
 use Rattle.slh_tool.specs.declared.fault.Fault.{Fault}

@@ -1,7 +1,7 @@
 ghost use Rattle.std.specs.Prelude.{◌≡◌, ◌*◌, ◌++◌, ◌∷◌, [], length, IfOk, IfErr, string_bytes};
 ghost use Rattle.hex.specs.Hex.{encode_lower};
 ghost use Rattle.slh_core.specs.Keys.{public_of};
-ghost use Rattle.slh_devices.specs.Devices.{TakesAtMost};
+ghost use Rattle.slh_io.specs.Devices.{TakesAtMost};
 ghost use Rattle.slh_params.specs.Label.{set_of_label};
 ghost use Rattle.slh_params.specs.ParamSet.{params};
 ghost use Rattle.slh_tool.specs.Keys.{IsGeneratedFrom, RefusesSeedsOf, key_of_seeds};
@@ -14,8 +14,8 @@ use super::fault::Fault;
 use super::request::KeygenWords;
 use super::seeds::read_seeds;
 use slh_core::{SecretKey, keygen_internal};
-use slh_devices::Source;
 use slh_files::write_secret;
+use slh_io::Source;
 use slh_par::{Cutting, NoGate, ParFault, Workers, keygen_par};
 use slh_params::ParamSet;
 use std::alloc::{AllocError, Allocator};

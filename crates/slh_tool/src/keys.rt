@@ -9,10 +9,10 @@ use super::fault::Fault;
 use super::reading::read_key_file;
 use super::reply::Reply;
 use slh_core::{PublicKey, SecretKey, check_pair};
-use slh_devices::Files;
 use slh_files::{
     AnyKey, FileFault, read_key, read_public, read_secret, write_public, write_secret,
 };
+use slh_io::Files;
 use std::alloc::Allocator;
 
 /// The key of a secret key file.

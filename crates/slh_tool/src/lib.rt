@@ -3,7 +3,7 @@
 
 pub use fault::Fault;
 pub use program::{command, refuse};
-pub use slh_devices::{FetchFault, Files, Source};
+pub use slh_io::{FetchFault, Files, Source};
 
 mod cuts;
 mod fault;

@@ -2,33 +2,36 @@ ghost use Rattle.std.specs.Prelude.{◌≡◌, Some, option_map, IfOk, IfErr, If
 ghost use Rattle.std.specs.Result.{result_ok};
 ghost use Rattle.hex.specs.Hex.{decode_sized};
 ghost use Rattle.slh_params.specs.ParamSet.{params};
-ghost use Rattle.slh_tool.specs.Options.{HasForm, RefusesForm, context_of, prehash_of, random_of};
+ghost use Rattle.slh_tool.specs.Options.{HasForm, RefusesForm, context_of, form_of, random_of};
 ghost use Rattle.slh_tool.specs.Requests.{form_asked, sign_asked};
 
 use super::fault::Fault;
 use super::request::{FormWords, SignWords};
 use arrayvec::ArrayVec;
-use slh_core::PreHash;
+use slh_core::{Form, PreHash};
 use slh_params::ParamSet;
 use std::alloc::Allocator;
 
-/// The form in which a message is signed.
+/// The form in which a message is signed, and the context under which it is.
 #[derive(Drop)]
-pub(crate) struct Form<A: Allocator> {
+pub(crate) struct FormAndContext<A: Allocator> {
+    pub(crate) form: Form,
     pub(crate) context: Vec<u8, A>,
-    pub(crate) prehash: Option<PreHash>,
 }
 
-/// The form that the options give.
-pub(crate) fn form_of<A: Allocator>(alloc: A, words: FormWords<'_>) -> Result<Form<A>, Fault>
-    ensures done { IfOk result (λ form. HasForm (form_asked words.entry) form.context.items form.prehash) }
+/// The form and the context that the options give.
+pub(crate) fn form_and_context<A: Allocator>(
+    alloc: A,
+    words: FormWords<'_>,
+) -> Result<FormAndContext<A>, Fault>
+    ensures done { IfOk result (λ it. HasForm (form_asked words.entry) it.context.items it.form) }
     ensures refused { IfErr result (RefusesForm (form_asked words.entry)) }
 {
     let context = context_of(alloc, words)?;
-    let Some(prehash) = prehash_of(words) else {
+    let Some(form) = form_of(words) else {
         return Err(Fault::BadOption);
     };
-    Ok(Form { context, prehash })
+    Ok(FormAndContext { form, context })
 }
 
 /// The context, which is empty where the option does not stand.
@@ -47,18 +50,16 @@ fn context_of<A: Allocator>(alloc: A, words: FormWords<'_>) -> Result<Vec<u8, A>
     }
 }
 
-/// The pre-hash function, where the option stands.
-#[tactic(auto, unfolding(crate::specs::Options::prehash_of))]
-fn prehash_of(words: FormWords<'_>) -> Option<Option<PreHash>>
-    ensures { result ≡ prehash_of (form_asked words.entry).prehash }
+/// The pre-hash form with the function that the option names, or the pure form where it does not stand.
+#[tactic(auto, unfolding(crate::specs::Options::form_of))]
+fn form_of(words: FormWords<'_>) -> Option<Form>
+    ensures { result ≡ form_of (form_asked words.entry).prehash }
 {
-    match words.prehash {
-        Some(name) => match PreHash::from_name(name) {
-            Some(function) => Some(Some(function)),
-            None => None,
-        },
-        None => Some(None),
-    }
+    let Some(name) = words.prehash else {
+        return Some(Form::Pure);
+    };
+    let function = PreHash::from_name(name)?;
+    Some(Form::PreHash(function))
 }
 
 /// A randomizer of any set.

@@ -1,7 +1,7 @@
 ghost use Rattle.std.specs.Prelude.{◌≡◌, ◌≢◌, ◌⊎◌, ℕ, map, IfOk, IfErr, string_bytes, Some};
 ghost use Rattle.std.specs.Io.KnownBytes.{Appends};
 ghost use Rattle.clap.specs.Words.{Text};
-ghost use Rattle.slh_devices.specs.Devices.{Grew, LetsThrough, TakesAtMost};
+ghost use Rattle.slh_io.specs.Devices.{Grew, LetsThrough, TakesAtMost};
 ghost use Rattle.slh_tool.specs.Faults.{line};
 ghost use Rattle.slh_tool.specs.Replies.{IsRefusal, IsReply, input_limit, words_limit};
 ghost use Rattle.slh_tool.specs.Requests.{asked};
@@ -20,7 +20,7 @@ use super::sign::sign_file;
 use super::tell::tell;
 use super::vectors::run_file;
 use super::verify::verify_file;
-use slh_devices::{Files, Sink, Source, put_all};
+use slh_io::{Files, Sink, Source, put_all};
 use std::alloc::{AllocError, Allocator, Global};
 use std::thread::Threads;
 

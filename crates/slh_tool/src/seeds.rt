@@ -1,11 +1,11 @@
 ghost use Rattle.std.specs.Prelude.{◌≡◌, ◌*◌, length, option_map, IfSome, IfOk, IfErr};
-ghost use Rattle.slh_devices.specs.Devices.{TakesAtMost};
+ghost use Rattle.slh_io.specs.Devices.{TakesAtMost};
 ghost use Rattle.slh_params.specs.ParamSet.{params};
 ghost use Rattle.slh_tool.specs.Seeds.{AreSeeds, RefusesSeeds, seeds_limit, seeds_of, without_line_feed};
 
 use super::fault::Fault;
 use arrayvec::ArrayVec;
-use slh_devices::{Source, take_up_to};
+use slh_io::{Source, take_up_to};
 use slh_params::ParamSet;
 
 /// Room for three seeds of any set.

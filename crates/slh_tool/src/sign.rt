@@ -1,5 +1,5 @@
 ghost use Rattle.std.specs.Prelude.{◌≡◌, ◌≢◌, ◌↔◌, ◌<◌, ◌≤◌, ◌⊎◌, Err, IfOk, IfErr, IfSome, OnOk, length, option_map};
-ghost use Rattle.slh_core.specs.Messages.{message_in_form, form_with};
+ghost use Rattle.slh_core.specs.Messages.{message_in_form};
 ghost use Rattle.slh_core.specs.Randomizers.{HasLength};
 ghost use Rattle.slh_core.specs.Signatures.{signature_by};
 ghost use Rattle.slh_params.specs.Params.{sig_len};
@@ -13,12 +13,12 @@ ghost use Rattle.slh_tool.specs.declared.fault.Fault.TheVariants.{ContextTooLong
 use super::cuts::{cutting_of, workers_of};
 use super::fault::Fault;
 use super::keys::secret_key;
-use super::options::{Form, Random, form_of, random_of};
+use super::options::{FormAndContext, Random, form_and_context, random_of};
 use super::reading::read_file;
 use super::request::SignWords;
 use slh_core::{Randomizer, SecretKey};
-use slh_devices::Files;
-use slh_par::{Cutting, NoGate, ParFault, Workers, hash_sign_par, sign_par};
+use slh_io::Files;
+use slh_par::{Cutting, NoGate, ParFault, Workers, sign_form_par};
 use std::alloc::Allocator;
 use std::thread::Threads;
 
@@ -49,7 +49,7 @@ fn sign_with<R: Threads + Sync, A: Allocator + Clone + Send + Sync, F: Files>(
     ensures refused { IfErr result (RefusesSigning (sign_asked words.entry) key.now.set
         (F.state files.old) (F.state files.new)) }
 {
-    let form = form_of(alloc.clone()?, words.form)?;
+    let form = form_and_context(alloc.clone()?, words.form)?;
     let Some(random) = random_of(key.set(), words) else {
         return Err(Fault::BadOption);
     };
@@ -74,7 +74,7 @@ fn signature_of<R: Threads + Sync, A: Allocator + Clone + Send + Sync>(
     alloc: A,
     key: &SecretKey,
     message: &[u8],
-    form: &Form<A>,
+    form: &FormAndContext<A>,
     random: &Option<Random>,
     workers: Workers,
     cutting: &Cutting,
@@ -83,7 +83,7 @@ fn signature_of<R: Threads + Sync, A: Allocator + Clone + Send + Sync>(
     requires cutting { cutting.now.set ≡ key.now.set }
     ensures short { OnOk result (length form.now.context.items ≤ 255) }
     ensures done { IfOk result (λ bytes. bytes.items
-        ≡ signature_of key.now (message_in_form (form_with form.now.prehash) form.now.context.items message.now)
+        ≡ signature_of key.now (message_in_form form.now.form form.now.context.items message.now)
         (option_map (λ r. r.items) random.now)) }
     ensures refused { IfErr result (λ e. (e ≡ NoMemory)
         ⊎ ((e ≡ ContextTooLong) × (255 < length form.now.context.items))) }
@@ -95,43 +95,13 @@ fn signature_of<R: Threads + Sync, A: Allocator + Clone + Send + Sync>(
     let mut signature = Vec::new(alloc.clone()?);
     signature.resize(key.set().sig_len(), 0)?;
     let out = signature.as_mut_slice();
-    match signed(
-        rt, alloc, key, message, form, randomizer, workers, cutting, out,
+    let context = form.context.as_slice();
+    match sign_form_par(
+        rt, alloc, form.form, message, context, key, randomizer, workers, cutting, &NoGate, out,
     ) {
         Ok(()) => Ok(signature),
         Err(ParFault::NoMemory) => Err(Fault::NoMemory),
         Err(ParFault::ContextTooLong) => Err(Fault::ContextTooLong),
         Err(ParFault::Stopped) => unreachable!(),
-    }
-}
-
-/// Signs a message in a form, by several workers. No gate stops it.
-fn signed<R: Threads + Sync, A: Allocator + Clone + Send + Sync>(
-    rt: &R,
-    alloc: A,
-    key: &SecretKey,
-    message: &[u8],
-    form: &Form<A>,
-    randomizer: Randomizer,
-    workers: Workers,
-    cutting: &Cutting,
-    out: &mut [u8],
-) -> Result<(), ParFault>
-    requires randomizer { HasLength randomizer (params key.now.set).n }
-    requires cutting { cutting.now.set ≡ key.now.set }
-    requires out { length out.old ≡ sig_len (params key.now.set) }
-    ensures too_long { (result ≡ Err par.ContextTooLong) ↔ (255 < length form.now.context.items) }
-    ensures never_stopped { result ≢ Err par.Stopped }
-    ensures signature { OnOk result (out.new ≡ signature_by key.now
-        (message_in_form (form_with form.now.prehash) form.now.context.items message.now) randomizer.entry) }
-{
-    let context = form.context.as_slice();
-    match form.prehash {
-        None => sign_par(
-            rt, alloc, message, context, key, randomizer, workers, cutting, &NoGate, out,
-        ),
-        Some(function) => hash_sign_par(
-            rt, alloc, message, context, function, key, randomizer, workers, cutting, &NoGate, out,
-        ),
     }
 }

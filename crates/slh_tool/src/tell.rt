@@ -1,10 +1,10 @@
 ghost use Rattle.std.specs.Prelude.{◌≡◌, ◌++◌};
-ghost use Rattle.slh_devices.specs.Devices.{CountsFailure, Puts};
+ghost use Rattle.slh_io.specs.Devices.{CountsFailure, Puts};
 ghost use Rattle.slh_tool.specs.Faults.{line, place, place_text};
 ghost use Rattle.slh_vectors.specs.Reading.{member_name};
 
 use super::fault::Fault;
-use slh_devices::{Sink, WriteFault, put_number, put_text};
+use slh_io::{Sink, WriteFault, put_number, put_text};
 use slh_vectors::Member;
 
 /// Puts the line of a fault: its number and name, and where it is, if that is in a test of a vector file.

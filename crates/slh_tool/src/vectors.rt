@@ -7,7 +7,7 @@ ghost use Rattle.slh_vectors.specs.Report.{report_text};
 use super::fault::Fault;
 use super::reading::read_file;
 use super::reply::Reply;
-use slh_devices::{Files, Writer};
+use slh_io::{Files, Writer};
 use slh_par::Workers;
 use slh_vectors::{Outcome, Test, all_passed, read_vectors, report, run_vectors};
 use std::alloc::Allocator;

@@ -1,6 +1,7 @@
-ghost use Rattle.std.specs.Prelude.{◌≡◌, ◌↔◌, IsTrue, IfOk, IfErr, None, Some, OnOk};
+ghost use Rattle.std.specs.Prelude.{◌≡◌, ◌↔◌, IsTrue, IfOk, IfErr, OnOk};
 ghost use Rattle.slh_params.specs.Params.{sig_len};
 ghost use Rattle.slh_params.specs.ParamSet.{params};
+ghost use Rattle.slh_core.specs.declared.form.Form.TheVariants as forms;
 ghost use Rattle.slh_tool.specs.Options.{HasForm};
 ghost use Rattle.slh_tool.specs.Reading.{IsFrontOfFile, IsLater, RefusesFile};
 ghost use Rattle.slh_tool.specs.Replies.{IsValidIn, JudgesFiles, JudgesMessage, JudgesWith, RefusesFiles, RefusesVerify, RefusesVerifying, VerifiesMessage};
@@ -8,12 +9,12 @@ ghost use Rattle.slh_tool.specs.Requests.{verify_asked};
 
 use super::fault::Fault;
 use super::keys::public_key;
-use super::options::form_of;
+use super::options::{FormAndContext, form_and_context};
 use super::reading::{digest_file, read_front, read_past, read_through};
 use super::reply::Reply;
 use super::request::VerifyWords;
-use slh_core::{PreHash, PublicKey, Verifier, hash_verify_digest};
-use slh_devices::Files;
+use slh_core::{Form, PreHash, PublicKey, Verifier, hash_verify_digest};
+use slh_io::Files;
 use std::alloc::Allocator;
 
 /// Whether the signature of a message file is valid.
@@ -43,11 +44,11 @@ fn verify_with<A: Allocator + Clone, F: Files>(
     ensures refused { IfErr result (RefusesVerifying (verify_asked words.entry)
         (F.state files.old) (F.state files.new)) }
 {
-    let form = form_of(alloc.clone()?, words.form)?;
-    let context = form.context.as_slice();
-    match form.prehash {
-        None => verify_pure(alloc, words, files, key, context),
-        Some(function) => verify_digest(alloc, words, files, key, context, function),
+    let FormAndContext { form, context } = form_and_context(alloc.clone()?, words.form)?;
+    let context = context.as_slice();
+    match form {
+        Form::Pure => verify_pure(alloc, words, files, key, context),
+        Form::PreHash(function) => verify_digest(alloc, words, files, key, context, function),
     }
 }
 
@@ -60,7 +61,7 @@ fn verify_pure<A: Allocator, F: Files>(
     key: &PublicKey,
     context: &[u8],
 ) -> Result<bool, Fault>
-    ensures done { IfOk result (JudgesFiles (verify_asked words.entry) (F.state files.old) key.now context.now None) }
+    ensures done { IfOk result (JudgesFiles (verify_asked words.entry) (F.state files.old) key.now context.now forms.Pure) }
     ensures refused { IfErr result (RefusesFiles (verify_asked words.entry) (F.state files.old) (F.state files.new)) }
 {
     match signature_in(alloc, words, files, key) {
@@ -98,7 +99,7 @@ fn verify_digest<A: Allocator, F: Files>(
     function: PreHash,
 ) -> Result<bool, Fault>
     ensures done { IfOk result (JudgesFiles (verify_asked words.entry)
-        (F.state files.old) key.now context.now (Some function)) }
+        (F.state files.old) key.now context.now (forms.PreHash function)) }
     ensures refused { IfErr result (RefusesFiles (verify_asked words.entry) (F.state files.old) (F.state files.new)) }
 {
     let digest = digest_file(files, words.message, function)?;

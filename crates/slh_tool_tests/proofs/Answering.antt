@@ -1,7 +1,7 @@
 -- From what a command replies over a folder to what its answer tells of the folder's files.
 use Rattle.std.proofs.Common.{◌≡◌, ℕ, List, Some, sym, subst, codes}
 use Rattle.clap.specs.Words.{Text}
-use Rattle.slh_devices.specs.Devices.{SourceState}
+use Rattle.slh_io.specs.Devices.{SourceState}
 use Rattle.slh_tool.specs.Requests.{check, verify}
 use Rattle.slh_tool.specs.Runs.{Replies}
 use Rattle.slh_tool_tests.specs.Answers.{RepliesOver, TellsConsistency, TellsValidity, files_of}

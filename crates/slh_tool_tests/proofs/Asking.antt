@@ -5,7 +5,7 @@ use Rattle.clap.specs.Kinds.{IsAmong, Kinds}
 use Rattle.clap.specs.Walk.{walked}
 use Rattle.clap.specs.Words.{Text}
 use Rattle.clap.specs.declared.error.ErrorKind.TheVariants.{DisplayHelp}
-use Rattle.slh_devices.specs.Devices.{FilesState, SourceState}
+use Rattle.slh_io.specs.Devices.{FilesState, SourceState}
 use Rattle.slh_tool.specs.Replies.{IsReply}
 use Rattle.slh_tool.specs.Requests.{Asked, Asks, FormOptions, VerifyOptions, check, verify}
 use Rattle.slh_tool.specs.Runs.{Replies}

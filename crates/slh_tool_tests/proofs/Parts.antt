@@ -2,7 +2,7 @@
 use Rattle.std.proofs.Common.{◌≡◌, ◌≤◌, ◌<◌, ◌+◌, ◌-◌, ℕ, min, List, ◌++◌, length, take, drop, Option, Some, subst, ap, ◌∙◌, arith}
 use Rattle.std.proofs.lemmas.List.{length-append, length-drop, length-take-le, take_all, take-append-le}
 use Rattle.std.proofs.lemmas.Grind.{common_steps}
-use Rattle.slh_devices.specs.Devices.{EndsBy, HasPart}
+use Rattle.slh_io.specs.Devices.{EndsBy, HasPart}
 
 -- a place past the end stands for the end
 same_part : (whole : List ℕ) (at from n : ℕ) → from ≡ min at (length whole) → n ≤ length whole - from → take n (drop from whole) ≡ take n (drop at whole)

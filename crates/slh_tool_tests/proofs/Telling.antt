@@ -4,14 +4,15 @@ use Rattle.clap.specs.Words.{Text}
 use Rattle.slh_core.specs.Keys.{IsGeneratedKey, Key}
 use Rattle.slh_core.specs.Messages.{pure_message}
 use Rattle.slh_core.specs.Signatures.{IsValid}
-use Rattle.slh_core.specs.declared.pre_hash.PreHash.{PreHash}
-use Rattle.slh_devices.specs.Devices.{FilesState}
+use Rattle.slh_core.specs.declared.form.Form.{Form}
+use Rattle.slh_core.specs.declared.form.Form.TheVariants.{Pure}
+use Rattle.slh_io.specs.Devices.{FilesState}
 use Rattle.slh_files.specs.KeyFile.{key_file}
 use Rattle.slh_files.specs.Lines.{line}
 use Rattle.slh_files.specs.declared.key_kind.KeyKind.{KeyKind}
 use Rattle.slh_files.specs.declared.key_kind.KeyKind.TheVariants.{Public, Secret}
 use Rattle.slh_tool.specs.Keys.{HoldsKey}
-use Rattle.slh_tool.specs.Options.{HasForm, context_of, prehash_of}
+use Rattle.slh_tool.specs.Options.{HasForm, context_of, form_of}
 use Rattle.slh_tool.specs.Reading.{IsFile}
 use Rattle.slh_tool.specs.Replies.{ChecksKey, IsValidIn, IsVerdict, JudgesFiles, VerifiesMessage}
 use Rattle.slh_tool_tests.specs.Answers.{Tells, TellsConsistency, TellsValidity}
@@ -40,28 +41,28 @@ no_context : (context : Text) → context_of None ≡ Some context → context �
 unfolding context_of
 no_context context e = cc e
 
-no_prehash : (prehash : Option PreHash) → prehash_of None ≡ Some prehash → prehash ≡ None
-unfolding prehash_of
-no_prehash prehash e = cc e
+no_prehash : (form : Form) → form_of None ≡ Some form → form ≡ Pure
+unfolding form_of
+no_prehash form e = cc e
 
 -- with an empty context the validity is that of the signature alone
-pure_truth : (answer : Bool) (message signature : Text) (key : Key) → (IsTrue answer ↔ IsValidIn None [] message signature key)
+pure_truth : (answer : Bool) (message signature : Text) (key : Key) → (IsTrue answer ↔ IsValidIn Pure [] message signature key)
     → (IsTrue answer ↔ IsValid key (pure_message [] message) signature)
 pure_truth answer message signature key truth = (λ t. (truth.0 t).1, λ valid. truth.1 (lit≤ tt, valid))
 
 -- files that are judged in the pure form with an empty context are judged by their known bytes
-pub truth_is : (files : FilesState) (message signature : Text) (key : Key) (context : Text) (prehash : Option PreHash) (answer : Bool)
+pub truth_is : (files : FilesState) (message signature : Text) (key : Key) (context : Text) (form : Form) (answer : Bool)
     → files.bytes_at (codes "message") ≡ Some message → files.bytes_at (codes "signature") ≡ Some signature
-    → HasForm pure_form context prehash → JudgesFiles verify_options files key context prehash answer → (IsTrue answer ↔ IsValid key (pure_message [] message) signature)
-truth_is files message signature key context prehash answer m s form judged =
-    let P : Text → Text → Text → Option PreHash → Type 0 = λ c a b p. IsTrue answer ↔ IsValidIn p c a b key in
-    let c = no_context context form.0 in
-    let p = no_prehash prehash form.1 in
+    → HasForm pure_form context form → JudgesFiles verify_options files key context form answer → (IsTrue answer ↔ IsValid key (pure_message [] message) signature)
+truth_is files message signature key context form answer m s asked judged =
+    let P : Text → Text → Text → Form → Type 0 = λ c a b p. IsTrue answer ↔ IsValidIn p c a b key in
+    let c = no_context context asked.0 in
+    let p = no_prehash form asked.1 in
     let a = file_is files (codes "message") judged.message message m judged.read in
     let b = file_is files (codes "signature") judged.signature signature s judged.signature_read in
     pure_truth answer message signature key
-    (subst (λ (x : Text). P [] message x None) b (subst (λ (x : Text). P [] x judged.signature None) a
-    (subst (λ (x : Option PreHash). P [] judged.message judged.signature x) p (subst (λ (x : Text). P x judged.message judged.signature prehash) c judged.truth))))
+    (subst (λ (x : Text). P [] message x Pure) b (subst (λ (x : Text). P [] x judged.signature Pure) a
+    (subst (λ (x : Form). P [] judged.message judged.signature x) p (subst (λ (x : Text). P x judged.message judged.signature form) c judged.truth))))
 
 pub tells_validity : (files : FilesState) (file message signature : Text) (status : ℕ) (text : Text) → files.bytes_at (codes "key") ≡ Some file
     → files.bytes_at (codes "message") ≡ Some message → files.bytes_at (codes "signature") ≡ Some signature

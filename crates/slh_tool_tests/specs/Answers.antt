@@ -4,7 +4,7 @@ use Rattle.clap.specs.Words.{Text}
 use Rattle.slh_core.specs.Keys.{IsGeneratedKey, Key}
 use Rattle.slh_core.specs.Messages.{pure_message}
 use Rattle.slh_core.specs.Signatures.{IsValid}
-use Rattle.slh_devices.specs.Devices.{FilesState, SourceState}
+use Rattle.slh_io.specs.Devices.{FilesState, SourceState}
 use Rattle.slh_files.specs.KeyFile.{key_file}
 use Rattle.slh_files.specs.Lines.{line}
 use Rattle.slh_files.specs.declared.key_kind.KeyKind.TheVariants.{Public, Secret}

@@ -2,7 +2,7 @@ ghost use Rattle.std.specs.Prelude.{◌≡◌, ◌≢◌, IfOk, map, string_byte
 ghost use Rattle.slh_tool_tests.specs.Answers.{RepliesOver};
 
 use super::folder::Folder;
-use slh_devices::{Disk, Reader, Writer};
+use slh_io::{Disk, Reader, Writer};
 use slh_tool::command;
 use std::alloc::{AllocError, Global};
 use std::thread::Threads;

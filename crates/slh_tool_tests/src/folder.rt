@@ -1,7 +1,7 @@
 ghost use Rattle.std.specs.Prelude.{◌≡◌, Some, option_map, drop};
 ghost use Rattle.slh_tool_tests.specs.Folder.{bytes_in};
 
-use slh_devices::{FetchFault, Files, Opener};
+use slh_io::{FetchFault, Files, Opener};
 use std::io;
 use std::io::{Cursor, ErrorKind};
 

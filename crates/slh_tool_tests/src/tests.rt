@@ -13,7 +13,7 @@ mod vector_memory;
 mod vectors;
 
 use crate::{Answer, Folder, words_of};
-use slh_devices::{Files, Reader, Sink, Source, Writer};
+use slh_io::{Files, Reader, Sink, Source, Writer};
 use slh_tool::command;
 use std::fmt::Debug;
 use std::process::Abort;

@@ -5,7 +5,6 @@ ghost use Rattle.slh_tree.specs.Cover.{IsCover, AreCovers};
 ghost use Rattle.slh_tree.specs.Record.{known, Gains, Crosses, LiesInOne};
 
 use crate::cover::{Cover, Placed};
-use crate::range::only_node;
 use crate::record::PathRec;
 use crate::stack::Stack;
 use crate::tree::Tree;
@@ -35,6 +34,14 @@ fn push_cover<T: Tree>(stack: &mut Stack, tree: &T, cover: &Cover, rec: &mut Pat
     for placed in nodes {
         stack.push(tree, copy_placed(placed), rec);
     }
+}
+
+/// The one node of a cover of the whole tree.
+fn only_node<T: Tree>(tree: &T, cover: &Cover) -> Node
+    requires { IsCover (T.tree tree.now) 0 (2 ^ (T.tree tree.now).height) cover.now.nodes.items }
+    ensures { result.items ≡ root (T.tree tree.now) }
+{
+    copy_of(&cover.nodes[0].node)
 }
 
 /// The root of the tree from covers that, put end to end, span it. The record gains exactly those nodes of its path

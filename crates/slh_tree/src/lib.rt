@@ -13,8 +13,8 @@ mod tree;
 
 pub use cover::{Cover, Placed, covers_are_unique, covers_read_from_the_end};
 pub use gathering::gather;
-pub use paths::{climb, node_over, parent, path};
-pub use range::{hash_range, root};
+pub use paths::{climb, parent, path};
+pub use range::{hash_range, node, root};
 pub use record::PathRec;
 pub use stack::Stack;
 pub use tree::{Leaves, Tree};

@@ -1,11 +1,9 @@
 //! The authentication path of a leaf, and the climb along a path.
 ghost use Rattle.std.specs.Prelude.{◌≡◌, ◌+◌, ◌*◌, ◌/◌, ◌^◌, ◌<◌, ◌≤◌, length};
-ghost use Rattle.slh_tree.specs.Tree.{root, node};
-ghost use Rattle.slh_tree.specs.Cover.{past_leaf};
+ghost use Rattle.slh_tree.specs.Tree.{root};
 ghost use Rattle.slh_tree.specs.Climb.{climb as climb_of, parent as parent_of, path};
 
-use crate::range::hash_range;
-use crate::record::PathRec;
+use crate::range::node;
 use crate::tree::Tree;
 use slh_params::{Node, copy_of, node_of, put_node};
 
@@ -19,23 +17,9 @@ pub fn path<T: Tree>(tree: &T, idx: u32, out: &mut [u8])
     ensures { out.new ≡ path (T.tree tree.now) idx }
 {
     for level in 0..tree.height() {
-        let node = node_over(tree, level, (idx >> level) ^ 1);
-        put_node(out, level as usize * node.len(), &node);
+        let sibling = node(tree, level, (idx >> level) ^ 1);
+        put_node(out, level as usize * sibling.len(), &sibling);
     }
-}
-
-/// The node of height `z` at index `i`, made from its own leaves alone.
-pub fn node_over<T: Tree>(tree: &T, z: u32, i: u32) -> Node
-    requires height { z ≤ (T.tree tree.now).height }
-    requires within { past_leaf z i ≤ 2 ^ (T.tree tree.now).height }
-    ensures { result.items ≡ node (T.tree tree.now) z i }
-{
-    let height = tree.height();
-    let mut rec = PathRec::for_leaf(height, 0);
-    let size = 1 << z;
-    let first = i * size;
-    let cover = hash_range(tree, first, first + size, &mut rec);
-    copy_of(&cover.nodes[0].node)
 }
 
 /// The parent of the node of height `level` over leaf `idx`, from that node and its sibling.

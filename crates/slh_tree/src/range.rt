@@ -1,6 +1,6 @@
-//! The cover of a range of leaves, and the root.
+//! The cover of a range of leaves, a node, and the root.
 ghost use Rattle.std.specs.Prelude.{◌≡◌, ℕ, ◌*◌, ◌^◌, ◌<◌, ◌≤◌, [], ◌∷◌, length};
-ghost use Rattle.slh_tree.specs.Tree.{root};
+ghost use Rattle.slh_tree.specs.Tree.{node, root};
 ghost use Rattle.slh_tree.specs.declared.cover.Placed.{Placed};
 ghost use Rattle.slh_tree.specs.Cover.{IsCover, first_leaf, past_leaf};
 ghost use Rattle.slh_tree.specs.Record.{Gains, LiesInRange};
@@ -43,21 +43,26 @@ pub fn hash_range<T: Tree>(tree: &T, lo: u32, hi: u32, rec: &mut PathRec) -> Cov
     stack.into_cover()
 }
 
-/// The one node of a cover of the whole tree.
-pub(crate) fn only_node<T: Tree>(tree: &T, cover: &Cover) -> Node
-    requires { IsCover (T.tree tree.now) 0 (2 ^ (T.tree tree.now).height) cover.now.nodes.items }
-    ensures { result.items ≡ root (T.tree tree.now) }
+/// The node of height `z` at index `i`, from its own leaves alone: xmss_node of an XMSS tree, fors_node of a FORS tree
+/// (FIPS 205, Algorithms 9 and 15).
+pub fn node<T: Tree>(tree: &T, z: u32, i: u32) -> Node
+    requires height { z ≤ (T.tree tree.now).height }
+    requires within { past_leaf z i ≤ 2 ^ (T.tree tree.now).height }
+    ensures { result.items ≡ node (T.tree tree.now) z i }
 {
+    let height = tree.height();
+    // The nodes of a path are wanted of no leaf.
+    let mut rec = PathRec::for_leaf(height, 0);
+    let size = 1 << z;
+    let first = i * size;
+    let cover = hash_range(tree, first, first + size, &mut rec);
     copy_of(&cover.nodes[0].node)
 }
 
-/// The root of the tree, from all its leaves (FIPS 205, Algorithms 9 and 15 at the tree's height and index 0).
+/// The root of the tree: the node of the tree's own height.
 pub fn root<T: Tree>(tree: &T) -> Node
     ensures value { result.items ≡ root (T.tree tree.now) }
     ensures width { length result.items ≡ (T.tree tree.now).width }
 {
-    let height = tree.height();
-    let mut rec = PathRec::for_leaf(height, 0);
-    let cover = hash_range(tree, 0, 1 << height, &mut rec);
-    only_node(tree, &cover)
+    node(tree, tree.height(), 0)
 }

@@ -4,12 +4,12 @@ use Rattle.std.proofs.lemmas.List.{at_drop_more, at_drop_all}
 use Rattle.std.specs.Io.KnownBytes.{Appends}
 use Rattle.std.specs.Prelude.{IsErr}
 use Rattle.std.proofs.KnownBytes.{Appends-nil, Appends-trans}
-use Rattle.slh_devices.specs.Devices.{LetsThrough, Puts}
+use Rattle.slh_io.specs.Devices.{LetsThrough, Puts}
 use Rattle.slh_vectors.specs.Cases.{test_view, views}
 use Rattle.slh_vectors.specs.Report.{line_text, lines_from}
 use Rattle.slh_vectors.specs.declared.outcome.Outcome.{Outcome}
 use Rattle.slh_vectors.specs.declared.test.Test.{Test}
-use Rattle.slh_devices.proofs.Texts.{stopped_after}
+use Rattle.slh_io.proofs.Texts.{stopped_after}
 
 -- the lines from the i-th test on
 abbrev pub rest_of : List Test → List Outcome → ℕ → List ℕ

@@ -8,6 +8,6 @@ pub mod Outcomes
 -- cited by public clauses
 pub use Rattle.slh_core.specs.Keys
 pub use Rattle.slh_core.specs.Signatures
-pub use Rattle.slh_devices.specs.Devices
+pub use Rattle.slh_io.specs.Devices
 pub use Rattle.slh_params.specs.Params
 pub use Rattle.slh_params.specs.ParamSet

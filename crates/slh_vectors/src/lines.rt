@@ -1,13 +1,13 @@
 ghost use Rattle.std.specs.Prelude.{◌≡◌, ◌+◌, ◌<◌, ◌^◌, ◌++◌, ℕ, List, length, map, codes, OnOk, Result};
 ghost use Rattle.std.specs.Fmt.{decimal};
 ghost use Rattle.std.specs.List.{count_by};
-ghost use Rattle.slh_devices.specs.Devices.{CountsFailure, Puts};
+ghost use Rattle.slh_io.specs.Devices.{CountsFailure, Puts};
 ghost use Rattle.slh_vectors.specs.Cases.{test_view, views};
 ghost use Rattle.slh_vectors.specs.Report.{counts_text, fails, line_text, lines_from, passes, report_text};
 
 use super::outcome::Outcome;
 use super::test::Test;
-use slh_devices::{Sink, WriteFault, put_number, put_two};
+use slh_io::{Sink, WriteFault, put_number, put_two};
 
 /// Puts the line of test `n`.
 fn put_line<W: Sink>(

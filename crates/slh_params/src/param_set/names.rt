@@ -5,18 +5,11 @@ ghost use Rattle.slh_params.specs.ParamSet.{IsStandard, is_standard, is, name, s
 use super::ParamSet;
 
 impl ParamSet {
-    /// The sets of the standard, in the order of its table.
+    /// `ALL`, with the clause that says what it lists: a clause cannot name a constant of a type.
     pub fn all() -> [ParamSet; 6]
         ensures { result ≡ sets }
     {
-        [
-            ParamSet::S128s,
-            ParamSet::S128f,
-            ParamSet::S192s,
-            ParamSet::S192f,
-            ParamSet::S256s,
-            ParamSet::S256f,
-        ]
+        ParamSet::ALL
     }
 
     /// Whether the sets have the same numbers.

@@ -2,7 +2,7 @@
 ghost use Rattle.std.specs.Prelude.{None};
 
 pub(super) use crate::Folder;
-use slh_devices::{FetchFault, Files, Sink, Source, WriteFault};
+use slh_io::{FetchFault, Files, Sink, Source, WriteFault};
 
 /// A file of zeros that never ends, beside those of a folder.
 #[derive(Drop)]

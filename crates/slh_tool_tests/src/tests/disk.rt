@@ -4,7 +4,7 @@ use super::fixtures::{PUBLIC, SECRET, SIGN, VECTORS, VERIFY, VERIFY_HASHED};
 use super::own_files::{Counts, OwnFiles, PLAIN, Ways};
 use super::{check_refused, equal, run_over};
 use crate::Answer;
-use slh_devices::{Disk, Files};
+use slh_io::{Disk, Files};
 use std::process::Abort;
 use std::test::Fail;
 use std::thread::Threads;

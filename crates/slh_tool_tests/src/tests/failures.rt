@@ -2,7 +2,7 @@
 use super::devices::{Folder, Full, WithEndlessFile};
 use super::fixtures::{PUBLIC, SECRET, SIGN, SIGN_HASHED, VERIFY, VERIFY_HASHED};
 use super::{equal, run_over, run_to};
-use slh_devices::Reader;
+use slh_io::Reader;
 use std::process::Abort;
 use std::test::Fail;
 use std::thread::Threads;

@@ -4,7 +4,7 @@ use super::equal;
 use super::fixtures::{NOT_VALID, PUBLIC, SECRET, SIGN, VECTORS, VERIFY};
 use crate::{Answer, words_of};
 use refusing_allocator::Refusing;
-use slh_devices::{Reader, Writer};
+use slh_io::{Reader, Writer};
 use slh_tool::command;
 use std::test::Fail;
 use std::thread::Threads;

@@ -1,7 +1,7 @@
 //! Inputs and outputs of `root` that never end or that fail.
 use super::devices::{Broken, Endless, Folder, Full};
 use super::{equal, run, run_to};
-use slh_devices::Reader;
+use slh_io::Reader;
 use std::test::Fail;
 
 #[test]

@@ -2,7 +2,7 @@
 use super::devices::{Folder, Full, Narrow};
 use super::fixtures::{NOT_VALID, THREE_TESTS, VECTORS};
 use super::{equal, run_over, run_to};
-use slh_devices::Reader;
+use slh_io::Reader;
 use slh_vectors::{Outcome, read_vectors, report};
 use std::test::Fail;
 

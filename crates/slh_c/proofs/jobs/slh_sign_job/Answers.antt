@@ -22,7 +22,7 @@ returns-in-Ok-sign_job-clause-accepted c = λ _. with_levels _ c.args.set c.args
 
 pub returns-in-Ok-sign_job-clause-written : goal.returns-in-Ok-sign_job-clause-written
 returns-in-Ok-sign_job-clause-written c = λ _. with_levels _ c.args.set c.args.xmss_levels c.args.fors_levels c.in-Ok.ensures.set c.in-Ok.ensures.levels
-    (subst (λ (k : Key). c.sign_job.new.answer ≡ answer_of c.in-Ok.arguments.0 k c.args.start.now c.args.job) c.in-Ok.ensures.key c.in-Ok-sign_job.ensures.answer)
+    (subst (λ (k : Key). c.sign_job.new.answer ≡ answer_of c.in-Ok.value.0 k c.args.start.now c.args.job) c.in-Ok.ensures.key c.in-Ok-sign_job.ensures.answer)
 
 pub returns-in-Err-sign_job-clause-start : goal.returns-in-Err-sign_job-clause-start
 returns-in-Err-sign_job-clause-start c = λ _. with_levels _ c.args.set c.args.xmss_levels c.args.fors_levels c.in-Ok.ensures.set c.in-Ok.ensures.levels (

@@ -43,7 +43,7 @@ returns-in-Ok-sign_join-clause-authentic c = λ _. with_levels _ c.args.set c.ar
 
 pub returns-in-Ok-sign_join-clause-signature : goal.returns-in-Ok-sign_join-clause-signature
 returns-in-Ok-sign_join-clause-signature c = λ _. with_levels _ c.args.set c.args.xmss_levels c.args.fors_levels c.in-Ok.ensures.set c.in-Ok.ensures.levels
-    (signature c.in-Ok.arguments.0 c.args.start.now c.args.answers.now c.sign_join.new.out c.in-Ok.ensures.key c.in-Ok-sign_join.ensures.message)
+    (signature c.in-Ok.value.0 c.args.start.now c.args.answers.now c.sign_join.new.out c.in-Ok.ensures.key c.in-Ok-sign_join.ensures.message)
 
 pub returns-in-Err-AnswersDisagree-clause-start : goal.returns-in-Err-AnswersDisagree-clause-start
 returns-in-Err-AnswersDisagree-clause-start c = λ _. with_levels _ c.args.set c.args.xmss_levels c.args.fors_levels c.in-Ok.ensures.set c.in-Ok.ensures.levels (
@@ -53,4 +53,4 @@ returns-in-Err-AnswersDisagree-clause-start c = λ _. with_levels _ c.args.set c
 
 pub returns-in-Err-AnswersDisagree-clause-right : goal.returns-in-Err-AnswersDisagree-clause-right
 returns-in-Err-AnswersDisagree-clause-right c = λ _. with_levels _ c.args.set c.args.xmss_levels c.args.fors_levels c.in-Ok.ensures.set c.in-Ok.ensures.levels
-    (λ generated is are. absurd (false≢true (right c.in-Ok.arguments.0 c.args.start.now c.args.answers.now c.in-Ok.ensures.key c.in-Err-AnswersDisagree.ensures.right c.in-Ok.ensures.answers generated is are)))
+    (λ generated is are. absurd (false≢true (right c.in-Ok.value.0 c.args.start.now c.args.answers.now c.in-Ok.ensures.key c.in-Err-AnswersDisagree.ensures.right c.in-Ok.ensures.answers generated is are)))

@@ -1,5 +1,5 @@
 -- What `hash_sign_digest` says of the key and the digest holds of the bytes that they were read from.
-use Rattle.std.proofs.Common.{◌≡◌, ◌∙◌, sym, subst, List, ℕ}
+use Rattle.std.proofs.Common.{◌≡◌, subst, List, ℕ}
 use Rattle.slh_core.specs.Keys.{Key, public_of, IsGeneratedKey}
 use Rattle.slh_core.specs.Messages.{pre_hash_message}
 use Rattle.slh_core.specs.PreHash.{Digest}
@@ -16,6 +16,6 @@ of_bytes ctx sig {sk} {sk'} {digest} {digest'} e f h =
 
 pub returns-clause-authentic : goal.returns-clause-authentic
 returns-clause-authentic c =
-    let set_is = sym c.set_of.ensures ∙ c.in-Some.is in
-    let function_is = sym c.function_of.ensures ∙ c.in-Some-function_of.is in
-    λ _. some_and _ set_is (some_and _ function_is (of_bytes c.args.ctx.now c.hash_sign_digest.new.out c.signer_of-sk.ensures.key c.in-Some-from_bytes.ensures.digest c.in-Ok.ensures.authentic))
+    let set_is = c.in-Ok.ensures.set in
+    let function_is = c.in-Ok-function_of.ensures.function in
+    λ _. some_and _ set_is (some_and _ function_is (of_bytes c.args.ctx.now c.hash_sign_digest.new.out c.signer_of-sk.ensures.key c.in-Some.ensures.digest c.in-Ok-hash_sign_digest.ensures.authentic))

@@ -1,5 +1,5 @@
 -- What `hash_verify_digest` says of the key and the digest holds of the bytes that they were read from.
-use Rattle.std.proofs.Common.{◌≡◌, ◌≤◌, ◌↔◌, sym, ◌∙◌, subst, refl, ℕ, List, length, Bool, IsTrue, Option, Some, IsSomeAnd}
+use Rattle.std.proofs.Common.{◌≡◌, ◌≤◌, ◌↔◌, subst, refl, ℕ, List, length, Bool, IsTrue, Option, Some, IsSomeAnd}
 use Rattle.slh_core.specs.Keys.{Key}
 use Rattle.slh_core.specs.Messages.{pre_hash_message}
 use Rattle.slh_core.specs.PreHash.{Digest}
@@ -22,17 +22,17 @@ of_bytes verdict ctx sig {pk} {pk'} {digest} {digest'} e f h =
 
 pub returns-then-hash_verify_digest-clause-valid : goal.returns-then-hash_verify_digest-clause-valid
 returns-then-hash_verify_digest-clause-valid c =
-    let set_is = sym c.set_of.ensures ∙ c.in-Some.is in
-    let function_is = sym c.function_of.ensures ∙ c.in-Some-function_of.is in
-    let verdict = of_bytes c.hash_verify_digest.result c.args.ctx.now c.args.sig.now c.in-Ok.ensures.key c.in-Some-from_bytes.ensures.digest c.hash_verify_digest.ensures in
+    let set_is = c.in-Ok.ensures.set in
+    let function_is = c.in-Ok-function_of.ensures.function in
+    let verdict = of_bytes c.hash_verify_digest.result c.args.ctx.now c.args.sig.now c.in-Ok-public_key.ensures.key c.in-Some.ensures.digest c.hash_verify_digest.ensures in
     let facts = verdict.0 c.if-hash_verify_digest.true in
-    (λ _. some_and _ set_is (some_and _ function_is (c.in-Ok.ensures.accepted.0 refl, c.in-Some-from_bytes.ensures.accepted.0 refl, facts.0, facts.1)), λ _. refl)
+    (λ _. some_and _ set_is (some_and _ function_is (c.in-Ok-public_key.ensures.accepted.0 refl, c.in-Some.ensures.accepted.0 refl, facts.0, facts.1)), λ _. refl)
 
 pub returns-else-hash_verify_digest-clause-valid : goal.returns-else-hash_verify_digest-clause-valid
 returns-else-hash_verify_digest-clause-valid c =
-    let set_is = sym c.set_of.ensures ∙ c.in-Some.is in
-    let function_is = sym c.function_of.ensures ∙ c.in-Some-function_of.is in
-    let verdict = of_bytes c.hash_verify_digest.result c.args.ctx.now c.args.sig.now c.in-Ok.ensures.key c.in-Some-from_bytes.ensures.digest c.hash_verify_digest.ensures in (
+    let set_is = c.in-Ok.ensures.set in
+    let function_is = c.in-Ok-function_of.ensures.function in
+    let verdict = of_bytes c.hash_verify_digest.result c.args.ctx.now c.args.sig.now c.in-Ok-public_key.ensures.key c.in-Some.ensures.digest c.hash_verify_digest.ensures in (
       λ done. absurd (cc),
       λ valid.
           let facts = of_some_and _ function_is (of_some_and _ set_is valid) in

@@ -1,4 +1,4 @@
-use Rattle.std.proofs.Common.{◌≡◌, ◌≤◌, length, length-take-le, arith, ap, sym, ◌∙◌}
+use Rattle.std.proofs.Common.{◌≤◌, length, length-take-le, arith, ap, sym, ◌∙◌}
 use Rattle.slh_params.proofs.Bounds.{n_high}
 use Rattle.slh_core.proofs.random.draw_seed.Goals as goal
 

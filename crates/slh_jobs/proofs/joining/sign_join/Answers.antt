@@ -4,7 +4,7 @@ use Rattle.std.specs.Bool.{IsTrue}
 use Rattle.slh_params.specs.ParamSet.{params}
 use Rattle.slh_subtrees.specs.Assembled.{sig_fors_by, sig_ht_by}
 use Rattle.slh_subtrees.specs.Trees.{TreeSource}
-use Rattle.slh_jobs.specs.Answered.{source_in, answers_in}
+use Rattle.slh_jobs.specs.AllAnswers.{source_in, answers_in}
 use Rattle.slh_jobs.specs.Jobs.{source, r_in}
 use Rattle.slh_jobs.specs.Joined.{answers_given, signature_given, AreFitting, FitTogether}
 use Rattle.slh_jobs.specs.declared.levels.Levels.{Levels}

@@ -1,5 +1,5 @@
 -- There is room for the digits of three seeds, a line feed and one more byte.
-use Rattle.std.proofs.Common.{◌≡◌, ℕ, ◌+◌, ◌*◌, ◌≤◌, length, take, length-take-le, arith, sym, ◌∙◌}
+use Rattle.std.proofs.Common.{◌≡◌, ◌+◌, ◌*◌, ◌≤◌, length, take, length-take-le, arith, sym, ◌∙◌}
 use Rattle.slh_params.proofs.Bounds.{n_high}
 use Rattle.slh_tool.proofs.seeds.read_seeds.Goals as goal
 

@@ -1,7 +1,6 @@
 -- The digits spell 3n bytes, for which there is room.
-use Rattle.std.proofs.Common.{◌≡◌, ℕ, ◌*◌, ◌≤◌, length, length-take-le, arith, rules, ap, sym, ◌∙◌}
+use Rattle.std.proofs.Common.{◌≡◌, ◌*◌, ◌≤◌, length, length-take-le, arith, ap, sym, ◌∙◌}
 use Rattle.std.proofs.lemmas.Grind.{common_steps}
-use Rattle.slh_params.specs.ParamSet.{params}
 use Rattle.slh_params.proofs.Bounds.{n_high}
 use Rattle.slh_tool.specs.Seeds.{seeds_of}
 use Rattle.slh_tool.proofs.Decoding.{decoded, not_decoded}

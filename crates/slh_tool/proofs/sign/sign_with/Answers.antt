@@ -16,7 +16,7 @@ returns-clause-refused g c =
     let cut : IsCutting (work_asked c.args.words.work) set c.in_ok-cutting.cutting =
     subst (λ (s : ParamSet). IsCutting (work_asked c.args.words.work) s c.in_ok-cutting.cutting) c.set-2.ensures c.in_ok-cutting.ensures.done in
     message_refused (sign_asked c.args.words) set c.in_ok-form.form.context.items c.in_ok-message.message.items (g.F.Files.state c.args.files.now)
-    (g.F.Files.state c.read_file.new.files) c.signature_of.result ((c.in_ok-form.form.prehash, c.in_ok-form.ensures.done), (_, random))
+    (g.F.Files.state c.read_file.new.files) c.signature_of.result ((c.in_ok-form.form.form, c.in_ok-form.ensures.done), (_, random))
     (c.in_ok-cutting.cutting, cut) c.in_ok-message.ensures.done c.signature_of.ensures.refused
 
 pub returns-in_err-message-clause-refused : goal.returns-in_err-message-clause-refused
@@ -30,7 +30,7 @@ returns-in_err-message-clause-refused g c =
     let new = g.F.Files.state c.read_file.new.files in
     handed_on (RefusesSigning (sign_asked c.args.words) set old new) _ c.in_err-message.field-0.0 c.from_residual-in_err-message.ensures.1
     (file_refused (sign_asked c.args.words) set c.in_ok-form.form.context.items old new c.in_err-message.field-0.0
-    ((c.in_ok-form.form.prehash, c.in_ok-form.ensures.done), (_, random)) (c.in_ok-cutting.cutting, cut) c.in_err-message.ensures.refused)
+    ((c.in_ok-form.form.form, c.in_ok-form.ensures.done), (_, random)) (c.in_ok-cutting.cutting, cut) c.in_err-message.ensures.refused)
 
 pub returns-clause-done : goal.returns-clause-done
 returns-clause-done g c =
@@ -39,6 +39,6 @@ returns-clause-done g c =
     subst (λ (s : ParamSet). random_of s (sign_asked c.args.words).random ≡ Some (option_map (λ bytes. bytes.items) c.in-Some.random)) c.set.ensures (sym c.in-Some.ensures.value) in
     let cut : IsCutting (work_asked c.args.words.work) set c.in_ok-cutting.cutting =
     subst (λ (s : ParamSet). IsCutting (work_asked c.args.words.work) s c.in_ok-cutting.cutting) c.set-2.ensures c.in_ok-cutting.ensures.done in
-    made (λ bytes. bytes.items) (sign_asked c.args.words) (g.F.Files.state c.args.files.now) c.args.key.now c.in_ok-form.form.context.items c.in_ok-form.form.prehash
+    made (λ bytes. bytes.items) (sign_asked c.args.words) (g.F.Files.state c.args.files.now) c.args.key.now c.in_ok-form.form.context.items c.in_ok-form.form.form
     (option_map (λ r. r.items) c.in-Some.random) c.in_ok-message.message.items c.in_ok-cutting.cutting c.signature_of.result
     c.in_ok-form.ensures.done random cut c.in_ok-message.ensures.done c.signature_of.ensures.short (rw c.as_slice.ensures.value at c.signature_of.ensures.done)

@@ -1,7 +1,7 @@
 -- Where the number can't be written, what is there is a prefix of the whole; else it is the whole.
 use Rattle.std.proofs.Common.{rules, ◌++◌, ℕ, List, codes}
 use Rattle.std.specs.Fmt.{decimal}
-use Rattle.slh_devices.proofs.Texts.{ended, stopped}
+use Rattle.slh_io.proofs.Texts.{ended, stopped}
 use Rattle.slh_vectors.specs.Reading.{member_name}
 use Rattle.slh_tool.proofs.tell.put_member.Goals as goal
 

@@ -1,6 +1,6 @@
 -- Where one of the three parts can't be written, what is there is a prefix of the whole; else it is the whole.
 use Rattle.std.proofs.Common.{rules, codes}
-use Rattle.slh_devices.proofs.Texts.{first_of_three, stopped_after, third_ended}
+use Rattle.slh_io.proofs.Texts.{first_of_three, stopped_after, third_ended}
 use Rattle.slh_tool.specs.Faults.{place}
 use Rattle.slh_tool.proofs.tell.tell.Goals as goal
 

@@ -1,6 +1,6 @@
 -- The verdict is that of the bytes read: the digest of the message's file, and the front of the signature's.
 use Rattle.std.proofs.Common.{subst}
-use Rattle.slh_devices.specs.Devices.{FilesState}
+use Rattle.slh_io.specs.Devices.{FilesState}
 use Rattle.slh_tool.specs.Reading.{IsFile}
 use Rattle.slh_tool.proofs.Pieces.{judged_by_front}
 use Rattle.slh_tool.proofs.verify.verify_digest.Goals as goal

@@ -1,6 +1,6 @@
 -- Reading the key keeps the files, so the verdict is of the files as they were.
 use Rattle.std.proofs.Common.{subst}
-use Rattle.slh_devices.specs.Devices.{FilesState}
+use Rattle.slh_io.specs.Devices.{FilesState}
 use Rattle.slh_tool.specs.Replies.{JudgesWith, RefusesVerify}
 use Rattle.slh_tool.specs.Requests.{verify_asked}
 use Rattle.slh_tool.proofs.Refusals.{handed_on, verify_refused}

@@ -4,7 +4,7 @@ use Rattle.std.specs.Fmt.{decimal}
 use Rattle.slh_params.specs.ParamSet as param_set
 use Rattle.slh_vectors.specs.Cases.{test_view, set_of}
 use Rattle.slh_vectors.specs.Report.{line_text, outcome_name}
-use Rattle.slh_devices.proofs.Texts.{first_of_four, second_of_four, third_of_four, fourth_ended}
+use Rattle.slh_io.proofs.Texts.{first_of_four, second_of_four, third_of_four, fourth_ended}
 use Rattle.slh_vectors.proofs.lines.put_line.Goals as goal
 
 abbrev number_text : ℕ → List ℕ

@@ -2,7 +2,7 @@ use Rattle.std.proofs.Common.{rules}
 use Rattle.std.specs.List.{count_by}
 use Rattle.slh_vectors.specs.Cases.{views}
 use Rattle.slh_vectors.specs.Report.{counts_text, fails, lines_from, passes}
-use Rattle.slh_devices.proofs.Texts.{ended, stopped}
+use Rattle.slh_io.proofs.Texts.{ended, stopped}
 use Rattle.slh_vectors.proofs.lines.report.Goals as goal
 
 pub returns-in_err-put_lines-clause-puts : goal.returns-in_err-put_lines-clause-puts

@@ -7,8 +7,7 @@ use Rattle.slh_core.specs.Keys.{Key}
 use Rattle.slh_core.specs.Messages.{pure_message}
 use Rattle.slh_core.specs.Signatures.{IsValid}
 use Rattle.slh_core.specs.Verifying.{HoldsFirst, IsVerifierOf}
-use Rattle.slh_core.proofs.Lengths.{r_fits}
-use Rattle.slh_core.proofs.Verdicts.{digest_in_pieces, judged_by_digest}
+use Rattle.slh_core.proofs.Verdicts.{judged_by_digest}
 use Rattle.slh_core.proofs.verifier.Verifier.finish.Goals as goal
 
 pub slice_bounds-buffer-end : goal.slice_bounds-buffer-end
@@ -18,13 +17,6 @@ pub slice_bounds-digest-end : goal.slice_bounds-digest-end
 slice_bounds-digest-end c =
     let fits : c.m.result ≤ 122 = omega (arith, c.m.ensures, m_high c.set-set.result) in
     sym (length-take-le c.m.result _ fits)
-
-pub slice_bounds-finish-end : goal.slice_bounds-finish-end
-slice_bounds-finish-end c =
-    let p = params c.args.self.pk.now.set in
-    let n : c.n.result ≡ p.n = search rules in
-    let whole : length c.args.self.sig.now ≡ sig_len p = search rules in
-    sym (length-take-le c.n.result _ (r_fits p c.n.result (length c.args.self.sig.now) n whole))
 
 pub verify_by_digest-requires-clause-digest : goal.verify_by_digest-requires-clause-digest
 verify_by_digest-requires-clause-digest c =
@@ -37,13 +29,12 @@ returns c = λ pk ctx sig msg of.
     let held = c.args.self.pk.now in
     let bytes = c.args.self.sig.now in
     let p = params held.set in
-    let of_these : HoldsFirst c.args.self.inner held ctx bytes msg = rw (← of.0, ← of.1.0) at of.1.1 in
+    let of_these : HoldsFirst c.args.self.hash held ctx bytes msg = rw (← of.0, ← of.1.0) at of.1.1 in
     let fed = rw c.in-Some.is at of_these in
-    let n : c.n.result ≡ p.n = search rules in
     let whole : length bytes ≡ sig_len p = search rules in
     let fits : c.m.result ≤ 122 = omega (arith, c.m.ensures, m_high c.set-set.result) in
     let size = length-take-le c.m.result _ fits ∙ rw c.set-set.ensures at c.m.ensures in
-    let digest = digest_in_pieces held bytes (pure_message ctx msg) _ c.finish.new.out c.n.result _ n c.pk_seed.ensures.value size (c.finish.ensures p _ fed.1) in
+    let digest = c.finish.ensures p _ _ _ _ fed.1 size in
     let judged = judged_by_digest held ctx bytes msg c.finish.new.out c.verify_by_digest.result fed.0 whole digest c.verify_by_digest.ensures in
     let Judged : Key → List ℕ → Type 0 = λ key s. IsTrue c.verify_by_digest.result ↔ ((length ctx ≤ 255) × IsValid key (pure_message ctx msg) s) in
     subst (λ (key : Key). Judged key sig) of.0 (subst (λ (s : List ℕ). Judged held s) of.1.0 judged)

@@ -3,7 +3,7 @@ use Rattle.std.proofs.Common.{◌≡◌, ℕ, ◌+◌, ◌-◌, ◌*◌, ◌<◌
 use Rattle.slh_few.specs.Parts.{part}
 use Rattle.slh_few.proofs.Ends.{part-end_to_end, part_fits}
 use Rattle.slh_subtrees.specs.Assembled.{signed_by}
-use Rattle.slh_jobs.specs.Answered.{params_in, source_in, answers_in}
+use Rattle.slh_jobs.specs.AllAnswers.{params_in, source_in, answers_in}
 use Rattle.slh_jobs.proofs.Signed.{length-signed}
 use Rattle.slh_jobs.proofs.joining.Judged.root.Goals as goal
 

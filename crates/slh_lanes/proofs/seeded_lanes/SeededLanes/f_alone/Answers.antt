@@ -6,7 +6,7 @@ use Rattle.slh_params.specs.Params.{Params}
 use Rattle.slh_params.proofs.Bounds.{n_high}
 use Rattle.slh_hash.specs.Hash.{F, tweaked}
 use Rattle.slh_lanes.specs.Lanes.{IsSeededLanes, value_at}
-use Rattle.slh_lanes.proofs.Cut.{value_cut}
+use Rattle.slh_lanes.proofs.FirstBytes.{value_cut}
 use Rattle.slh_lanes.proofs.seeded_lanes.SeededLanes.f_alone.Goals as goal
 
 pub loop-j-preserved : goal.loop-j-preserved

@@ -4,7 +4,7 @@ use Rattle.sha2.proofs.Facts256.{length-sha256}
 use Rattle.slh_params.proofs.Bounds.{n_high}
 use Rattle.slh_hash.specs.Hash.{PRF}
 use Rattle.slh_lanes.specs.Lanes.{IsSeededLanes}
-use Rattle.slh_lanes.proofs.Cut.{value_cut}
+use Rattle.slh_lanes.proofs.FirstBytes.{value_cut}
 use Rattle.slh_lanes.proofs.seeded_lanes.SeededLanes.prf_alone.Goals as goal
 
 pub loop-j-preserved : goal.loop-j-preserved

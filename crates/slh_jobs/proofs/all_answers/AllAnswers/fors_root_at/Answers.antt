@@ -1,0 +1,12 @@
+-- The part stands in the middle of the buffer, and all else stays.
+use Rattle.std.proofs.Common.{◌≡◌, ◌+◌, ◌-◌, ◌++◌, length, take, ap, ◌∙◌, arith, rules}
+use Rattle.std.proofs.lemmas.Slice.{take-put_mid}
+use Rattle.slh_few.specs.Fors.{fors_part_len}
+use Rattle.slh_jobs.specs.AllAnswers.{params_in}
+use Rattle.slh_jobs.proofs.all_answers.AllAnswers.fors_root_at.Goals as goal
+
+pub returns-clause-part : goal.returns-clause-part
+returns-clause-part c =
+    let own : length c.fors_root.new.part ≡ fors_part_len (params_in c.args.self.now) = search rules in
+    take-put_mid c.args.start (c.args.start + c.fors_part_len.result - c.args.start) c.args.out.now c.fors_root.new.part _ (omega (arith, own)) (omega (arith, c.requires.out))
+    ∙ ap (λ ys. take c.args.start c.args.out.now ++ ys) c.fors_root.ensures.part

@@ -1,0 +1,55 @@
+-- After each tree one root more is absorbed, one part more is written, and the roots so far are the same.
+use Rattle.std.proofs.Common.{◌≡◌, ℕ, ◌+◌, ◌*◌, ◌<◌, ◌++◌, List, length, take, refl, rules, arith, sym, subst, ap, ◌∙◌}
+use Rattle.slh_params.specs.Address.{address}
+use Rattle.slh_hash.specs.Stream.{HasAbsorbed}
+use Rattle.slh_few.specs.Fors.{fors_part_len}
+use Rattle.slh_few.specs.Parts.{end_to_end}
+use Rattle.slh_few.proofs.Ends.{end_to_end-none, end_to_end-more, writes-more, part_fits, written_all}
+use Rattle.slh_subtrees.specs.Assembled.{fors_part_by}
+use Rattle.slh_subtrees.specs.declared.range.JobTree.TheVariants.{Fors}
+use Rattle.slh_jobs.specs.AllAnswers.{params_in, source_in, answers_in}
+use Rattle.slh_jobs.specs.Joined.{ForsFits}
+use Rattle.slh_jobs.proofs.Indices.{below_more}
+use Rattle.slh_jobs.proofs.all_answers.AllAnswers.judge_fors.Goals as goal
+
+pub fors_root_at-requires-clause-out : goal.fors_root_at-requires-clause-out
+fors_root_at-requires-clause-out c =
+    let p = params_in c.args.self.now in
+    let b : c.loop-j.j < p.k = omega (arith, c.k-j-end.ensures) in
+    let q : length c.loop-j.sig_fors ≡ p.k * fors_part_len p = omega (arith, c.requires) in
+    rw c.fors_part_len-size.ensures.value (part_fits c.loop-j.j p.k (fors_part_len p) (length c.loop-j.sig_fors) b q)
+
+pub loop-j-init : goal.loop-j-init
+loop-j-init c =
+    let zero : 0 * fors_part_len (params_in c.args.self.now) ≡ 0 = omega arith in (
+      rw (end_to_end-none _) (rw (c.public.ensures.set, c.public.ensures.pk_seed) at c.fors_roots-roots.ensures),
+      ap (λ k. take k c.args.sig_fors.now) zero ∙ sym (end_to_end-none _),
+      λ i lt. absurd (omega (arith, lt)),
+      λ i lt. absurd (omega (arith, lt)),
+    )
+
+pub loop-j-preserved : goal.loop-j-preserved
+loop-j-preserved c =
+    let p = params_in c.args.self.now in
+    let s = source_in c.args.self.now in
+    let a = answers_in c.args.self.now in
+    let adrs = address 0 s.idx_tree 4 s.idx_leaf 0 0 in
+    let n = fors_part_len p in
+    let j = c.loop-j.j in
+    let roots : ℕ → List ℕ = λ i. a.root (Fors i) in
+    let part : ℕ → List ℕ = fors_part_by a in
+    let Sized : ℕ → Type 0 = λ i. length (part i) ≡ n in
+    let more : end_to_end roots (j + 1) ≡ end_to_end roots j ++ c.in-Some.root.items = end_to_end-more roots j ∙ ap (λ y. end_to_end roots j ++ y) (sym c.in-Some.ensures.root) in
+    let size : length (part j) ≡ n = c.in-Some.ensures.part_len in
+    let put : take (j * n + n) c.fors_root_at.new.out ≡ take (j * n) c.loop-j.sig_fors ++ part j = rw c.fors_part_len-size.ensures.value at c.in-Some.ensures.part in
+    let here : ForsFits s a j = c.in-Some.ensures.fits.0 (search rules) in (
+      subst (λ (xs : List ℕ). HasAbsorbed c.absorb.new.self p s.pk_seed adrs xs) (sym more) (c.absorb.ensures p s.pk_seed adrs (end_to_end roots j) c.loop-j.invariant.0),
+      writes-more part j n c.loop-j.sig_fors c.fors_root_at.new.out (part j) refl size c.loop-j.invariant.1 (ap (λ k. take (j * n + k) c.fors_root_at.new.out) size ∙ put),
+      below_more Sized j c.loop-j.invariant.2 size,
+      below_more (ForsFits s a) j c.loop-j.invariant.3 here,
+    )
+
+pub returns-clause-sig_fors : goal.returns-clause-sig_fors
+returns-clause-sig_fors c = λ some.
+    let p = params_in c.args.self.now in
+    written_all _ p.k (fors_part_len p) c.loop-j.j c.loop-j.sig_fors (omega (arith, c.k-j-end.ensures)) (omega (arith, c.requires)) c.loop-j.invariant.1

@@ -1,0 +1,38 @@
+-- After each layer the roots so far are the same, and the next layer signs the last of them.
+use Rattle.std.proofs.Common.{◌≡◌, ℕ, ◌+◌, ◌*◌, ◌++◌, List, length, take, rules, arith, add-one, ap, ◌∙◌, sym}
+use Rattle.slh_few.specs.Xmss.{xmss_sig_len}
+use Rattle.slh_few.proofs.Ends.{end_to_end-none, writes-more}
+use Rattle.slh_subtrees.specs.Assembled.{signed_by, layer_part_by}
+use Rattle.slh_jobs.specs.AllAnswers.{params_in, source_in, answers_in}
+use Rattle.slh_jobs.specs.Joined.{LayerFits}
+use Rattle.slh_jobs.proofs.Indices.{below_more}
+use Rattle.slh_jobs.proofs.all_answers.AllAnswers.judge_layers.Goals as goal
+
+pub loop-layer-init : goal.loop-layer-init
+loop-layer-init c =
+    let zero : 0 * (params_in c.args.self.now).n ≡ 0 = omega arith in (
+      c.copy_of-msg.ensures ∙ c.requires.pk_fors,
+      ap length c.copy_of-msg.ensures ∙ c.requires.len,
+      ap (λ k. take k c.args.signed.now) zero ∙ sym (end_to_end-none _),
+      λ l lt. absurd (omega (arith, lt)),
+      λ l lt. absurd (omega (arith, lt)),
+    )
+
+pub loop-layer-preserved : goal.loop-layer-preserved
+loop-layer-preserved c =
+    let s = source_in c.args.self.now in
+    let a = answers_in c.args.self.now in
+    let size = (params_in c.args.self.now).n in
+    let n = c.loop-layer.layer in
+    let signed : ℕ → List ℕ = signed_by s a in
+    let Sized : ℕ → Type 0 = λ i. length (layer_part_by s a i (signed i)) ≡ xmss_sig_len (params_in c.args.self.now) in
+    let next : c.in-Some.root.items ≡ signed (n + 1) = rw (add-one n) c.in-Some.ensures.root in
+    let here : LayerFits s a n = c.in-Some.ensures.fits.0 (search rules) in
+    let msg : List ℕ = c.loop-layer.msg.items in
+    let put : take (n * size + length msg) c.put_node.new.out ≡ take (n * size) c.loop-layer.signed ++ msg = rw c.n-n.ensures at c.put_node.ensures in (
+      next,
+      c.in-Some.ensures.len,
+      writes-more signed n size c.loop-layer.signed c.put_node.new.out msg c.loop-layer.invariant.0 c.loop-layer.invariant.1 c.loop-layer.invariant.2 put,
+      below_more Sized n c.loop-layer.invariant.3 c.in-Some.ensures.part_len,
+      below_more (LayerFits s a) n c.loop-layer.invariant.4 here,
+    )

@@ -1,0 +1,146 @@
+//! What the answers of all jobs say of the trees, whatever bytes they are.
+ghost use Rattle.std.specs.Prelude.{◌≡◌, ◌+◌, ◌*◌, ◌/◌, ◌^◌, ◌<◌, ◌≤◌, ◌↔◌, IsSome, IfSome, length};
+ghost use Rattle.slh_params.specs.ParamSet.{params};
+ghost use Rattle.slh_hash.specs.Stream.{IsSeededTree};
+ghost use Rattle.slh_subtrees.specs.Jobs.{IsTreeOf, height_of};
+ghost use Rattle.slh_subtrees.specs.SigningTrees.{source_of, leaf_in};
+ghost use Rattle.slh_jobs.specs.Ranges.{below, answer_len, given};
+ghost use Rattle.slh_jobs.specs.Jobs.{xmss_shape, fors_shape, shape_of, xmss_jobs, fors_jobs, first_of_kind, source, rest_len, answers_len};
+ghost use Rattle.slh_jobs.specs.Starts.{IsStart};
+ghost use Rattle.slh_jobs.specs.Tags.{start_len};
+ghost use Rattle.slh_jobs.specs.Joined.{fors_answers, answers_of_kind, rest_in, answers_given};
+ghost use Rattle.slh_subtrees.specs.declared.jobs.TheConstants.{MOST_JOBS_OF_A_KIND};
+
+use crate::answer_bytes::AnswerBytes;
+use crate::levels::Levels;
+use crate::seeded_trees::{SeededForsTree, SeededXmssTree};
+use crate::signing::Signing;
+use crate::upper_tree::put_auth;
+use slh_core::SecretKey;
+use slh_hash::SeededTreeHash;
+use slh_params::Node;
+use slh_subtrees::{Answers, JobTree};
+
+/// The answers of all jobs of a signature, as they are handed in.
+#[derive(Drop)]
+pub(crate) struct AllAnswers<'a> {
+    pub(crate) signing: Signing<'a>,
+    pub(crate) xmss: AnswerBytes<'a>,
+    pub(crate) fors: AnswerBytes<'a>,
+    joins: SeededTreeHash,
+    ghost xmss_cut: { xmss.shape ≡ xmss_shape signing.levels },
+    ghost fors_cut: { fors.shape ≡ fors_shape signing.levels },
+    ghost rest: { fors.bytes.now ≡ fors_answers signing.levels xmss.bytes.now },
+    ghost xmss_there: { xmss_jobs signing.levels * answer_len (xmss_shape signing.levels) ≤ length xmss.bytes.now },
+    ghost fors_there: { fors_jobs signing.levels * answer_len (fors_shape signing.levels) ≤ length fors.bytes.now },
+    ghost joins_state: { ∥ IsSeededTree joins (params signing.trees.seeds.set) signing.trees.seeds.pk_seed.now ∥₁ },
+}
+
+impl<'a> AllAnswers<'a> {
+    /// The answers of the signature by this key that `start` begins. `None` where `start` does not have its tag under
+    /// this key.
+    pub(crate) fn new(
+        levels: &Levels,
+        sk: &'a SecretKey,
+        start: &'a [u8],
+        answers: &'a [u8],
+    ) -> Option<AllAnswers<'a>>
+        requires set { sk.now.set ≡ levels.now.set }
+        requires start { length start.now ≡ start_len (params levels.now.set) }
+        requires answers { length answers.now ≡ answers_len levels.now }
+        ensures some { IsSome result ↔ IsStart sk.now start.now }
+        ensures levels { IfSome result (λ answered. answered.signing.levels ≡ levels.now) }
+        ensures sk { IfSome result (λ answered. answered.signing.sk.now ≡ sk.now) }
+        ensures start { IfSome result (λ answered. answered.signing.start.now ≡ start.now) }
+        ensures answers { IfSome result (λ answered. answered.xmss.bytes.now ≡ answers.now) }
+        ensures source { IfSome result (λ answered. source_of answered.signing.trees
+            ≡ source levels.now sk.now start.now) }
+    {
+        let signing = Signing::new(levels, sk, start)?;
+        let xmss = AnswerBytes {
+            shape: levels.xmss_shape(),
+            bytes: answers,
+        };
+        let xmss_len = levels.xmss_jobs() as usize * xmss.shape.answer_len();
+        let fors = AnswerBytes {
+            shape: levels.fors_shape(),
+            bytes: &answers[xmss_len..],
+        };
+        let joins = SeededTreeHash::new(signing.trees.seeds.set, signing.trees.seeds.pk_seed);
+        Some(AllAnswers {
+            signing,
+            xmss,
+            fors,
+            joins,
+        })
+    }
+
+    /// The answers of the trees of a tree's kind.
+    fn of_kind(&self, tree: JobTree) -> &AnswerBytes<'a>
+        ensures shape { result.now.shape ≡ shape_of self.now.signing.levels tree }
+        ensures bytes { result.now.bytes.now ≡ answers_of_kind self.now.signing.levels self.now.xmss.bytes.now tree }
+    {
+        match tree {
+            JobTree::Xmss(_) => &self.xmss,
+            JobTree::Fors(_) => &self.fors,
+        }
+    }
+
+    /// The number of a tree's first answer among those of the trees of its kind.
+    fn first(&self, tree: JobTree) -> u32
+        requires { IsTreeOf (params self.now.signing.levels.set) tree }
+        ensures value { result ≡ first_of_kind self.now.signing.levels tree }
+        ensures few { result ≤ MOST_JOBS_OF_A_KIND }
+        ensures there { let shape = shape_of self.now.signing.levels tree in
+            (result + 2 ^ shape.levels) * answer_len shape
+            ≤ length (answers_of_kind self.now.signing.levels self.now.xmss.bytes.now tree) }
+    {
+        self.signing.levels.first_of_kind(tree)
+    }
+
+    /// What follows the path in the answer of the range of a tree's signing leaf.
+    fn rest(&self, tree: JobTree) -> &'a [u8]
+        requires { IsTreeOf (params self.now.signing.levels.set) tree }
+        ensures value { result.now
+            ≡ rest_in self.now.signing.levels (source_of self.now.signing.trees) self.now.xmss.bytes.now tree }
+        ensures len { length result.now ≡ rest_len (params self.now.signing.levels.set) tree }
+    {
+        let given = self.of_kind(tree);
+        let range = self.signing.trees.leaf(tree) >> given.shape.below();
+        given.rest((self.first(tree) + range) as usize)
+    }
+}
+
+impl<'a> Answers for AllAnswers<'a> {
+    ghost set = { λ x. x.signing.trees.seeds.set };
+
+    ghost says = { λ x. answers_given x.signing.levels (source_of x.signing.trees) x.xmss.bytes.now };
+
+    fn put_secret(&self, number: u32, out: &mut [u8]) {
+        out.copy_from_slice(self.rest(JobTree::Fors(number)));
+    }
+
+    fn put_path(&self, tree: JobTree, out: &mut [u8]) -> Node {
+        let trees = &self.signing.trees;
+        let given = self.of_kind(tree);
+        let first = self.first(tree);
+        let leaf = trees.leaf(tree);
+        match tree {
+            JobTree::Xmss(layer) => {
+                let at = trees.layer_place(layer);
+                let xmss = SeededXmssTree::new(&self.joins, &trees.seeds, layer, at.tree);
+                put_auth(&xmss, given, first, leaf, out)
+            }
+            JobTree::Fors(number) => {
+                let seeds = &trees.seeds;
+                let (idx_tree, idx_leaf) = (trees.idx_tree, trees.idx_leaf);
+                let fors = SeededForsTree::new(&self.joins, seeds, idx_tree, idx_leaf, number);
+                put_auth(&fors, given, first, leaf, out)
+            }
+        }
+    }
+
+    fn chains(&self, layer: u8) -> &[u8] {
+        self.rest(JobTree::Xmss(layer))
+    }
+}

@@ -1,0 +1,105 @@
+//! Calls with the 1st growth of memory refused, then the 2nd, and so on until a call meets no refusal.
+use super::fixtures::{SET, is_unwritten, key_par, unwritten, whole_trees, workers};
+use super::signing::{FORMS, Form};
+use crate::shared::{MANY, check_count, equal, key};
+use refusing_allocator::Refusing;
+use slh_par::{Cuts, Cutting, NoGate, ParFault, VerifyItem, verify_all};
+use std::alloc::Global;
+use std::process::Abort;
+use std::test::Fail;
+use std::thread::Threads;
+
+#[test]
+fn keygen_par_refuses_at_each_growth(rt: HostRuntime) -> Result<(), Fail> {
+    let cutting = Cutting::new(SET, Cuts::Levels(1), Cuts::Levels(1))?;
+    for number in [1u8, 2] {
+        let mut refusals = 0u64;
+        for nth in 1..MANY {
+            let alloc = Refusing::new(rt.alloc(), rt.alloc(), nth)?;
+            let outcome = key_par(&rt, alloc.clone()?, workers(number)?, &cutting, &NoGate);
+            if !alloc.has_refused() {
+                equal(&rt, &outcome?.bytes(), &key(SET).bytes());
+                break;
+            }
+            equal(&rt, &outcome.err(), &Some(ParFault::NoMemory));
+            refusals = nth;
+        }
+        check_count(&rt, 1, refusals, number);
+    }
+    Ok(())
+}
+
+/// Signs by that many workers with each growth refused in turn.
+fn refuse_signing<R: Abort + Threads + Sync>(
+    rt: &R,
+    alloc: Global,
+    form: Form,
+    number: u8,
+) -> Result<(), Fail> {
+    let sk = key(SET);
+    let cutting = whole_trees(sk.set())?;
+    let expected = form.abc(alloc, &sk)?;
+    let mut refusals = 0u64;
+    for nth in 1..MANY {
+        let refusing = Refusing::new(alloc, alloc, nth)?;
+        let mut out = unwritten(alloc, sk.set())?;
+        let some = workers(number)?;
+        let given = refusing.clone()?;
+        let outcome = form.sign_par(
+            rt, given, b"abc", b"", &sk, some, &cutting, &NoGate, &mut out,
+        );
+        if !refusing.has_refused() {
+            outcome?;
+            equal(rt, &(out == expected), &true);
+            break;
+        }
+        equal(rt, &outcome.err(), &Some(ParFault::NoMemory));
+        equal(rt, &is_unwritten(&out), &true);
+        refusals = nth;
+    }
+    check_count(rt, 1, refusals, number);
+    Ok(())
+}
+
+#[test]
+fn signing_refuses_at_each_growth(rt: HostRuntime) -> Result<(), Fail> {
+    for form in FORMS {
+        for number in [1u8, 2] {
+            refuse_signing(&rt, rt.alloc(), form, number)?;
+        }
+    }
+    Ok(())
+}
+
+#[test]
+fn verify_all_refuses_at_each_growth(rt: HostRuntime) -> Result<(), Fail> {
+    let sk = key(SET);
+    let pk = sk.public();
+    let good = Form::Pure.abc(rt.alloc(), &sk)?;
+    let item = |sig| VerifyItem {
+        pk: &pk,
+        msg: b"abc",
+        ctx: b"",
+        prehash: None,
+        sig,
+    };
+    let items = [item(b""), item(good.as_slice())];
+    // One more worker asks for growths of its own, so their count tells whether the number of workers is handed on.
+    let mut before = 0u64;
+    for number in [1u8, 2] {
+        let mut refusals = 0u64;
+        for nth in 1..MANY {
+            let alloc = Refusing::new(rt.alloc(), rt.alloc(), nth)?;
+            let outcome = verify_all(&rt, alloc.clone()?, &items, workers(number)?);
+            if !alloc.has_refused() {
+                equal(&rt, &outcome?.as_slice(), &[false, true].as_slice());
+                break;
+            }
+            equal(&rt, &outcome.err(), &Some(ParFault::NoMemory));
+            refusals = nth;
+        }
+        check_count(&rt, before.wrapping_add(1), refusals, number);
+        before = refusals;
+    }
+    Ok(())
+}
