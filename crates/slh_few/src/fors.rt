@@ -9,6 +9,7 @@ ghost use Rattle.slh_tree.specs.Tree.{node, root as root_of};
 ghost use Rattle.slh_tree.specs.Climb.{path as path_of, climb as climb_of};
 ghost use Rattle.slh_few.specs.Fors.{fors_tree, fors_leaf, fors_secret, fors_part_len, fors_sig, fors_pk_from_sig, compressed_roots};
 ghost use Rattle.slh_few.specs.Parts.{part};
+ghost use Rattle.slh_few.specs.declared.fors.TheConstants.{MOST_FORS_PART_LEN};
 
 use crate::fors_climb::absorb_in_lanes;
 use crate::fors_parts::{fors_indices, fors_roots};
@@ -19,16 +20,19 @@ use slh_lanes::{SeededLanes, SeededTreeLanes};
 use slh_params::{AdrsType, Node, ParamSet, node_of};
 use slh_tree::climb;
 
+/// At least the length of a tree's part of a signature in any set: a secret and 14 nodes of 32 bytes.
+const MOST_FORS_PART_LEN: usize = (1 + 14) * 32;
+
 /// The length of a tree's part of a signature, a secret and its path: (1 + a) * n bytes.
 pub fn fors_part_len(set: ParamSet) -> usize
     ensures value { result ≡ fors_part_len (params set) }
-    ensures small { result < 3000 }
+    ensures small { result ≤ MOST_FORS_PART_LEN }
 {
     (1 + set.a() as usize) * set.n()
 }
 
-/// fors_node (Algorithm 15): the node of height `z` at index `i` of FORS tree `tree_no` of the key at leaf `idx_leaf` of
-/// tree `idx_tree`, n bytes, from its own leaves alone.
+/// fors_node (Algorithm 15): the node of height `z` at index `i` of FORS tree `tree_no` of the key at leaf `idx_leaf`
+/// of tree `idx_tree`, n bytes, from its own leaves alone.
 #[tactic(auto, unfolding(crate::specs::Trees::fors_tree_of))]
 pub fn fors_node(seeds: &Seeds, idx_tree: u64, idx_leaf: u32, tree_no: u32, z: u32, i: u32) -> Node
     requires tree { tree_no < (params seeds.now.set).k }

@@ -7,6 +7,7 @@ ghost use Rattle.slh_tree.specs.Tree.{root as root_of};
 ghost use Rattle.slh_few.specs.Xmss.{xmss_tree, xmss_sig, xmss_pk_from_sig, xmss_sig_len};
 ghost use Rattle.slh_few.specs.Hypertree.{place_above, layer_place, ht_sig, ht_root_from_sig};
 ghost use Rattle.slh_few.specs.Parts.{part};
+ghost use Rattle.slh_few.specs.declared.hypertree.TheConstants.{MOST_XMSS_SIG_LEN};
 
 use crate::place::{Place, Public, Seeds};
 use crate::xmss::{SeededXmssTree, sign_tree, xmss_pk_from_sig, xmss_sign};
@@ -68,10 +69,13 @@ pub fn layer_places(set: ParamSet, idx_tree: u64, idx_leaf: u32) -> [Place; MOST
     places
 }
 
+/// At least the length of the signature of one layer in any set: 133 chains and 12 nodes of 32 bytes.
+pub const MOST_XMSS_SIG_LEN: usize = (133 + 12) * 32;
+
 /// The length of the signature of one layer: (len + h') * n bytes.
 pub fn xmss_sig_len(set: ParamSet) -> usize
     ensures value { result ≡ xmss_sig_len (params set) }
-    ensures small { result < 5000 }
+    ensures small { result ≤ MOST_XMSS_SIG_LEN }
 {
     (set.len() + set.hp() as usize) * set.n()
 }

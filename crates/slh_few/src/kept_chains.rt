@@ -7,6 +7,7 @@ ghost use Rattle.slh_lanes.specs.Lanes.{IsSeededLanes, value_at};
 ghost use Rattle.slh_few.specs.Parts.{part};
 ghost use Rattle.slh_few.specs.Wots.{whole_chain, wots_pk, wots_sig};
 ghost use Rattle.slh_few.specs.KeptChains.{spacing as spacing_of, kept_count as kept_count_of, kept_chain_len as chain_len, kept_chains_len as chains_len, kept_value, kept_chain, kept_chains, run_from_kept, wots_sig_from};
+ghost use Rattle.slh_few.specs.declared.kept_chains.TheConstants.{MOST_KEPT_CHAIN_LEN, MOST_KEPT_CHAINS_LEN};
 
 use crate::chain_lanes::{put_lanes, run_lanes, secret_lanes};
 use crate::nodes::{node_at, part_at, put_part};
@@ -36,10 +37,16 @@ pub(crate) fn kept_count(set: ParamSet) -> u32
     set.w() / spacing(set)
 }
 
+/// At least the length of the kept values of one chain in any set: 16 of 32 bytes.
+const MOST_KEPT_CHAIN_LEN: usize = 16 * 32;
+
+/// At least the length of the kept values of all chains of a key in any set: there are at most 133.
+const MOST_KEPT_CHAINS_LEN: usize = 133 * MOST_KEPT_CHAIN_LEN;
+
 /// The length of the kept values of one chain.
 fn kept_chain_len(set: ParamSet) -> usize
     ensures value { result ≡ chain_len (params set) }
-    ensures small { result ≤ 512 }
+    ensures small { result ≤ MOST_KEPT_CHAIN_LEN }
 {
     kept_count(set) as usize * set.n()
 }
@@ -47,7 +54,7 @@ fn kept_chain_len(set: ParamSet) -> usize
 /// The length of the kept values of all chains of a key.
 pub fn kept_chains_len(set: ParamSet) -> usize
     ensures value { result ≡ chains_len (params set) }
-    ensures small { result ≤ 68096 }
+    ensures small { result ≤ MOST_KEPT_CHAINS_LEN }
 {
     set.len() * kept_chain_len(set)
 }

@@ -26,7 +26,9 @@ mod xmss;
 pub use fors::{fors_node, fors_part_len, fors_pk_from_sig, fors_root_from_sig, fors_sign};
 pub use fors_parts::{MOST_TREES, fors_indices, fors_roots, fors_secret};
 pub use fors_tree::ForsTree;
-pub use hypertree::{MOST_LAYERS, ht_sign, ht_verify, layer_place, layer_places, xmss_sig_len};
+pub use hypertree::{
+    MOST_LAYERS, MOST_XMSS_SIG_LEN, ht_sign, ht_verify, layer_place, layer_places, xmss_sig_len,
+};
 pub use kept_chains::{kept_chains_len, wots_pk_keeping, wots_sign_kept};
 pub use path_bytes::put_path;
 pub use place::{Place, Public, Seeds};

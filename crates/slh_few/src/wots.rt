@@ -8,6 +8,7 @@ ghost use Rattle.slh_hash.specs.Hash.{T};
 ghost use Rattle.slh_hash.specs.Seeded.{IsSeeded};
 ghost use Rattle.slh_few.specs.Wots.{wots_address, chain as chain_of, secret, whole_chain, wots_pk, wots_sig, wots_pk_from_sig};
 ghost use Rattle.slh_few.specs.Xmss.{wots_sig_len};
+ghost use Rattle.slh_few.specs.declared.wots.TheConstants.{MOST_WOTS_SIG_LEN};
 
 use crate::chain_lanes::{ChainNumbers, run_secrets, run_values};
 use crate::nodes::node_at;
@@ -110,10 +111,13 @@ pub fn wots_pk(seeds: &Seeds, at: Place) -> Node
     compressed_ends(&public, at, ends)
 }
 
+/// At least the length of a signature in any set: 133 values of 32 bytes.
+const MOST_WOTS_SIG_LEN: usize = 133 * 32;
+
 /// The length of a signature: len * n bytes.
 pub fn wots_sig_len(set: ParamSet) -> usize
     ensures value { result ≡ wots_sig_len (params set) }
-    ensures small { result ≤ 4256 }
+    ensures small { result ≤ MOST_WOTS_SIG_LEN }
 {
     set.len() * set.n()
 }

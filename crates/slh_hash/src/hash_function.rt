@@ -7,6 +7,9 @@ ghost use Rattle.slh_hash.specs.Keyed.{joined};
 use arrayvec::ArrayVec;
 use sha2::{Digest, Sha256, Sha512};
 
+/// The length of the longest block, that of SHA-512.
+pub(crate) const MOST_BLOCK_LEN: usize = 128;
+
 /// A digest, of at most 64 bytes.
 pub(crate) type DigestBytes = ArrayVec<u8, 64>;
 

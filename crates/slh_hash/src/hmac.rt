@@ -2,14 +2,15 @@
 ghost use Rattle.std.specs.Prelude.{◌≡◌, ◌+◌, ◌≤◌, ◌++◌, length};
 ghost use Rattle.slh_hash.specs.HashFunctions.{SHA_256, SHA_512};
 ghost use Rattle.slh_hash.specs.Keyed.{joined, filled, key_block, xor_each, hmac};
+ghost use Rattle.slh_hash.specs.declared.hash_function.TheConstants.{MOST_BLOCK_LEN};
 
-use crate::hash_function::{DigestBytes, HashFunctionOf, absorb};
+use crate::hash_function::{DigestBytes, HashFunctionOf, MOST_BLOCK_LEN, absorb};
 use crate::tweakable::zeros;
 use arrayvec::ArrayVec;
 use sha2::{Digest, Sha256, Sha512};
 
-/// One block of a hash function, of at most 128 bytes.
-pub(crate) type Block = ArrayVec<u8, 128>;
+/// One block of a hash function.
+pub(crate) type Block = ArrayVec<u8, MOST_BLOCK_LEN>;
 
 /// HMAC-SHA-256 (FIPS 198-1) of the parts put end to end, under a key of any length.
 pub fn hmac_sha256(key: &[u8], parts: &[&[u8]]) -> [u8; 32]
@@ -67,7 +68,7 @@ pub(crate) fn key_block<D: HashFunctionOf>(key: &[u8]) -> Block
 /// The bytes and zeros up to a block of this length.
 fn filled(bytes: &[u8], len: usize) -> Block
     requires fits { length bytes.now ≤ len }
-    requires block { len ≤ 128 }
+    requires block { len ≤ MOST_BLOCK_LEN }
     ensures { result.items ≡ filled len bytes.now }
 {
     let mut block = Block::new();
@@ -78,7 +79,7 @@ fn filled(bytes: &[u8], len: usize) -> Block
 
 /// Adds the bytes, for which there is room.
 fn append(block: &mut Block, bytes: &[u8])
-    requires { length block.old.items + length bytes.now ≤ 128 }
+    requires { length block.old.items + length bytes.now ≤ MOST_BLOCK_LEN }
     ensures { block.new.items ≡ block.old.items ++ bytes.now }
 {
     let _ = block.try_extend_from_slice(bytes);

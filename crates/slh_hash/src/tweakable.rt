@@ -6,16 +6,18 @@ ghost use Rattle.slh_params.specs.ParamSet.{params};
 ghost use Rattle.slh_params.specs.Bits.{to_byte};
 ghost use Rattle.slh_params.specs.Address.{compressed};
 ghost use Rattle.slh_hash.specs.Hash.{F, PRF, T, H, tweaked};
+ghost use Rattle.slh_hash.specs.declared.hash_function.TheConstants.{MOST_BLOCK_LEN};
 
+use crate::hash_function::MOST_BLOCK_LEN;
 use crate::seeded_hash::SeededHash;
 use crate::t_stream::SeededTreeHash;
 use slh_params::{Adrs, Node, ParamSet};
 
-const ZEROS: [u8; 128] = [0; 128];
+const ZEROS: [u8; MOST_BLOCK_LEN] = [0; MOST_BLOCK_LEN];
 
 /// The zeros that fill a block after PK.seed.
 pub(crate) fn zeros(count: usize) -> &'static [u8]
-    requires { count ≤ 128 }
+    requires { count ≤ MOST_BLOCK_LEN }
     ensures { result.now ≡ to_byte 0 count }
 {
     &ZEROS[..count]

@@ -15,13 +15,13 @@ ghost use Rattle.slh_subtrees.specs.declared.jobs.TheConstants.{MOST_JOBS_OF_A_K
 use crate::all_answers::AllAnswers;
 use crate::answer_bytes::AnswerBytes;
 use crate::tag::{answer_tag, are_same, keyed_for_answers};
-use slh_few::{fors_part_len, fors_root_from_sig, fors_roots, xmss_pk_from_sig, xmss_sig_len};
+use slh_few::{
+    MOST_XMSS_SIG_LEN, fors_part_len, fors_root_from_sig, fors_roots, xmss_pk_from_sig,
+    xmss_sig_len,
+};
 use slh_hash::CategoryHmac;
 use slh_params::{Node, copy_of, node_of, put_node};
 use slh_subtrees::{JobTree, fors_part, layer_part};
-
-/// At least the length of an XMSS signature in any set: 133 chains and 12 nodes of 32 bytes.
-const MOST_XMSS_SIG_LEN: usize = (133 + 12) * 32;
 
 impl<'a> AllAnswers<'a> {
     /// Whether the node of an answer has the tag of this job.

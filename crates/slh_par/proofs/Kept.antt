@@ -19,7 +19,7 @@ use Rattle.slh_subtrees.specs.SigningTrees.{source_of, chains_in, signs_in, leaf
 use Rattle.slh_par.specs.JobAnswers.{kept_in, as_list}
 use Rattle.slh_subtrees.specs.declared.signing_trees.SigningTrees.{SigningTrees}
 use Rattle.slh_par.specs.JoinedTrees.{AreChains}
-use Rattle.slh_par.proofs.Apart.{Answer, AllRight, nothing}
+use Rattle.slh_par.proofs.SplitAnswers.{Answer, AllRight, nothing}
 use Rattle.slh_par.proofs.Parts.{job_of, job_at}
 
 both : (b c : Bool) → b ≡ true → c ≡ true → (b && c) ≡ true

@@ -1,4 +1,4 @@
-pub mod Apart
+pub mod SplitAnswers
 pub mod Joined
 pub mod Kept
 pub mod Numbering

@@ -8,7 +8,7 @@ ghost use Rattle.slh_workers.specs.declared.fault.RunFault.TheVariants.{Stopped}
 use crate::joined_trees::JoinedTrees;
 use crate::ranges::TreeRanges;
 use crate::top_tree::{TopRanges, gathered_top};
-use crate::trees_of_ranges::{apart, trees_of_ranges};
+use crate::trees_of_ranges::{split_answers, trees_of_ranges};
 use slh_few::Seeds;
 use slh_params::Node;
 use slh_subtrees::{Cutting, SigningTrees};
@@ -40,7 +40,7 @@ pub(crate) fn join_trees<'t, 's, R: Threads + Sync, A: Allocator + Clone + Send 
     let layers = alloc.clone().map_err(NoMemory::from)?;
     let places = alloc.clone().map_err(NoMemory::from)?;
     let answers = run_all(rt, alloc, &work, workers, gate)?;
-    let (covers, records, kept) = apart(parts, answers)?;
+    let (covers, records, kept) = split_answers(parts, answers)?;
     // For the prover: the ranges lie end to end, so that each signing leaf is in one of them.
     let _ranges = cutting.xmss_ranges();
     let chains = by_number(layers, cutting.set().d(), kept)?;

@@ -30,7 +30,7 @@ fn push_kept<A: Allocator>(
 }
 
 /// The covers and the records of the ranges, and what was kept of chains, each in their order.
-pub(crate) fn apart<A: Allocator + Clone>(
+pub(crate) fn split_answers<A: Allocator + Clone>(
     alloc: A,
     answers: Vec<JobAnswer<A>, A>,
 ) -> Result<(Vec<Cover, A>, Vec<PathRec, A>, Vec<LayerChains<A>, A>), NoMemory>

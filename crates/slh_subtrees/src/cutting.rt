@@ -36,8 +36,11 @@ impl Cutting {
     /// The trees of the set, cut as asked for. Refused where the levels or the points of the XMSS trees, or else of the
     /// FORS trees, are invalid.
     pub fn new(set: ParamSet, xmss: Cuts<'_>, fors: Cuts<'_>) -> Result<Cutting, CutFault>
-        ensures points { IfOk result (λ c. c
-            ≡ record { set = set; xmss = cut_points (params set).hp xmss.entry; fors = cut_points (params set).a fors.entry }) }
+        ensures points { IfOk result (λ c. c ≡ record {
+          set = set;
+          xmss = cut_points (params set).hp xmss.entry;
+          fors = cut_points (params set).a fors.entry;
+        }) }
         ensures in_rule { IsOk result ↔ IsInRule (params set).hp xmss.entry × IsInRule (params set).a fors.entry }
         ensures accepted { OnOk result (cut_fault (params set) xmss.entry fors.entry ≡ None) }
         ensures refused { IfErr result (λ e. cut_fault (params set) xmss.entry fors.entry ≡ Some e) }

@@ -103,8 +103,9 @@ impl<'a> SigningTrees<'a> {
         }
     }
 
-    /// What is made of the leaves from `lo` to `hi`, `hi` left out, of the XMSS tree of a layer. Writes what is kept of the
-    /// chains of the key that signs there, `kept_chains_len` bytes; where its leaf is among these, no chain is made twice.
+    /// What is made of the leaves from `lo` to `hi`, `hi` left out, of the XMSS tree of a layer. Writes what is kept of
+    /// the chains of the key that signs there, `kept_chains_len` bytes; where its leaf is among these, no chain is made
+    /// twice.
     #[tactic(auto, using(slh_params::proofs::Bounds::hp_low, slh_params::proofs::Bounds::hp_high))]
     pub fn hashed_keeping(&self, layer: u8, lo: u32, hi: u32, kept: &mut [u8]) -> HashedRange
         requires layer { layer < (params self.now.seeds.set).d }
@@ -170,7 +171,8 @@ impl<'a> SigningTrees<'a> {
         HashedRange { cover, path }
     }
 
-    /// The node of height `z` at index `i` of a tree, n bytes, from its own leaves alone (FIPS 205, Algorithms 9 and 15).
+    /// The node of height `z` at index `i` of a tree, n bytes, from its own leaves alone (FIPS 205, Algorithms 9 and
+    /// 15).
     pub fn node(&self, tree: JobTree, z: u32, i: u32) -> Node
         requires tree { IsTreeOf (params self.now.seeds.set) tree }
         requires height { z ≤ height_of (params self.now.seeds.set) tree }

@@ -166,7 +166,7 @@ abbrev pub AskHelp : List Text → Type 0
 AskHelp words = IsAmong DisplayHelp (fault_of slh_app words)
 
 -- why no request was read from the arguments
-abbrev pub IsGround : List Text → Refusal → Type 0
-IsGround words (refusal.Help e) = AskHelp words
-IsGround words refusal.BadWords = AreBad words
-IsGround words refusal.NoMemory = ⊤
+abbrev pub RefusesRequest : List Text → Refusal → Type 0
+RefusesRequest words (refusal.Help e) = AskHelp words
+RefusesRequest words refusal.BadWords = AreBad words
+RefusesRequest words refusal.NoMemory = ⊤

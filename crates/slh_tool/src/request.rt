@@ -1,6 +1,6 @@
 ghost use Rattle.std.specs.Prelude.{◌≡◌, Some, option_map, map, IfOk, IfErr, string_bytes};
 ghost use Rattle.clap.specs.Words.{first_of, found_of, rows_of, subcommand_rows_of};
-ghost use Rattle.slh_tool.specs.Requests.{Asks, IsGround, asked, asked_by, asked_in, asked_of_file, cut_asked, cut_in, form_asked, form_in, keygen_in, number_of, sign_in, vectors_in, verify_in, work_asked, work_in};
+ghost use Rattle.slh_tool.specs.Requests.{Asks, RefusesRequest, asked, asked_by, asked_in, asked_of_file, cut_asked, cut_in, form_asked, form_in, keygen_in, number_of, sign_in, vectors_in, verify_in, work_asked, work_in};
 
 use clap::ArgMatches;
 use clap::error::ErrorKind;
@@ -82,7 +82,7 @@ pub(crate) enum Refusal {
 #[inline(never)]
 pub(crate) fn parsed<'a>(alloc: Global, words: &'a [String]) -> Result<Request<'a>, Refusal>
     ensures ok { IfOk result (λ r. Asks (map string_bytes words.entry.now) (asked r)) }
-    ensures err { IfErr result (IsGround (map string_bytes words.entry.now)) }
+    ensures err { IfErr result (RefusesRequest (map string_bytes words.entry.now)) }
 {
     let Ok(command) = slh_command(alloc) else {
         return Err(Refusal::NoMemory);

@@ -61,7 +61,8 @@ fn verify_pure<A: Allocator, F: Files>(
     key: &PublicKey,
     context: &[u8],
 ) -> Result<bool, Fault>
-    ensures done { IfOk result (JudgesFiles (verify_asked words.entry) (F.state files.old) key.now context.now forms.Pure) }
+    ensures done { IfOk result (JudgesFiles (verify_asked words.entry)
+        (F.state files.old) key.now context.now forms.Pure) }
     ensures refused { IfErr result (RefusesFiles (verify_asked words.entry) (F.state files.old) (F.state files.new)) }
 {
     match signature_in(alloc, words, files, key) {

@@ -1,5 +1,5 @@
 //! The numbers of a parameter set (FIPS 205, sections 5 to 8 and 11).
-ghost use Rattle.std.specs.Prelude.{◌≡◌, ◌≤◌, ◌<◌, length};
+ghost use Rattle.std.specs.Prelude.{◌≡◌, ◌^◌, ◌≤◌, ◌<◌, length};
 ghost use Rattle.std.specs.Int.Digits.{digits_of};
 ghost use Rattle.slh_params.specs.ParamSet.{params};
 ghost use Rattle.slh_params.specs.Params.{h, m, w, md_len, tree_len, leaf_len, len, len1, len2, pk_len, sk_len, sig_len};
@@ -148,7 +148,7 @@ fn digit_count(number: u32, base: u32) -> usize
     requires base { 2 ≤ base }
     requires small { base ≤ 256 }
     requires some { 1 ≤ number }
-    requires few { number < 16777216 }
+    requires few { number < 2 ^ 24 }
     ensures { result ≡ length (digits_of base number) }
 {
     let mut count = 1;

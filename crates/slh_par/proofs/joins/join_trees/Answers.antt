@@ -6,7 +6,7 @@ use Rattle.slh_params.specs.ParamSet.{params}
 use Rattle.slh_params.specs.declared.param_set.ParamSet.{ParamSet}
 use Rattle.slh_subtrees.specs.Jobs.{signing_jobs}
 use Rattle.slh_workers.specs.Answers.{Covers, InPlace}
-use Rattle.slh_par.proofs.Apart.{answers_apart}
+use Rattle.slh_par.proofs.SplitAnswers.{answers_split}
 use Rattle.slh_par.proofs.Kept.{IsOwn, kept_of, kept_own, kept_covers, chains_in_place}
 use Rattle.slh_par.proofs.joins.join_trees.Goals as goal
 use Rattle.slh_par.proofs.joins.join_trees.Given.{Over}
@@ -43,7 +43,7 @@ by_number-requires-clause-below g c =
 pub trees_of_ranges-requires-clause-answers : goal.trees_of_ranges-requires-clause-answers
 trees_of_ranges-requires-clause-answers g c =
     let count : length c.in_ok-answers.answers.items ≡ length (signing_jobs c.args.cutting.now) = omega (arith, c.in_ok-answers.ensures.count) in
-    answers_apart c.args.trees.now c.args.cutting.now c.in_ok-answers.answers.items c.deref.result.now c.deref-2.result.now count c.in_ok-answers.ensures.right
+    answers_split c.args.trees.now c.args.cutting.now c.in_ok-answers.answers.items c.deref.result.now c.deref-2.result.now count c.in_ok-answers.ensures.right
     (c.deref.ensures.value ∙ c.in_ok-covers.ensures.0) (c.deref-2.ensures.value ∙ c.in_ok-covers.ensures.1)
 
 pub invariant_of-result-clause-all_chains : goal.invariant_of-result-clause-all_chains

@@ -27,14 +27,14 @@ AllRight s cut xs =
     (n : ℕ) (d : Answer) → n < length xs → (job : JobRange) → slice_get (signing_jobs cut) n ≡ Some job
     → IsAnswer s job (get_or xs n d).0.cover (get_or xs n d).0.path × ((get_or xs n d).1 ≡ kept_by s job) × IsTreeOf (params s.seeds.set) job.tree
 
-pub answers_apart :
+pub answers_split :
     (s : SigningTrees) (cut : CutTrees) (xs : List Answer) (cs : List Cover) (rs : List KnownPath) →
     length xs ≡ length (signing_jobs cut) →
     AllRight s cut xs →
     cs ≡ map (λ x. x.0.cover) xs →
     rs ≡ map (λ x. x.0.path) xs →
     AreRangeAnswers s cut cs rs
-answers_apart s cut xs cs rs count right covers records =
+answers_split s cut xs cs rs count right covers records =
     let cover_of : Answer → Cover = λ x. x.0.cover in
     let path_of : Answer → KnownPath = λ x. x.0.path in
     record {

@@ -3,7 +3,7 @@ use Rattle.std.proofs.Common.{◌≡◌, ◌++◌, map}
 use Rattle.std.specs.List.{flat_map}
 use Rattle.std.specs.Vec.Iter.{into_iter_items}
 use Rattle.slh_par.specs.JobAnswers.{as_list}
-use Rattle.slh_par.proofs.trees_of_ranges.apart.Given as goal
+use Rattle.slh_par.proofs.trees_of_ranges.split_answers.Given as goal
 
 abbrev pub invariant-loop-range : goal.invariant-loop-range
 invariant-loop-range g l =
