@@ -41,6 +41,8 @@ calls_of() {
 with_cmake() {
     local built=$work/cmake name
     make_image
+    one "cmake: docs/PACKAGES.md asks for this version" \
+        grep -q "find_package(slh $(cut -d. -f1,2 "$here/VERSION") REQUIRED)" "$here/docs/PACKAGES.md"
     one "cmake: programs find the library" cmake -S "$here/bindings/cmake/tests" -B "$built" \
         -DCMAKE_PREFIX_PATH="$prefix" -DKEY="$work"
     one "cmake: programs are built" cmake --build "$built"

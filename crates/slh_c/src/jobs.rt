@@ -72,9 +72,9 @@ pub extern "C" fn slh_answer_place(
     DONE
 }
 
-/// Begins the signature of a message under a context (FIPS 205, Algorithm 22): writes R, the message's digest and their
-/// tag under this key. The lengths are those of `slh_sign`. Refused, with nothing written, by `sign_start_rules`: as
-/// `slh_sign` is.
+/// Begins the signature of a message under a context (FIPS 205, Algorithm 22): writes R, the digest of M' and their tag
+/// under this key, `start_len` bytes. The other lengths are those of `slh_sign`. Refused, with nothing written, by
+/// `sign_start_rules`: as `slh_sign` is.
 #[unsafe(no_mangle)]
 pub extern "C" fn slh_sign_start(
     set: u32,
@@ -105,8 +105,8 @@ pub extern "C" fn slh_sign_start(
 }
 
 /// Begins the signature of a message by its digest under a pre-hash function, and under a context (FIPS 205, Algorithm
-/// 23): writes R, the digest of M' and their tag under this key. The lengths are those of `slh_hash_sign`. Refused,
-/// with nothing written, by `hash_sign_start_rules`: as `slh_hash_sign` is.
+/// 23): writes R, the digest of M' and their tag under this key, `start_len` bytes. The other lengths are those of
+/// `slh_hash_sign`. Refused, with nothing written, by `hash_sign_start_rules`: as `slh_hash_sign` is.
 #[unsafe(no_mangle)]
 pub extern "C" fn slh_hash_sign_start(
     set: u32,

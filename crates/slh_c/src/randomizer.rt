@@ -9,7 +9,7 @@ ghost use Rattle.slh_c.specs.Keys.{key, opt_rand_of};
 use slh_core::{Randomizer, SecretKey};
 use slh_params::ParamSet;
 
-/// The randomizer of these bytes: none of them is the deterministic variant. `None` where they are neither 0 nor n.
+/// The randomizer of these bytes; no bytes mean the deterministic variant. `None` where they are neither 0 nor n.
 fn randomizer_of(set: ParamSet, bytes: &[u8]) -> Option<Randomizer>
     ensures accepted { IsSome result ↔ IsTrue (randomizer set bytes.now).is_met }
     ensures len { IfSome result (λ it. HasLength it (params set).n) }

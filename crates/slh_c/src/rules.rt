@@ -88,16 +88,6 @@ pub(crate) fn begun(set: ParamSet, start: &[u8]) -> Rule
     has_len(start, start_len(set), Refusal::BadStartLength)
 }
 
-/// That a number is one of these jobs'.
-pub(crate) fn below(job: u32, count: u32) -> Rule
-    ensures { result ≡ rules.below job count }
-{
-    Rule {
-        is_met: job < count,
-        refusal: Refusal::NoSuchJob,
-    }
-}
-
 /// That a digest has the length of the function's.
 pub(crate) fn digest(function: PreHash, bytes: &[u8]) -> Rule
     ensures { result ≡ rules.digest function bytes.now }

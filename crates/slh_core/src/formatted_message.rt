@@ -56,7 +56,7 @@ impl<'a> FormattedMessage<'a> {
     }
 
     /// M' in the pre-hash form, of a digest: 1 and the length of the context, the context, the function's object
-    /// identifier and the digest (Algorithm 23, line 25). `None` for a context of over 255 bytes.
+    /// identifier and the digest (Algorithm 23). `None` for a context of over 255 bytes.
     #[tactic(auto, unfolding(crate::specs::Messages::bytes_of))]
     pub(crate) fn of_digest(digest: MessageDigest, ctx: &'a [u8]) -> Option<FormattedMessage<'a>>
         ensures accepted { IsSome result ↔ (length ctx.now ≤ 255) }

@@ -32,7 +32,8 @@ pub fn fors_part_len(set: ParamSet) -> usize
 }
 
 /// fors_node (Algorithm 15): the node of height `z` at index `i` of FORS tree `tree_no` of the key at leaf `idx_leaf`
-/// of tree `idx_tree`, n bytes, from its own leaves alone.
+/// of tree `idx_tree`, n bytes, from its own leaves alone. The standard counts the nodes of all trees: its index is
+/// tree_no * 2^(a - z) + i.
 #[tactic(auto, unfolding(crate::specs::Trees::fors_tree_of))]
 pub fn fors_node(seeds: &Seeds, idx_tree: u64, idx_leaf: u32, tree_no: u32, z: u32, i: u32) -> Node
     requires tree { tree_no < (params seeds.now.set).k }
@@ -167,7 +168,7 @@ fn root_at(seeded_tree: &SeededForsTree, i: u32, sig: &[u8]) -> Node
 }
 
 /// The root of tree `tree_no` that its part of a signature, a secret and a path, gives for leaf `index`: n bytes
-/// (Algorithm 17, lines 5 to 20).
+/// (Algorithm 17, lines 3 to 20).
 pub fn fors_root_from_sig(
     public: &Public,
     idx_tree: u64,

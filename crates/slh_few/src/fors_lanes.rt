@@ -83,8 +83,8 @@ impl<'a> ForsTree<'a> {
 const EIGHT_NODES: u32 = 3;
 
 impl<'s, 'h> SeededForsTree<'s, 'h> {
-    /// fors_node (Algorithm 15): the node of height `z` at index `i`, from its own leaves alone. Where PK.seed has n
-    /// bytes it is made in lanes.
+    /// fors_node (Algorithm 15): the node of height `z` at index `i` of this tree, from its own leaves alone. From
+    /// height 3 on it is made in lanes where PK.seed has n bytes; else the leaves alone are.
     #[tactic(auto, unfolding(crate::specs::Trees::fors_tree_of))]
     pub(crate) fn node(&self, lanes: &SeededTreeLanes, z: u32, i: u32) -> Node
         requires lanes { IsSeededTreeLanes lanes.now (params self.now.tree.seeds.set) self.now.tree.seeds.pk_seed.now }

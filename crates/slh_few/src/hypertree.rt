@@ -49,7 +49,7 @@ pub fn layer_place(set: ParamSet, idx_tree: u64, idx_leaf: u32, layer: u8) -> Pl
 pub const MOST_LAYERS: usize = 65;
 
 /// The places of all d layers, from layer 0 on: the trees that stand above leaf `idx_leaf` of tree `idx_tree` of layer
-/// 0, and the leaf of each (Algorithm 12, lines 7 and 8). In places after the d-th stands that of layer 0.
+/// 0, and the leaf of each (Algorithm 12, lines 7 and 8). What stands after the d-th is not read.
 pub fn layer_places(set: ParamSet, idx_tree: u64, idx_leaf: u32) -> [Place; MOST_LAYERS]
     requires { idx_leaf < 2 ^ (params set).hp }
     ensures few { (params set).d ≤ MOST_LAYERS }

@@ -194,8 +194,8 @@ fn value_from_kept(
 }
 
 /// Writes the signature of a message of n bytes, len * n bytes (Algorithm 7), from the values of the key's chains that
-/// `wots_pk_keeping` kept. Other bytes of that length give no signature of the key. Where w is at most 16, it computes
-/// no chain.
+/// `wots_pk_keeping` kept; of other bytes of that length `value` says what is written. Where w is at most 16, it
+/// computes no chain.
 #[tactic(auto, using(crate::proofs::Checksum::chain_bounds))]
 pub fn wots_sign_kept(seeds: &Seeds, at: Place, msg: &Node, kept: &[u8], out: &mut [u8])
     requires msg { length msg.now.items ≡ (params seeds.now.set).n }

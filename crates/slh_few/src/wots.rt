@@ -74,10 +74,10 @@ pub fn chain(public: &Public, at: Place, chain_no: u32, x: &Node, from: u32, ste
     run_chain(&seeded, at, chain_no, copy_of(x), from, steps)
 }
 
-/// The most bytes that a value of each chain of a key takes.
+/// The most bytes that a value of each chain of a key takes: at most 133 chains, of 32 bytes each.
 pub(crate) const MOST_VALUES: usize = 4256;
 
-/// T over the ends of all chains: the public key, n bytes (Algorithm 6, lines 7 to 10).
+/// T over the ends of all chains: the public key, n bytes (Algorithm 6, lines 10 to 13).
 pub(crate) fn compressed_ends(public: &Public, at: Place, ends: &[u8]) -> Node
     requires { length ends.now ≡ len (params public.now.set) * (params public.now.set).n }
     ensures value { let p = params public.now.set in

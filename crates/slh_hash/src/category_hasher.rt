@@ -11,7 +11,8 @@ use crate::tweakable::truncated;
 use sha2::{Digest, Sha256, Sha512};
 use slh_params::{Node, ParamSet};
 
-/// The hash function of H, T_l, PRF_msg and H_msg: SHA-256 in category 1, SHA-512 in categories 3 and 5.
+/// The hash function of H, T_l and H_msg, and of HMAC in pieces: SHA-256 where n is 16, which is category 1, else
+/// SHA-512.
 #[derive(Drop)]
 pub(crate) enum CategoryHasher {
     Short(Sha256),

@@ -11,7 +11,7 @@ use crate::tweakable::truncated;
 use sha2::{Sha256, Sha512};
 use slh_params::{Node, ParamSet};
 
-/// PRF_msg (FIPS 205, section 11.2): the randomizer of a message, whose bytes are the parts put end to end.
+/// PRF_msg (FIPS 205, section 11.2): R of a message, whose bytes are the parts put end to end.
 #[tactic(auto, using(slh_params::proofs::Bounds::n_high), unfolding(crate::specs::Keyed::PRF_msg))]
 pub fn prf_msg(set: ParamSet, sk_prf: &[u8], opt_rand: &[u8], parts: &[&[u8]]) -> Node
     ensures value { result.items ≡ PRF_msg (params set) sk_prf.now opt_rand.now (joined parts.now) }
@@ -55,7 +55,7 @@ impl<'a> HMsg<'a> {
         self.inner.update(piece);
     }
 
-    /// Writes the digest of the pieces put end to end. `out` has m bytes.
+    /// Writes the digest of the pieces put end to end, where `out` has m bytes.
     pub fn finish(self, out: &mut [u8])
         requires { length out.old ≤ 2 ^ 32 }
         ensures { (p : Params) (r pk_seed pk_root msg : List ℕ) → HasMessage self.entry p r pk_seed pk_root msg

@@ -19,30 +19,30 @@ key_jobs c = 2 ^ c.xmss
 
 -- the tree, of SK.seed and PK.seed
 abbrev pub key_tree : Levels → List ℕ → List ℕ → MerkleTree
-key_tree c sk pk = xmss_tree (params_of c) sk pk ((params_of c).d - 1) 0
+key_tree c sk_seed pk_seed = xmss_tree (params_of c) sk_seed pk_seed ((params_of c).d - 1) 0
 
 -- the tag of the node that job n answers
 abbrev pub key_tag : Levels → List ℕ → List ℕ → List ℕ → ℕ → List ℕ → List ℕ
-key_tag c sk prf pk n node = tag (params_of c) sk prf pk (OfKeyAnswer c.xmss n node)
+key_tag c sk_seed sk_prf pk_seed n node = tag (params_of c) sk_seed sk_prf pk_seed (OfKeyAnswer c.xmss n node)
 
 -- the HMAC has the key of the tags, and of the text of an answer's tag what stands before the number
 abbrev pub HoldsKeyFront : CategoryHmac → Levels → List ℕ → List ℕ → List ℕ → Type 0
-HoldsKeyFront hmac c sk prf pk = IsKeyed hmac (params_of c) (prf ++ sk ++ pk) (head 3 (params_of c) ++ (c.xmss ∷ []))
+HoldsKeyFront hmac c sk_seed sk_prf pk_seed = IsKeyed hmac (params_of c) (sk_prf ++ sk_seed ++ pk_seed) (head 3 (params_of c) ++ (c.xmss ∷ []))
 
 -- the answer of job n
 abbrev pub key_answer : Levels → List ℕ → List ℕ → List ℕ → ℕ → List ℕ
-key_answer c sk prf pk n =
-    let x = node (key_tree c sk pk) (below (key_shape c)) n in
-    x ++ key_tag c sk prf pk n x
+key_answer c sk_seed sk_prf pk_seed n =
+    let x = node (key_tree c sk_seed pk_seed) (below (key_shape c)) n in
+    x ++ key_tag c sk_seed sk_prf pk_seed n x
 
 -- the bytes are the answers of all jobs, end to end
 abbrev pub AreKeyAnswers : Levels → List ℕ → List ℕ → List ℕ → List ℕ → Type 0
-AreKeyAnswers c sk prf pk bytes = (n : ℕ) → n < key_jobs c → given (key_shape c) bytes n ≡ key_answer c sk prf pk n
+AreKeyAnswers c sk_seed sk_prf pk_seed bytes = (n : ℕ) → n < key_jobs c → given (key_shape c) bytes n ≡ key_answer c sk_seed sk_prf pk_seed n
 
 -- the root that answers give, whatever bytes they are
 abbrev pub key_root : Levels → List ℕ → List ℕ → List ℕ → List ℕ
-key_root c sk pk bytes = root (upper_given (key_tree c sk pk) (key_shape c) bytes 0)
+key_root c sk_seed pk_seed bytes = root (upper_given (key_tree c sk_seed pk_seed) (key_shape c) bytes 0)
 
 -- each node has its tag
 abbrev pub AreTagged : Levels → List ℕ → List ℕ → List ℕ → List ℕ → Type 0
-AreTagged c sk prf pk bytes = (n : ℕ) → n < key_jobs c → key_tag c sk prf pk n (node_given (key_shape c) bytes n) ≡ tag_given (key_shape c) bytes n
+AreTagged c sk_seed sk_prf pk_seed bytes = (n : ℕ) → n < key_jobs c → key_tag c sk_seed sk_prf pk_seed n (node_given (key_shape c) bytes n) ≡ tag_given (key_shape c) bytes n

@@ -6,7 +6,7 @@ ghost use Rattle.slh_jobs.specs.declared.shape.TheConstants.{MOST_OWN_LEN};
 use crate::shape::Shape;
 use slh_params::{Node, node_of};
 
-/// Answers of one shape, put end to end.
+/// Answers of one shape, put end to end, and whatever bytes follow them.
 #[derive(Clone, Copy)]
 pub(crate) struct AnswerBytes<'a> {
     pub(crate) shape: Shape,

@@ -31,8 +31,8 @@ const MOST_FORS_SIG_LEN: usize = 64 * (1 + 14) * 32;
 /// At least the length of what the layers of any set sign: 65 nodes of 32 bytes.
 const MOST_SIGNED_LEN: usize = 65 * 32;
 
-/// Answers that fit together, with what each layer signs as it was compared, n bytes each. Where the bytes of the
-/// answers are another's to change, no layer signs anything else.
+/// Answers that fit together, with what each layer signs as it was compared, n bytes each. Even if somebody changes the
+/// bytes of the answers meanwhile, each layer signs what was compared.
 #[derive(Drop)]
 struct Judged<'j, 'a> {
     answered: &'j AllAnswers<'a>,

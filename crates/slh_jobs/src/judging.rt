@@ -76,8 +76,8 @@ impl<'a> AllAnswers<'a> {
         self.tags_fit(keyed, &self.fors, levels.fors_jobs(), levels.xmss_jobs())
     }
 
-    /// Writes what a FORS tree adds to the signature. The root that the tree's ranges give, where the secret and the
-    /// path give the same.
+    /// Writes what a FORS tree adds to the signature, and returns the root that the tree's ranges give; `None` where
+    /// the secret and the path give another.
     fn fors_root(&self, number: u32, part: &mut [u8]) -> Option<Node>
         requires tree { number < (params_in self.now).k }
         requires out { length part.old ≡ fors_part_len (params_in self.now) }
@@ -119,8 +119,8 @@ impl<'a> AllAnswers<'a> {
         self.fors_root(number, &mut out[start..end])
     }
 
-    /// Writes the FORS signature. The FORS public key, where in each tree the root that the ranges give is that of the
-    /// secret and the path.
+    /// Writes the FORS signature, and returns T over the roots that the ranges give; `None` where in some tree the
+    /// secret and the path give another root.
     pub(crate) fn judge_fors(&self, sig_fors: &mut [u8]) -> Option<Node>
         requires { length sig_fors.old
             ≡ (params_in self.now).k * fors_part_len (params_in self.now) }

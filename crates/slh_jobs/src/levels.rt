@@ -4,7 +4,7 @@ ghost use Rattle.slh_params.specs.ParamSet.{params};
 
 use slh_params::ParamSet;
 
-/// The most levels of a tree.
+/// The most levels by which a tree is cut.
 const MOST_LEVELS: u32 = 8;
 
 /// How the trees of a signature are cut into jobs: each XMSS tree into 2^xmss ranges of its leaves, and each FORS tree

@@ -8,7 +8,7 @@ ghost use Rattle.slh_jobs.specs.declared.shape.TheConstants.{MOST_ANSWER_LEN, MO
 const MOST_PATH_LEN: usize = 14 * 32;
 
 /// No answer has more beside a node and its tag. A key has at most 133 chains, of each of which at most 16 values of 32
-/// bytes are kept; a path has fewer bytes than one chain.
+/// bytes are kept; a path has fewer bytes than the kept values of one chain.
 pub(crate) const MOST_OWN_LEN: usize = (133 + 1) * 16 * 32;
 
 /// No answer is longer.

@@ -67,9 +67,9 @@ fn start_parts(parts: &[&[u8]], sk: &SecretKey, randomizer: Randomizer, start: &
 }
 
 /// Begins the signature of a message in a form, under a context (FIPS 205, Algorithms 22 and 23): writes R, the
-/// message's digest and their tag under this key, `start_len` bytes, which all jobs of this signature are given. They
-/// are no secrets: R is a part of the signature, the digest follows from it, and of the tag nothing else is known. But
-/// what they say is what is signed. Refused, with nothing written, where the context has over 255 bytes.
+/// digest of M' and their tag under this key, `start_len` bytes, which all jobs of this signature are given. They are
+/// no secrets: R is a part of the signature, the digest follows from it, and the tag is sent beside them. But what they
+/// say is what is signed. Refused, with nothing written, where the context has over 255 bytes.
 pub fn sign_start(
     form: Form,
     msg: &[u8],

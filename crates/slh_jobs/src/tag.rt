@@ -1,5 +1,5 @@
-//! Tags, by which a start or an answer is found that was made under another key, for another set, message or job, or
-//! changed since.
+//! Tags, by which a start or the node of an answer is found that was made under another key, for another set, message
+//! or job, or changed since.
 ghost use Rattle.std.specs.Prelude.{◌≡◌, ◌↔◌, ℕ, List, [], ◌∷◌, ◌++◌, ◌^◌, ◌<◌, IsTrue, length, take};
 ghost use Rattle.slh_params.specs.Bits.{to_byte};
 ghost use Rattle.slh_params.specs.Params.{Params};
@@ -25,7 +25,7 @@ const ANSWER: u8 = 2;
 
 const KEY_ANSWER: u8 = 3;
 
-/// The number of the encoding of starts and answers. Another version refuses them where theirs is another.
+/// The number of the encoding of starts and answers. A version whose number is another refuses them.
 const ENCODING: u8 = 1;
 
 /// A law: no two different things have one text, where their parts have the lengths that the kind and the record fix.
@@ -59,7 +59,7 @@ fn keyed_for(set: ParamSet, sk_seed: &[u8], sk_prf: &[u8], pk_seed: &[u8], kind:
     keyed
 }
 
-/// The tag of R and a digest.
+/// The tag of R and a digest, under a text that has PK.root, too.
 pub(crate) fn start_tag(sk: &SecretKey, begun: &[u8]) -> Node
     ensures value { result.items ≡ start_tag sk.now begun.now }
     ensures len { length result.items ≡ (params sk.now.set).n }

@@ -19,7 +19,7 @@ pub trait Answers {
     /// The parameter set.
     ghost set: { Self → ParamSet };
 
-    /// What they say.
+    /// What they say: of right answers, what is the trees' own.
     ghost says: { Self → TreeAnswers };
 
     /// Writes the secret value of the leaf of FORS tree `number` that the digest asks for, n bytes.
@@ -79,8 +79,8 @@ fn put_fors_part<A: Answers>(
     fors_part(answers, set, number, &mut out[start..end])
 }
 
-/// Writes the FORS signature (FIPS 205, Algorithm 16), and returns the FORS public key, T over the roots of the trees
-/// (Algorithm 17, lines 21 to 24).
+/// Writes the FORS signature that the answers make (FIPS 205, Algorithm 16), and returns T over the roots that they say
+/// (Algorithm 17, lines 21 to 24): of right answers, the FORS public key.
 pub fn put_fors<A: Answers>(trees: &SigningTrees, answers: &A, out: &mut [u8]) -> Node
     requires set { A.set answers.now ≡ trees.now.seeds.set }
     requires out { length out.old ≡ (params trees.now.seeds.set).k * fors_part_len (params trees.now.seeds.set) }
@@ -99,7 +99,8 @@ pub fn put_fors<A: Answers>(trees: &SigningTrees, answers: &A, out: &mut [u8]) -
 }
 
 /// Writes what a layer adds to the signature where its key signs `msg`: the WOTS+ signature, from what is kept of the
-/// key's chains, and the path of the key's leaf (FIPS 205, Algorithm 10). Returns the root of the layer's tree.
+/// key's chains, and the path of the key's leaf (FIPS 205, Algorithm 10). Returns the root
+/// that the answers say.
 pub fn layer_part<A: Answers>(
     trees: &SigningTrees,
     answers: &A,
@@ -145,8 +146,8 @@ fn put_layer_part<A: Answers>(
     layer_part(trees, answers, layer, msg, &mut out[start..end])
 }
 
-/// Writes the hypertree signature of `pk_fors`: each layer signs the root of the tree below it, layer 0 `pk_fors` (FIPS
-/// 205, Algorithm 12).
+/// Writes the hypertree signature of `pk_fors` that the answers make: each layer signs the root that they say of the
+/// tree below it, layer 0 `pk_fors` (FIPS 205, Algorithm 12).
 pub fn put_layers<A: Answers>(trees: &SigningTrees, answers: &A, pk_fors: &Node, out: &mut [u8])
     requires set { A.set answers.now ≡ trees.now.seeds.set }
     requires pk_fors { pk_fors.now.items ≡ signed_by (source_of trees.now) (A.says answers.now) 0 }

@@ -64,7 +64,7 @@ pub fn keygen_job(cutting: &Cutting, number: u32) -> JobRange
     cutting.job_in(JobTree::Xmss(top as u8), number)
 }
 
-/// The ranges of this many trees, each cut into as many.
+/// The ranges of this many trees, each of which is cut into `ranges`.
 pub fn ranges_of(trees: u32, ranges: u32) -> u32
     requires trees { trees ≤ 65 }
     requires ranges { ranges ≤ 256 }

@@ -50,7 +50,8 @@ fn context_of<A: Allocator>(alloc: A, words: FormWords<'_>) -> Result<Vec<u8, A>
     }
 }
 
-/// The pre-hash form with the function that the option names, or the pure form where it does not stand.
+/// The pre-hash form with the function that the option names, or the pure form where it does not stand. `None` where it
+/// names no function.
 #[tactic(auto, unfolding(crate::specs::Options::form_of))]
 fn form_of(words: FormWords<'_>) -> Option<Form>
     ensures { result ≡ form_of (form_asked words.entry).prehash }
@@ -65,7 +66,7 @@ fn form_of(words: FormWords<'_>) -> Option<Form>
 /// A randomizer of any set.
 pub(crate) type Random = ArrayVec<u8, 32>;
 
-/// The randomizer, where the option stands.
+/// The randomizer, `Some(None)` where the option does not stand. `None` where it spells no n bytes.
 #[tactic(auto, unfolding(crate::specs::Options::random_of))]
 pub(crate) fn random_of(set: ParamSet, words: SignWords<'_>) -> Option<Option<Random>>
     ensures value { option_map (λ random. option_map (λ bytes. bytes.items) random) result

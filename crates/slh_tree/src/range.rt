@@ -12,9 +12,9 @@ use crate::stack::Stack;
 use crate::tree::Tree;
 use slh_params::{Node, copy_of};
 
-/// The cover of the leaves from `lo` to `hi`, `hi` left out, which has at most two nodes of each height; the leaves
-/// below one node give that node alone. The record gains exactly those nodes of its path whose leaves all lie in the
-/// range.
+/// The cover of the leaves from `lo` to `hi`, `hi` left out, which has at most twice as many nodes as the tree has
+/// levels above the leaves; the leaves below one node give that node alone. The record gains exactly those nodes of its
+/// path whose leaves all lie in the range.
 pub fn hash_range<T: Tree>(tree: &T, lo: u32, hi: u32, rec: &mut PathRec) -> Cover
     requires order { lo < hi }
     requires within { hi ≤ 2 ^ (T.tree tree.now).height }
@@ -51,7 +51,7 @@ pub fn node<T: Tree>(tree: &T, z: u32, i: u32) -> Node
     ensures { result.items ≡ node (T.tree tree.now) z i }
 {
     let height = tree.height();
-    // The nodes of a path are wanted of no leaf.
+    // No path is wanted, but `hash_range` takes a record of one.
     let mut rec = PathRec::for_leaf(height, 0);
     let size = 1 << z;
     let first = i * size;
