@@ -86,13 +86,18 @@ def functions(crate, path):
 
 
 def edits(crate):
-    """For each edit of a crate the file and the line that it changes first."""
+    """For each edit of a crate the file and the line that it changes first. The file has that text once, and the crate
+    the function that the prover has to refuse."""
     for folder in ("must-fail", "wrong"):
         top = os.path.join(ROOT, "crates", crate, folder)
         for name in sorted(os.listdir(top)) if os.path.isdir(top) else ():
             text = read(crate, folder, name)
             path, old = re.search(r"^file: (.*)$", text, re.M)[1], re.search(r"^old: (.*)$", text, re.M)[1]
-            yield name.removesuffix(".edit"), path, read(crate, path).partition(old)[0].count("\n")
+            code, function = read(crate, path), re.search(r"^refused: .*?(\w+)$", text, re.M)[1]
+            all_code = "".join(read(crate, it) for it in sources(crate))
+            if code.count(old) != 1 or not re.search(rf"\bfn {function}\b", all_code):
+                sys.exit(f"tools/contracts.py: {name} of {crate}: {path} has not its text once, or no file {function}")
+            yield name.removesuffix(".edit"), path, code.partition(old)[0].count("\n")
 
 
 def quoted(names):

@@ -4,9 +4,8 @@ ghost use Rattle.slh_params.specs.ParamSet.{params};
 ghost use Rattle.slh_core.specs.Keys.{top_root, generated_key, IsGeneratedKey};
 
 use crate::secret_key::SecretKey;
-use slh_few::{Seeds, XmssTree};
+use slh_few::{Seeds, xmss_node};
 use slh_params::{Node, ParamSet};
-use slh_tree::root;
 
 /// The root of the one tree of the top layer.
 #[tactic(auto, using(slh_params::proofs::Bounds::layer_bounds), unfolding(crate::specs::Keys::top_root))]
@@ -15,7 +14,7 @@ fn top_root(seeds: &Seeds) -> Node
     ensures len { length result.items ≡ (params seeds.now.set).n }
 {
     let layer = seeds.set.d() - 1;
-    root(&XmssTree::new(seeds, layer as u8, 0))
+    xmss_node(seeds, layer as u8, 0, seeds.set.hp(), 0)
 }
 
 /// The secret key of three seeds of n bytes each (FIPS 205, Algorithm 18).

@@ -7,8 +7,10 @@ pub mod Xmss
 pub mod KeyStreams
 pub mod Hypertree
 pub mod Fors
+pub mod ForsHashes
 pub mod ForsRoots
 pub mod Trees
+pub mod SeededTrees
 pub mod Paths
 -- cited by public clauses
 pub use Rattle.slh_params.specs.Bits

@@ -2,7 +2,6 @@
 ghost use Rattle.std.specs.Prelude.{[], take, drop, ◌≡◌, ℕ, List, ◌+◌, ◌*◌, ◌^◌, ◌≤◌, ◌<◌, ◌++◌, length, slice_index};
 ghost use Rattle.slh_params.specs.Params.{md_len};
 ghost use Rattle.slh_params.specs.ParamSet.{params};
-ghost use Rattle.slh_hash.specs.Seeded.{IsSeeded};
 ghost use Rattle.slh_lanes.specs.TreeLanes.{IsSeededTreeLanes};
 ghost use Rattle.slh_tree.specs.Cover.{past_leaf};
 ghost use Rattle.slh_tree.specs.Tree.{node, root as root_of};
@@ -13,10 +12,9 @@ ghost use Rattle.slh_few.specs.declared.fors.TheConstants.{MOST_FORS_PART_LEN};
 
 use crate::fors_climb::absorb_in_lanes;
 use crate::fors_parts::{fors_indices, fors_roots};
-use crate::fors_tree::{ForsTree, SeededForsTree, fors_adrs, index_in_forest};
+use crate::fors_tree::{ForsHashes, SeededForsTree, fors_adrs, index_in_forest};
 use crate::place::{Public, Seeds};
-use slh_hash::{SeededHash, SeededTreeHash};
-use slh_lanes::{SeededLanes, SeededTreeLanes};
+use slh_lanes::SeededTreeLanes;
 use slh_params::{AdrsType, Node, ParamSet, node_of};
 use slh_tree::climb;
 
@@ -39,15 +37,14 @@ pub fn fors_node(seeds: &Seeds, idx_tree: u64, idx_leaf: u32, tree_no: u32, z: u
     requires tree { tree_no < (params seeds.now.set).k }
     requires height { z ≤ (params seeds.now.set).a }
     requires within { past_leaf z i ≤ 2 ^ (params seeds.now.set).a }
-    ensures { let p = params seeds.now.set in let sk_seed = seeds.now.sk_seed.now in
+    ensures value { let p = params seeds.now.set in let sk_seed = seeds.now.sk_seed.now in
         let pk_seed = seeds.now.pk_seed.now in
         result.items ≡ node (fors_tree p sk_seed pk_seed idx_tree idx_leaf tree_no) z i }
+    ensures len { length result.items ≡ (params seeds.now.set).n }
 {
-    let seeded = SeededHash::new(seeds.set, seeds.pk_seed);
-    let lanes = SeededLanes::new(seeds.set, seeds.pk_seed);
-    let joins = SeededTreeHash::new(seeds.set, seeds.pk_seed);
-    let tree = SeededForsTree::new(&seeded, &lanes, &joins, seeds, idx_tree, idx_leaf, tree_no);
-    tree.node(&SeededTreeLanes::new(&lanes), z, i)
+    let hashes = ForsHashes::new(seeds.set, seeds.pk_seed);
+    let tree = SeededForsTree::at(&hashes, seeds, idx_tree, idx_leaf, tree_no);
+    tree.node(&SeededTreeLanes::new(hashes.lanes()), z, i)
 }
 
 /// Writes the secret of leaf `i`, then the leaf's path.
@@ -59,13 +56,12 @@ fn sign_tree(seeded_tree: &SeededForsTree, lanes: &SeededTreeLanes, i: u32, out:
     requires out { length out.old ≡ fors_part_len (params seeded_tree.now.tree.seeds.set) }
     ensures { let t = seeded_tree.now.tree in let p = params t.seeds.set in
         let sk_seed = t.seeds.sk_seed.now in let pk_seed = t.seeds.pk_seed.now in
-        IsSeeded seeded_tree.now.seeded.now p pk_seed → out.new
-        ≡ fors_secret p sk_seed pk_seed t.idx_tree t.idx_leaf (t.tree_no * 2 ^ p.a + i)
+        out.new ≡ fors_secret p sk_seed pk_seed t.idx_tree t.idx_leaf (t.tree_no * 2 ^ p.a + i)
         ++ path_of (fors_tree p sk_seed pk_seed t.idx_tree t.idx_leaf t.tree_no) i }
 {
     let tree = &seeded_tree.tree;
     let (secret, auth) = out.split_at_mut(tree.seeds.set.n());
-    secret.copy_from_slice(&tree.secret(seeded_tree.seeded, i));
+    secret.copy_from_slice(&tree.secret(&seeded_tree.hashes.seeded, i));
     seeded_tree.put_path(lanes, i, auth);
 }
 
@@ -84,8 +80,7 @@ fn put_tree(
     requires out { start + fors_part_len (params seeded_tree.now.tree.seeds.set) ≤ length out.old }
     ensures { let t = seeded_tree.now.tree in let p = params t.seeds.set in
         let sk_seed = t.seeds.sk_seed.now in let pk_seed = t.seeds.pk_seed.now in
-        IsSeeded seeded_tree.now.seeded.now p pk_seed → take (start + fors_part_len p) out.new
-        ≡ take start out.old ++
+        take (start + fors_part_len p) out.new ≡ take start out.old ++
         (fors_secret p sk_seed pk_seed t.idx_tree t.idx_leaf (t.tree_no * 2 ^ p.a + i)
         ++ path_of (fors_tree p sk_seed pk_seed t.idx_tree t.idx_leaf t.tree_no) i) }
 {
@@ -111,12 +106,10 @@ pub fn fors_sign(seeds: &Seeds, idx_tree: u64, idx_leaf: u32, md: &[u8], out: &m
 {
     let indices = fors_indices(seeds.set, md);
     let size = fors_part_len(seeds.set);
-    let seeded = SeededHash::new(seeds.set, seeds.pk_seed);
-    let lanes = SeededLanes::new(seeds.set, seeds.pk_seed);
-    let joins = SeededTreeHash::new(seeds.set, seeds.pk_seed);
-    let join_lanes = SeededTreeLanes::new(&lanes);
+    let hashes = ForsHashes::new(seeds.set, seeds.pk_seed);
+    let join_lanes = SeededTreeLanes::new(hashes.lanes());
     for j in 0..seeds.set.k() {
-        let tree = SeededForsTree::new(&seeded, &lanes, &joins, seeds, idx_tree, idx_leaf, j);
+        let tree = SeededForsTree::at(&hashes, seeds, idx_tree, idx_leaf, j);
         put_tree(
             &tree,
             &join_lanes,
@@ -132,8 +125,6 @@ pub fn fors_sign(seeds: &Seeds, idx_tree: u64, idx_leaf: u32, md: &[u8], out: &m
 fn root_from(seeded_tree: &SeededForsTree, i: u32, sig: &[u8]) -> Node
     requires leaf { i < 2 ^ (params seeded_tree.now.tree.seeds.set).a }
     requires sig { length sig.now ≡ fors_part_len (params seeded_tree.now.tree.seeds.set) }
-    requires state { IsSeeded seeded_tree.now.seeded.now
-        (params seeded_tree.now.tree.seeds.set) seeded_tree.now.tree.seeds.pk_seed.now }
     ensures value { let t = seeded_tree.now.tree in let p = params t.seeds.set in
         let sk_seed = t.seeds.sk_seed.now in let pk_seed = t.seeds.pk_seed.now in
         result.items ≡ climb_of (fors_tree p sk_seed pk_seed t.idx_tree t.idx_leaf t.tree_no) i
@@ -145,7 +136,7 @@ fn root_from(seeded_tree: &SeededForsTree, i: u32, sig: &[u8]) -> Node
     let (secret, auth) = sig.split_at(tree.seeds.set.n());
     let index = index_in_forest(tree.tree_no, tree.seeds.set.a(), i);
     let adrs = fors_adrs(tree.idx_tree, tree.idx_leaf, AdrsType::ForsTree, 0, index);
-    let leaf = seeded_tree.seeded.f(&adrs, &node_of(secret));
+    let leaf = seeded_tree.hashes.seeded.f(&adrs, &node_of(secret));
     climb(seeded_tree, i, &leaf, auth)
 }
 
@@ -154,8 +145,6 @@ fn root_at(seeded_tree: &SeededForsTree, i: u32, sig: &[u8]) -> Node
     requires leaf { i < 2 ^ (params seeded_tree.now.tree.seeds.set).a }
     requires sig { let t = seeded_tree.now.tree in let p = params t.seeds.set in
         t.tree_no * fors_part_len p + fors_part_len p ≤ length sig.now }
-    requires state { IsSeeded seeded_tree.now.seeded.now
-        (params seeded_tree.now.tree.seeds.set) seeded_tree.now.tree.seeds.pk_seed.now }
     ensures { let t = seeded_tree.now.tree in let p = params t.seeds.set in
         let sk_seed = t.seeds.sk_seed.now in let pk_seed = t.seeds.pk_seed.now in
         let own = part (fors_part_len p) sig.now t.tree_no in
@@ -190,10 +179,8 @@ pub fn fors_root_from_sig(
         sk_seed: &[],
         pk_seed: public.pk_seed,
     };
-    let seeded = SeededHash::new(public.set, public.pk_seed);
-    let lanes = SeededLanes::new(public.set, public.pk_seed);
-    let joins = SeededTreeHash::new(public.set, public.pk_seed);
-    let tree = SeededForsTree::new(&seeded, &lanes, &joins, &seeds, idx_tree, idx_leaf, tree_no);
+    let hashes = ForsHashes::new(public.set, public.pk_seed);
+    let tree = SeededForsTree::at(&hashes, &seeds, idx_tree, idx_leaf, tree_no);
     root_from(&tree, index, sig)
 }
 
@@ -219,15 +206,19 @@ pub fn fors_pk_from_sig(
         sk_seed: &[],
         pk_seed: public.pk_seed,
     };
-    let seeded = SeededHash::new(public.set, public.pk_seed);
-    let lanes = SeededLanes::new(public.set, public.pk_seed);
-    let joins = SeededTreeHash::new(public.set, public.pk_seed);
+    let hashes = ForsHashes::new(public.set, public.pk_seed);
     let mut roots = fors_roots(public, idx_tree, idx_leaf);
     let done = absorb_in_lanes(
-        &mut roots, &lanes, &seeds, idx_tree, idx_leaf, &indices, sig,
+        &mut roots,
+        hashes.lanes(),
+        &seeds,
+        idx_tree,
+        idx_leaf,
+        &indices,
+        sig,
     );
     for j in done..public.set.k() {
-        let tree = SeededForsTree::new(&seeded, &lanes, &joins, &seeds, idx_tree, idx_leaf, j);
+        let tree = SeededForsTree::at(&hashes, &seeds, idx_tree, idx_leaf, j);
         roots.absorb(&root_at(&tree, indices[j as usize], sig));
     }
     roots.finish()

@@ -2,12 +2,14 @@
 ghost use Rattle.std.specs.Prelude.{◌≡◌, ℕ, List, ◌+◌, ◌-◌, ◌*◌, ◌^◌, ◌≤◌, ◌<◌, length};
 ghost use Rattle.slh_params.specs.Address.{address};
 ghost use Rattle.slh_params.specs.AdrsType.{type_number};
+ghost use Rattle.slh_params.specs.Params.{Params};
 ghost use Rattle.slh_params.specs.ParamSet.{params};
 ghost use Rattle.slh_hash.specs.Seeded.{IsSeeded};
 ghost use Rattle.slh_hash.specs.Stream.{IsSeededTree};
 ghost use Rattle.slh_lanes.specs.Lanes.{HasAddress, IsSeededLanes, value_at};
 ghost use Rattle.slh_tree.specs.Leaves.{AreLeavesFrom};
 ghost use Rattle.slh_few.specs.Fors.{fors_tree, fors_leaf, fors_secret};
+ghost use Rattle.slh_few.specs.ForsHashes.{AreSeeded};
 ghost use Rattle.slh_few.specs.declared.fors_parts.TheConstants.{MOST_TREES};
 
 use crate::fors_parts::MOST_TREES;
@@ -15,7 +17,7 @@ use crate::nodes::first_nodes;
 use crate::place::Seeds;
 use slh_hash::{SeededHash, SeededTreeHash};
 use slh_lanes::{LaneAdrs, LaneNodes, SeededLanes, adrs_lanes, consecutive, set_hashes};
-use slh_params::{Adrs, AdrsType, Node};
+use slh_params::{Adrs, AdrsType, Node, ParamSet};
 use slh_tree::{Leaves, Tree};
 
 /// One of the k FORS trees of a key pair.
@@ -207,52 +209,100 @@ impl<'a> Tree for ForsTree<'a> {
     }
 }
 
-/// A FORS tree with the hash states that one call makes for the leaves and the nodes of all its trees.
+/// The hash states of PK.seed that a call makes for all its FORS trees: for leaves one at a time, for leaves eight at a
+/// time, and for the nodes above them. Contracts see them by the relation `AreSeeded`.
 #[derive(Drop)]
-pub(crate) struct SeededForsTree<'s, 'h> {
+pub struct ForsHashes<'a> {
+    pub(crate) seeded: SeededHash,
+    lanes: SeededLanes<'a>,
+    joins: SeededTreeHash,
+}
+
+impl<'a> ForsHashes<'a> {
+    /// The states under this PK.seed of n bytes.
+    #[tactic(auto, unfolding(crate::specs::ForsHashes::AreSeeded))]
+    pub fn new(set: ParamSet, pk_seed: &'a [u8]) -> Self
+        ensures { AreSeeded result (params set) pk_seed.now }
+    {
+        ForsHashes {
+            seeded: SeededHash::new(set, pk_seed),
+            lanes: SeededLanes::new(set, pk_seed),
+            joins: SeededTreeHash::new(set, pk_seed),
+        }
+    }
+
+    /// The state for leaves eight at a time.
+    #[tactic(auto, unfolding(crate::specs::ForsHashes::AreSeeded))]
+    pub(crate) fn lanes(&self) -> &SeededLanes<'a>
+        ensures { (p : Params) (pk_seed : List ℕ) → AreSeeded self.now p pk_seed → IsSeededLanes result.now p pk_seed }
+    {
+        &self.lanes
+    }
+
+    /// The state for the nodes above the leaves.
+    #[tactic(auto, unfolding(crate::specs::ForsHashes::AreSeeded))]
+    pub fn joins(&self) -> &SeededTreeHash
+        ensures { (p : Params) (pk_seed : List ℕ) → AreSeeded self.now p pk_seed → IsSeededTree result.now p pk_seed }
+    {
+        &self.joins
+    }
+}
+
+/// A FORS tree with the hash states that one call makes for all its trees.
+#[derive(Drop)]
+pub struct SeededForsTree<'s, 'h> {
     pub(crate) tree: ForsTree<'s>,
-    pub(crate) seeded: &'h SeededHash,
-    pub(crate) lanes: &'h SeededLanes<'s>,
-    pub(crate) joins: &'h SeededTreeHash,
-    ghost state: { ∥ IsSeeded seeded.now (params tree.seeds.set) tree.seeds.pk_seed.now ∥₁ },
-    ghost lane_state: { ∥ IsSeededLanes lanes.now (params tree.seeds.set) tree.seeds.pk_seed.now ∥₁ },
-    ghost join_state: { ∥ IsSeededTree joins.now (params tree.seeds.set) tree.seeds.pk_seed.now ∥₁ },
+    pub(crate) hashes: &'h ForsHashes<'s>,
+    ghost state: { ∥ AreSeeded hashes.now (params tree.seeds.set) tree.seeds.pk_seed.now ∥₁ },
 }
 
 impl<'s, 'h> SeededForsTree<'s, 'h> {
-    pub(crate) fn new(
-        seeded: &'h SeededHash,
-        lanes: &'h SeededLanes<'s>,
-        joins: &'h SeededTreeHash,
+    ghost use Rattle.slh_few.specs.SeededTrees.{seeded_fors_tree_of};
+    ghost use Rattle.slh_few.specs.Trees.{fors_tree_of};
+
+    /// Tree `tree_no` of the FORS key at leaf `idx_leaf` of tree `idx_tree`: of height a, with nodes of n bytes.
+    #[tactic(auto, unfolding(crate::specs::Trees::fors_tree_of))]
+    pub fn new(
+        hashes: &'h ForsHashes<'s>,
         seeds: &Seeds<'s>,
         idx_tree: u64,
         idx_leaf: u32,
         tree_no: u32,
     ) -> Self
         requires number { tree_no < (params seeds.now.set).k }
-        requires state { IsSeeded seeded.now (params seeds.now.set) seeds.now.pk_seed.now }
-        requires lane_state { IsSeededLanes lanes.now (params seeds.now.set) seeds.now.pk_seed.now }
-        requires join_state { IsSeededTree joins.now (params seeds.now.set) seeds.now.pk_seed.now }
+        requires state { ∥ AreSeeded hashes.now (params seeds.now.set) seeds.now.pk_seed.now ∥₁ }
+        ensures { let p = params seeds.now.set in let sk_seed = seeds.now.sk_seed.now in
+            let pk_seed = seeds.now.pk_seed.now in
+            seeded_fors_tree_of result ≡ fors_tree p sk_seed pk_seed idx_tree idx_leaf tree_no }
+    {
+        Self::at(hashes, seeds, idx_tree, idx_leaf, tree_no)
+    }
+
+    /// Tree `tree_no` of the FORS key at leaf `idx_leaf` of tree `idx_tree`, by its fields.
+    pub(crate) fn at(
+        hashes: &'h ForsHashes<'s>,
+        seeds: &Seeds<'s>,
+        idx_tree: u64,
+        idx_leaf: u32,
+        tree_no: u32,
+    ) -> Self
+        requires number { tree_no < (params seeds.now.set).k }
+        requires state { ∥ AreSeeded hashes.now (params seeds.now.set) seeds.now.pk_seed.now ∥₁ }
         ensures seeds { result.tree.seeds ≡ seeds.now }
         ensures idx_tree { result.tree.idx_tree ≡ idx_tree }
         ensures idx_leaf { result.tree.idx_leaf ≡ idx_leaf }
         ensures tree_no { result.tree.tree_no ≡ tree_no }
-        ensures state { IsSeeded result.seeded.now (params seeds.now.set) seeds.now.pk_seed.now }
     {
         let tree = ForsTree::at(seeds, idx_tree, idx_leaf, tree_no);
-        SeededForsTree {
-            tree,
-            seeded,
-            lanes,
-            joins,
-        }
+        SeededForsTree { tree, hashes }
     }
 }
 
 impl<'s, 'h> Tree for SeededForsTree<'s, 'h> {
+    ghost use Rattle.slh_few.specs.SeededTrees.{seeded_fors_tree_of};
     ghost use Rattle.slh_few.specs.Trees.{fors_tree_of, fors-lawful};
 
-    ghost tree = { λ t. fors_tree_of t.tree };
+    ghost tree = { seeded_fors_tree_of };
 
     ghost lawful = { λ t. fors-lawful t.tree };
 
@@ -263,16 +313,16 @@ impl<'s, 'h> Tree for SeededForsTree<'s, 'h> {
 
     #[tactic(auto, unfolding(crate::specs::Trees::fors_tree_of))]
     fn leaf(&self, i: u32) -> Node {
-        self.tree.leaf_from(self.seeded, i)
+        self.tree.leaf_from(&self.hashes.seeded, i)
     }
 
     #[tactic(auto, unfolding(crate::specs::Trees::fors_tree_of))]
     fn leaves(&self, first: u32, count: u32) -> Leaves {
-        self.tree.leaves_from(self.lanes, first, count)
+        self.tree.leaves_from(&self.hashes.lanes, first, count)
     }
 
     #[tactic(auto, unfolding(crate::specs::Trees::fors_tree_of))]
     fn join(&self, z: u32, i: u32, l: &Node, r: &Node) -> Node {
-        self.tree.join_from(self.joins, z, i, l, r)
+        self.tree.join_from(&self.hashes.joins, z, i, l, r)
     }
 }

@@ -11,6 +11,7 @@ ghost use Rattle.slh_few.specs.declared.hypertree.TheConstants.{MOST_XMSS_SIG_LE
 
 use crate::place::{Place, Public, Seeds};
 use crate::xmss::{SeededXmssTree, sign_tree, xmss_pk_from_sig, xmss_sign};
+use slh_hash::SeededTreeHash;
 use slh_params::{Node, ParamSet, copy_of};
 use slh_tree::climb;
 
@@ -113,7 +114,8 @@ fn sign_layer(seeds: &Seeds, at: Place, msg: &Node, out: &mut [u8], start: usize
     let sig = &mut out[start..end];
     let leaf = sign_tree(seeds, at, msg, sig);
     let (_wots, auth) = sig.split_at(seeds.set.len() * seeds.set.n());
-    let tree = SeededXmssTree::new(seeds, at.layer, at.tree);
+    let joins = SeededTreeHash::new(seeds.set, seeds.pk_seed);
+    let tree = SeededXmssTree::new(&joins, seeds, at.layer, at.tree);
     climb(&tree, at.pair, &leaf, auth)
 }
 

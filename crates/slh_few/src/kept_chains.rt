@@ -12,7 +12,7 @@ ghost use Rattle.slh_few.specs.declared.kept_chains.TheConstants.{MOST_KEPT_CHAI
 use crate::chain_lanes::{put_lanes, run_lanes, secret_lanes};
 use crate::nodes::{node_at, part_at, put_part};
 use crate::place::{Place, Public, Seeds};
-use crate::wots::{MOST_VALUES, compressed_ends, run_chain, wots_sig_len};
+use crate::wots::{MOST_WOTS_SIG_LEN, compressed_ends, run_chain, wots_sig_len};
 use crate::wots_digits::digits_of;
 use slh_hash::SeededHash;
 use slh_lanes::{LaneNodes, SeededLanes, Words, consecutive, lane_node};
@@ -155,7 +155,7 @@ pub fn wots_pk_keeping(seeds: &Seeds, at: Place, kept: &mut [u8]) -> Node
         kept.new ≡ kept_chains p sk_seed pk_seed at }
 {
     let lanes = SeededLanes::new(seeds.set, seeds.pk_seed);
-    let mut buffer = [0; MOST_VALUES];
+    let mut buffer = [0; MOST_WOTS_SIG_LEN];
     let ends = &mut buffer[..wots_sig_len(seeds.set)];
     let n = seeds.set.n();
     let count = seeds.set.len();

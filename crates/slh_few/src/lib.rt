@@ -25,7 +25,7 @@ mod xmss;
 
 pub use fors::{fors_node, fors_part_len, fors_pk_from_sig, fors_root_from_sig, fors_sign};
 pub use fors_parts::{MOST_TREES, fors_indices, fors_roots, fors_secret};
-pub use fors_tree::ForsTree;
+pub use fors_tree::{ForsHashes, ForsTree, SeededForsTree};
 pub use hypertree::{
     MOST_LAYERS, MOST_XMSS_SIG_LEN, ht_sign, ht_verify, layer_place, layer_places, xmss_sig_len,
 };
@@ -35,4 +35,4 @@ pub use place::{Place, Public, Seeds};
 pub use ranges::{fors_range, xmss_range, xmss_range_keeping};
 pub use wots::{chain, wots_pk, wots_pk_from_sig, wots_sig_len, wots_sign};
 pub use wots_digits::digits;
-pub use xmss::{XmssTree, xmss_node, xmss_pk_from_sig, xmss_sign};
+pub use xmss::{SeededXmssTree, XmssTree, xmss_node, xmss_pk_from_sig, xmss_sign};

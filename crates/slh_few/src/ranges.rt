@@ -4,19 +4,20 @@ ghost use Rattle.slh_params.specs.ParamSet.{params};
 ghost use Rattle.slh_tree.specs.declared.cover.Placed.{Placed};
 ghost use Rattle.slh_tree.specs.Cover.{IsCover, first_leaf, past_leaf};
 ghost use Rattle.slh_tree.specs.Record.{Gains, LiesInRange};
+ghost use Rattle.slh_hash.specs.Stream.{IsSeededTree};
 ghost use Rattle.slh_few.specs.Trees.{xmss_tree_of};
 ghost use Rattle.slh_few.specs.KeptChains.{kept_chains_len, kept_chains};
 ghost use Rattle.slh_few.specs.Xmss.{xmss_tree};
 ghost use Rattle.slh_few.specs.Fors.{fors_tree};
 
 use crate::fors_blocks::block_height;
-use crate::fors_tree::SeededForsTree;
+use crate::fors_tree::{ForsHashes, SeededForsTree};
 use crate::kept_chains::wots_pk_keeping;
 use crate::key_lanes::{eight_pks_keeping, first_of_eight};
 use crate::place::{Place, Seeds};
 use crate::xmss::{KnownLeavesTree, SeededXmssTree};
-use slh_hash::{SeededHash, SeededTreeHash};
-use slh_lanes::{SeededLanes, SeededTreeLanes};
+use slh_hash::SeededTreeHash;
+use slh_lanes::SeededTreeLanes;
 use slh_tree::{Cover, Leaves, PathRec, hash_range};
 
 /// The cover of the leaves from `lo` to `hi`, `hi` left out, of tree `tree` of layer `layer`. The record, of a leaf of
@@ -37,7 +38,9 @@ pub fn xmss_range(seeds: &Seeds, layer: u8, tree: u64, lo: u32, hi: u32, rec: &m
         let pk_seed = seeds.now.pk_seed.now in
         Gains (xmss_tree p sk_seed pk_seed layer tree) (LiesInRange lo hi rec.old.leaf) rec.old rec.new }
 {
-    hash_range(&SeededXmssTree::new(seeds, layer, tree), lo, hi, rec)
+    let joins = SeededTreeHash::new(seeds.set, seeds.pk_seed);
+    let tree = SeededXmssTree::new(&joins, seeds, layer, tree);
+    hash_range(&tree, lo, hi, rec)
 }
 
 /// Whether all eight leaves below the same node of height 3 as the leaf at this place lie in the range. A tree of fewer
@@ -49,14 +52,16 @@ fn has_eight_in_range(at: Place, lo: u32, hi: u32) -> bool {
 
 /// The tree over a place, with the leaf at the place made here. What `wots_pk_keeping` keeps of that leaf's key is
 /// written into `kept`. Where `has_eight_in_range`, all eight leaves are made, at once.
-fn tree_keeping<'a>(
+fn tree_keeping<'a, 'h>(
+    joins: &'h SeededTreeHash,
     seeds: &Seeds<'a>,
     at: Place,
     lo: u32,
     hi: u32,
     kept: &mut [u8],
-) -> KnownLeavesTree<'a>
-    requires { length kept.old ≡ kept_chains_len (params seeds.now.set) }
+) -> KnownLeavesTree<'a, 'h>
+    requires joins { ∥ IsSeededTree joins.now (params seeds.now.set) seeds.now.pk_seed.now ∥₁ }
+    requires kept { length kept.old ≡ kept_chains_len (params seeds.now.set) }
     ensures tree { let p = params seeds.now.set in let sk_seed = seeds.now.sk_seed.now in
         let pk_seed = seeds.now.pk_seed.now in
         xmss_tree_of result.tree.tree ≡ xmss_tree p sk_seed pk_seed at.layer at.tree }
@@ -66,11 +71,11 @@ fn tree_keeping<'a>(
 {
     if has_eight_in_range(at, lo, hi) {
         let group = eight_pks_keeping(seeds, at, kept);
-        return KnownLeavesTree::new(seeds, first_of_eight(at), group);
+        return KnownLeavesTree::new(joins, seeds, first_of_eight(at), group);
     }
     let mut known = Leaves::new();
     known.push(wots_pk_keeping(seeds, at, kept));
-    KnownLeavesTree::new(seeds, at, known)
+    KnownLeavesTree::new(joins, seeds, at, known)
 }
 
 /// What `xmss_range` gives, of the tree over a place. Into `kept` it writes `kept_chains_len` bytes: what
@@ -102,7 +107,9 @@ pub fn xmss_range_keeping(
         let pk_seed = seeds.now.pk_seed.now in
         kept.new ≡ kept_chains p sk_seed pk_seed at }
 {
-    hash_range(&tree_keeping(seeds, at, lo, hi, kept), lo, hi, rec)
+    let joins = SeededTreeHash::new(seeds.set, seeds.pk_seed);
+    let tree = tree_keeping(&joins, seeds, at, lo, hi, kept);
+    hash_range(&tree, lo, hi, rec)
 }
 
 /// The cover of the leaves from `lo` to `hi`, `hi` left out, of FORS tree `tree_no` of the key at leaf `idx_leaf` of
@@ -133,12 +140,10 @@ pub fn fors_range(
         let pk_seed = seeds.now.pk_seed.now in
         Gains (fors_tree p sk_seed pk_seed idx_tree idx_leaf tree_no) (LiesInRange lo hi rec.old.leaf) rec.old rec.new }
 {
-    let seeded = SeededHash::new(seeds.set, seeds.pk_seed);
-    let lanes = SeededLanes::new(seeds.set, seeds.pk_seed);
-    let joins = SeededTreeHash::new(seeds.set, seeds.pk_seed);
-    let tree = SeededForsTree::new(&seeded, &lanes, &joins, seeds, idx_tree, idx_leaf, tree_no);
+    let hashes = ForsHashes::new(seeds.set, seeds.pk_seed);
+    let tree = SeededForsTree::at(&hashes, seeds, idx_tree, idx_leaf, tree_no);
     if let Some(z) = block_height(lo, hi) {
-        return tree.hash_block(&SeededTreeLanes::new(&lanes), z, lo, hi, rec);
+        return tree.hash_block(&SeededTreeLanes::new(hashes.lanes()), z, lo, hi, rec);
     }
     hash_range(&tree, lo, hi, rec)
 }

@@ -74,8 +74,8 @@ pub fn chain(public: &Public, at: Place, chain_no: u32, x: &Node, from: u32, ste
     run_chain(&seeded, at, chain_no, copy_of(x), from, steps)
 }
 
-/// The most bytes that a value of each chain of a key takes: at most 133 chains, of 32 bytes each.
-pub(crate) const MOST_VALUES: usize = 4256;
+/// At least the length of a signature in any set, and so of a value of each chain of a key: 133 values of 32 bytes.
+pub(crate) const MOST_WOTS_SIG_LEN: usize = 133 * 32;
 
 /// T over the ends of all chains: the public key, n bytes (Algorithm 6, lines 10 to 13).
 pub(crate) fn compressed_ends(public: &Public, at: Place, ends: &[u8]) -> Node
@@ -100,7 +100,7 @@ pub fn wots_pk(seeds: &Seeds, at: Place) -> Node
         result.items ≡ wots_pk p sk_seed pk_seed at }
     ensures len { length result.items ≡ (params seeds.now.set).n }
 {
-    let mut buffer = [0; MOST_VALUES];
+    let mut buffer = [0; MOST_WOTS_SIG_LEN];
     let ends = &mut buffer[..wots_sig_len(seeds.set)];
     let last = [seeds.set.w() - 1; MOST_DIGITS];
     run_secrets(seeds, at, &last, ends);
@@ -110,9 +110,6 @@ pub fn wots_pk(seeds: &Seeds, at: Place) -> Node
     };
     compressed_ends(&public, at, ends)
 }
-
-/// At least the length of a signature in any set: 133 values of 32 bytes.
-const MOST_WOTS_SIG_LEN: usize = 133 * 32;
 
 /// The length of a signature: len * n bytes.
 pub fn wots_sig_len(set: ParamSet) -> usize
@@ -164,7 +161,7 @@ pub fn wots_pk_from_sig(public: &Public, at: Place, msg: &Node, sig: &[u8]) -> N
 {
     let digits = digits_of(public.set, msg);
     let left = steps_left(public.set, &digits);
-    let mut buffer = [0; MOST_VALUES];
+    let mut buffer = [0; MOST_WOTS_SIG_LEN];
     let ends = &mut buffer[..wots_sig_len(public.set)];
     run_values(public, at, sig, &digits, &left, ends);
     compressed_ends(public, at, ends)

@@ -112,34 +112,35 @@ impl<'a> Tree for XmssTree<'a> {
     }
 }
 
-/// An XMSS tree with the hash state that one call makes for all its nodes above the leaves.
+/// An XMSS tree with the hash state of PK.seed that a call makes for the nodes above the leaves of all its trees.
 #[derive(Drop)]
-pub(crate) struct SeededXmssTree<'a> {
+pub struct SeededXmssTree<'a, 'h> {
     tree: XmssTree<'a>,
-    joins: SeededTreeHash,
-    ghost join_state: { ∥ IsSeededTree joins (params tree.seeds.set) tree.seeds.pk_seed.now ∥₁ },
+    joins: &'h SeededTreeHash,
+    ghost join_state: { ∥ IsSeededTree joins.now (params tree.seeds.set) tree.seeds.pk_seed.now ∥₁ },
 }
 
-impl<'a> SeededXmssTree<'a> {
-    ghost use Rattle.slh_few.specs.Trees.{xmss_tree_of};
+impl<'a, 'h> SeededXmssTree<'a, 'h> {
+    ghost use Rattle.slh_few.specs.SeededTrees.{seeded_xmss_tree_of};
 
-    /// Tree `tree` of layer `layer`.
+    /// Tree `tree` of layer `layer`: of height h', with nodes of n bytes.
     #[tactic(auto, unfolding(crate::specs::Trees::xmss_tree_of))]
-    pub(crate) fn new(seeds: &Seeds<'a>, layer: u8, tree: u64) -> Self
+    pub fn new(joins: &'h SeededTreeHash, seeds: &Seeds<'a>, layer: u8, tree: u64) -> Self
+        requires { ∥ IsSeededTree joins.now (params seeds.now.set) seeds.now.pk_seed.now ∥₁ }
         ensures { let p = params seeds.now.set in let sk_seed = seeds.now.sk_seed.now in
             let pk_seed = seeds.now.pk_seed.now in
-            xmss_tree_of result.tree ≡ xmss_tree p sk_seed pk_seed layer tree }
+            seeded_xmss_tree_of result ≡ xmss_tree p sk_seed pk_seed layer tree }
     {
-        let joins = SeededTreeHash::new(seeds.set, seeds.pk_seed);
         let tree = XmssTree::at(seeds, layer, tree);
         SeededXmssTree { tree, joins }
     }
 }
 
-impl<'a> Tree for SeededXmssTree<'a> {
+impl<'a, 'h> Tree for SeededXmssTree<'a, 'h> {
+    ghost use Rattle.slh_few.specs.SeededTrees.{seeded_xmss_tree_of};
     ghost use Rattle.slh_few.specs.Trees.{xmss_tree_of, xmss-lawful};
 
-    ghost tree = { λ t. xmss_tree_of t.tree };
+    ghost tree = { seeded_xmss_tree_of };
 
     ghost lawful = { λ t. xmss-lawful t.tree };
 
@@ -160,7 +161,7 @@ impl<'a> Tree for SeededXmssTree<'a> {
 
     #[tactic(auto, unfolding(crate::specs::Trees::xmss_tree_of))]
     fn join(&self, z: u32, i: u32, l: &Node, r: &Node) -> Node {
-        self.tree.join_from(&self.joins, z, i, l, r)
+        self.tree.join_from(self.joins, z, i, l, r)
     }
 }
 
@@ -170,32 +171,40 @@ impl<'a> Tree for SeededXmssTree<'a> {
 pub fn xmss_node(seeds: &Seeds, layer: u8, tree: u64, z: u32, i: u32) -> Node
     requires height { z ≤ (params seeds.now.set).hp }
     requires within { past_leaf z i ≤ 2 ^ (params seeds.now.set).hp }
-    ensures { let p = params seeds.now.set in let sk_seed = seeds.now.sk_seed.now in
+    ensures value { let p = params seeds.now.set in let sk_seed = seeds.now.sk_seed.now in
         let pk_seed = seeds.now.pk_seed.now in
         result.items ≡ node (xmss_tree p sk_seed pk_seed layer tree) z i }
+    ensures len { length result.items ≡ (params seeds.now.set).n }
 {
-    node(&SeededXmssTree::new(seeds, layer, tree), z, i)
+    let joins = SeededTreeHash::new(seeds.set, seeds.pk_seed);
+    node(&SeededXmssTree::new(&joins, seeds, layer, tree), z, i)
 }
 
 /// An XMSS tree of which some leaves, one after another, were made before.
 #[derive(Drop)]
-pub(crate) struct KnownLeavesTree<'a> {
-    tree: SeededXmssTree<'a>,
+pub(crate) struct KnownLeavesTree<'a, 'h> {
+    tree: SeededXmssTree<'a, 'h>,
     first: u32,
     known: Leaves,
     ghost own: { AreLeavesFrom (xmss_tree_of tree.tree) first known.items },
 }
 
-impl<'a> KnownLeavesTree<'a> {
+impl<'a, 'h> KnownLeavesTree<'a, 'h> {
     /// The tree over a place, whose leaves from there on are `known`.
     #[tactic(auto, unfolding(crate::specs::Trees::xmss_tree_of))]
-    pub(crate) fn new(seeds: &Seeds<'a>, at: Place, known: Leaves) -> Self
-        requires { AreKeysFrom (params seeds.now.set) seeds.now.sk_seed.now seeds.now.pk_seed.now at known.items }
+    pub(crate) fn new(
+        joins: &'h SeededTreeHash,
+        seeds: &Seeds<'a>,
+        at: Place,
+        known: Leaves,
+    ) -> Self
+        requires joins { ∥ IsSeededTree joins.now (params seeds.now.set) seeds.now.pk_seed.now ∥₁ }
+        requires known { AreKeysFrom (params seeds.now.set) seeds.now.sk_seed.now seeds.now.pk_seed.now at known.items }
         ensures { let p = params seeds.now.set in let sk_seed = seeds.now.sk_seed.now in
             let pk_seed = seeds.now.pk_seed.now in
             xmss_tree_of result.tree.tree ≡ xmss_tree p sk_seed pk_seed at.layer at.tree }
     {
-        let tree = SeededXmssTree::new(seeds, at.layer, at.tree);
+        let tree = SeededXmssTree::new(joins, seeds, at.layer, at.tree);
         let first = at.pair;
         KnownLeavesTree { tree, first, known }
     }
@@ -217,7 +226,7 @@ impl<'a> KnownLeavesTree<'a> {
     }
 }
 
-impl<'a> Tree for KnownLeavesTree<'a> {
+impl<'a, 'h> Tree for KnownLeavesTree<'a, 'h> {
     ghost use Rattle.slh_few.specs.Trees.{xmss_tree_of, xmss-lawful};
 
     ghost tree = { λ t. xmss_tree_of t.tree.tree };
@@ -275,7 +284,8 @@ fn sign_in_group(seeds: &Seeds, at: Place, msg: &Node, out: &mut [u8]) -> Node
 {
     let (wots, auth) = out.split_at_mut(seeds.set.len() * seeds.set.n());
     let group = sign_among_eight(seeds, at, msg, wots);
-    let tree = KnownLeavesTree::new(seeds, first_of_eight(at), group);
+    let joins = SeededTreeHash::new(seeds.set, seeds.pk_seed);
+    let tree = KnownLeavesTree::new(&joins, seeds, first_of_eight(at), group);
     path(&tree, at.pair, auth);
     tree.leaf(at.pair)
 }
@@ -292,11 +302,9 @@ fn sign_alone(seeds: &Seeds, at: Place, msg: &Node, out: &mut [u8])
 {
     let (wots, auth) = out.split_at_mut(seeds.set.len() * seeds.set.n());
     wots_sign(seeds, at, msg, wots);
-    path(
-        &SeededXmssTree::new(seeds, at.layer, at.tree),
-        at.pair,
-        auth,
-    );
+    let joins = SeededTreeHash::new(seeds.set, seeds.pk_seed);
+    let tree = SeededXmssTree::new(&joins, seeds, at.layer, at.tree);
+    path(&tree, at.pair, auth);
 }
 
 /// Writes the signature as `xmss_sign` does, and gives the leaf that signs. None of its chains is computed twice.
@@ -359,6 +367,7 @@ pub fn xmss_pk_from_sig(public: &Public, at: Place, msg: &Node, sig: &[u8]) -> N
         sk_seed: &[],
         pk_seed: public.pk_seed,
     };
-    let tree = SeededXmssTree::new(&seeds, at.layer, at.tree);
+    let joins = SeededTreeHash::new(public.set, public.pk_seed);
+    let tree = SeededXmssTree::new(&joins, &seeds, at.layer, at.tree);
     climb(&tree, at.pair, &leaf, auth)
 }

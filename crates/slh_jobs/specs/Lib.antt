@@ -1,6 +1,5 @@
 pub mod Ranges
 pub mod UpperTrees
-pub mod SeededTrees
 pub mod Tags
 pub mod Jobs
 pub mod Starts

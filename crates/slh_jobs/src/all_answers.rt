@@ -1,7 +1,7 @@
 //! What the answers of all jobs say of the trees, whatever bytes they are.
 ghost use Rattle.std.specs.Prelude.{◌≡◌, ◌+◌, ◌*◌, ◌/◌, ◌^◌, ◌<◌, ◌≤◌, ◌↔◌, IsSome, IfSome, length};
 ghost use Rattle.slh_params.specs.ParamSet.{params};
-ghost use Rattle.slh_hash.specs.Stream.{IsSeededTree};
+ghost use Rattle.slh_few.specs.ForsHashes.{AreSeeded};
 ghost use Rattle.slh_subtrees.specs.Jobs.{IsTreeOf, height_of};
 ghost use Rattle.slh_subtrees.specs.SigningTrees.{source_of, leaf_in};
 ghost use Rattle.slh_jobs.specs.Ranges.{below, answer_len, given};
@@ -13,11 +13,10 @@ ghost use Rattle.slh_subtrees.specs.declared.jobs.TheConstants.{MOST_JOBS_OF_A_K
 
 use crate::answer_bytes::AnswerBytes;
 use crate::levels::Levels;
-use crate::seeded_trees::{SeededForsTree, SeededXmssTree};
 use crate::signing::Signing;
 use crate::upper_tree::put_auth;
 use slh_core::SecretKey;
-use slh_hash::SeededTreeHash;
+use slh_few::{ForsHashes, SeededForsTree, SeededXmssTree};
 use slh_params::Node;
 use slh_subtrees::{Answers, JobTree};
 
@@ -27,13 +26,13 @@ pub(crate) struct AllAnswers<'a> {
     pub(crate) signing: Signing<'a>,
     pub(crate) xmss: AnswerBytes<'a>,
     pub(crate) fors: AnswerBytes<'a>,
-    joins: SeededTreeHash,
+    hashes: ForsHashes<'a>,
     ghost xmss_cut: { xmss.shape ≡ xmss_shape signing.levels },
     ghost fors_cut: { fors.shape ≡ fors_shape signing.levels },
     ghost rest: { fors.bytes.now ≡ fors_answers signing.levels xmss.bytes.now },
     ghost xmss_there: { xmss_jobs signing.levels * answer_len (xmss_shape signing.levels) ≤ length xmss.bytes.now },
     ghost fors_there: { fors_jobs signing.levels * answer_len (fors_shape signing.levels) ≤ length fors.bytes.now },
-    ghost joins_state: { ∥ IsSeededTree joins (params signing.trees.seeds.set) signing.trees.seeds.pk_seed.now ∥₁ },
+    ghost seeded: { ∥ AreSeeded hashes (params signing.trees.seeds.set) signing.trees.seeds.pk_seed.now ∥₁ },
 }
 
 impl<'a> AllAnswers<'a> {
@@ -66,12 +65,12 @@ impl<'a> AllAnswers<'a> {
             shape: levels.fors_shape(),
             bytes: &answers[xmss_len..],
         };
-        let joins = SeededTreeHash::new(signing.trees.seeds.set, signing.trees.seeds.pk_seed);
+        let hashes = ForsHashes::new(signing.trees.seeds.set, signing.trees.seeds.pk_seed);
         Some(AllAnswers {
             signing,
             xmss,
             fors,
-            joins,
+            hashes,
         })
     }
 
@@ -122,19 +121,19 @@ impl<'a> Answers for AllAnswers<'a> {
 
     fn put_path(&self, tree: JobTree, out: &mut [u8]) -> Node {
         let trees = &self.signing.trees;
+        let seeds = &trees.seeds;
         let given = self.of_kind(tree);
         let first = self.first(tree);
         let leaf = trees.leaf(tree);
         match tree {
             JobTree::Xmss(layer) => {
                 let at = trees.layer_place(layer);
-                let xmss = SeededXmssTree::new(&self.joins, &trees.seeds, layer, at.tree);
+                let xmss = SeededXmssTree::new(self.hashes.joins(), seeds, layer, at.tree);
                 put_auth(&xmss, given, first, leaf, out)
             }
             JobTree::Fors(number) => {
-                let seeds = &trees.seeds;
                 let (idx_tree, idx_leaf) = (trees.idx_tree, trees.idx_leaf);
-                let fors = SeededForsTree::new(&self.joins, seeds, idx_tree, idx_leaf, number);
+                let fors = SeededForsTree::new(&self.hashes, seeds, idx_tree, idx_leaf, number);
                 put_auth(&fors, given, first, leaf, out)
             }
         }

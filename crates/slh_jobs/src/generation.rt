@@ -11,12 +11,11 @@ use crate::answer_bytes::AnswerBytes;
 use crate::fault::JobFault;
 use crate::jobs::ranges;
 use crate::levels::Levels;
-use crate::seeded_trees::SeededXmssTree;
 use crate::shape::Shape;
 use crate::tag::{answer_tag, are_same, keyed_for_key};
 use crate::upper_tree::top_root;
 use slh_core::SecretKey;
-use slh_few::{Seeds, xmss_node};
+use slh_few::{SeededXmssTree, Seeds, xmss_node};
 use slh_hash::SeededTreeHash;
 use slh_params::{Node, ParamSet};
 
@@ -51,7 +50,9 @@ pub fn key_answer_len(set: ParamSet) -> usize
 /// The node of a range of the tree.
 fn key_node(levels: &Levels, sk_seed: &[u8], pk_seed: &[u8], range: u32) -> Node
     requires { range < key_jobs levels.now }
-    ensures { result.items ≡ node (key_tree levels.now sk_seed.now pk_seed.now) (below (key_shape levels.now)) range }
+    ensures value { result.items
+        ≡ node (key_tree levels.now sk_seed.now pk_seed.now) (below (key_shape levels.now)) range }
+    ensures len { length result.items ≡ (params levels.now.set).n }
 {
     let set = levels.set;
     let seeds = Seeds {

@@ -17,7 +17,6 @@ mod jobs;
 mod joining;
 mod judging;
 mod levels;
-mod seeded_trees;
 mod shape;
 mod signing;
 mod start;

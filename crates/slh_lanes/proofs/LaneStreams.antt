@@ -1,13 +1,11 @@
 -- What T hashes in each lane.
-use Rattle.std.proofs.Common.{◌≡◌, ℕ, ◌+◌, ◌*◌, ◌/◌, ◌%◌, ◌≤◌, ◌==◌, true, false, if◌then◌else◌, List, ◌++◌, length, take, arith, refl, sym, ap, ◌∙◌, length-append}
+use Rattle.std.proofs.Common.{◌≡◌, ℕ, ◌+◌, ◌-◌, ◌*◌, ◌/◌, ◌%◌, ◌≤◌, ◌==◌, true, false, if◌then◌else◌, List, ◌++◌, length, take, arith, refl, sym, ap, ◌∙◌, length-append}
 use Rattle.sha2.specs.Sha256.{digest_bytes}
 use Rattle.slh_params.specs.Address.{Address, compressed}
+use Rattle.slh_params.specs.Bits.{to_byte}
 use Rattle.slh_params.specs.Params.{Params}
 use Rattle.slh_hash.specs.Hash.{T, tweaked, tweaked_hash}
 use Rattle.slh_hash.specs.HashFunctions.{SHA_256, SHA_512}
-use Rattle.slh_lanes.specs.Block.{first_block}
-use Rattle.slh_lanes.specs.LongBlock.{long_first_block}
-use Rattle.slh_lanes.proofs.LongTweaked.{length-long_first_block}
 use Rattle.slh_lanes.proofs.Tweaked.{length-first_block}
 use Rattle.slh_lanes.proofs.WordBytes.{take_digest}
 
@@ -21,21 +19,13 @@ pub long_T : (p : Params) (pk : List ℕ) (a : Address) (x : List ℕ) → (p.n 
 unfolding T
 long_T p pk a x e = ap (λ b. tweaked_hash (if b then SHA_256 else SHA_512) p pk a x) (sym e)
 
-pub length-tweaked : (p : Params) (pk : List ℕ) (a : Address) (x : List ℕ) → length pk ≡ p.n → p.n ≤ 32
-    → length (tweaked 64 p pk a x) ≡ 86 + length x
-length-tweaked p pk a x lp high =
-    let s : List ℕ = first_block p pk in
+pub length-tweaked : (size : ℕ) (p : Params) (pk : List ℕ) (a : Address) (x : List ℕ) → length pk ≡ p.n → p.n ≤ size
+    → length (tweaked size p pk a x) ≡ size + 22 + length x
+length-tweaked size p pk a x lp high =
+    let s : List ℕ = pk ++ to_byte 0 (size - p.n) in
     let adrs : List ℕ = compressed a in
     let la : length adrs ≡ 22 = refl in
-    omega (arith, length-append (s ++ adrs) x, length-append s adrs, length-first_block p pk lp high, la)
-
-pub length-long_tweaked : (p : Params) (pk : List ℕ) (a : Address) (x : List ℕ) → length pk ≡ p.n → p.n ≤ 32
-    → length (tweaked 128 p pk a x) ≡ 150 + length x
-length-long_tweaked p pk a x lp high =
-    let s : List ℕ = long_first_block p pk in
-    let adrs : List ℕ = compressed a in
-    let la : length adrs ≡ 22 = refl in
-    omega (arith, length-append (s ++ adrs) x, length-append s adrs, length-long_first_block p pk lp high, la)
+    omega (arith, length-append (s ++ adrs) x, length-append s adrs, length-first_block size p pk lp high, la)
 
 -- the bytes of as many words as n bytes fill
 pub digest_of_n : (ws : List ℕ) (m n : ℕ) → m ≡ n → n % 4 ≡ 0 → n ≤ 32 → digest_bytes ws (m / 4) ≡ take n (digest_bytes ws 8)

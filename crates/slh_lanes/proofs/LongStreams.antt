@@ -4,14 +4,14 @@ use Rattle.std.specs.Int.{to_be_bytes, w128}
 use Rattle.std.proofs.lemmas.List.{get_or-set_same, length-replicate, length-set, replicate-append-replicate}
 use Rattle.std.proofs.Math.Seq.{take-append-add}
 use Rattle.sha2.specs.Sha256.{digest_bytes, word_at}
-use Rattle.sha2.specs.Sha512.{IsAbsorbed, compress, final_hash, hash_after, padded_message, padding, word_at as long_word_at}
-use Rattle.sha2.proofs.Absorbing512.{IsAbsorbed_fill, IsAbsorbed_short, hash_after-append}
+use Rattle.sha2.specs.Sha512.{IsAbsorbed, final_hash, hash_after, padded_message, padding, word_at as long_word_at}
+use Rattle.sha2.proofs.Absorbing512.{hash_after-append}
 use Rattle.slh_lanes.specs.Block.{halves}
 use Rattle.slh_lanes.specs.LongBlock.{joined, joined_halves}
 use Rattle.slh_lanes.specs.Streams.{half_on}
 use Rattle.slh_lanes.proofs.Halves.{byte}
 use Rattle.slh_lanes.proofs.LongBlock.{joined_words}
-use Rattle.slh_lanes.proofs.Streams.{half_front, half_word, length-half_on, written, zeros_move}
+use Rattle.slh_lanes.proofs.Streams.{half_word, zeros_move}
 
 -- long word k of a block of 128 bytes that begins in the middle of a word
 pub half_long_word : (ws : List ℕ) (k : ℕ) → k < 16
@@ -27,44 +27,6 @@ half_long_word ws k lt fp fq fr =
     ∙ ap₂ joined (ap (word_at b) even ∙ half_word 32 ws (2 * k) (omega arith) fp fq)
     (ap (word_at b) odd ∙ half_word 32 ws (2 * k + 1) (omega arith) fq fl
     ∙ ap (λ (q : ℕ). halves (slice_index ws (2 * k + 1)) (slice_index ws q)) (sym last))
-
--- a word that leaves the block short
-pub long_pushed_short : (ini h ws : List ℕ) (w u : ℕ) (m : List ℕ) → IsAbsorbed ini h (half_on ws 33) m → length m % 128 + 2 ≡ 4 * u → u < 32 → length ws ≡ 33
-    → IsAbsorbed ini h (half_on (set ws u w) 33) (m ++ to_be_bytes w32 w)
-long_pushed_short ini h ws w u m held at high long =
-    let d : List ℕ = to_be_bytes w32 w in
-    let low : 1 ≤ u = omega (arith, at) in
-    let before : length m % 128 ≡ 4 * u - 2 = omega (arith, at) in
-    let after : length m % 128 + length d ≡ 4 * (u + 1) - 2 = omega (arith, at) in
-    IsAbsorbed_short ini h (half_on ws 33) (half_on (set ws u w) 33) m d held (omega (arith, after, high))
-    (ap (λ (k : ℕ). take k (half_on (set ws u w) 33)) after ∙ half_front (set ws u w) (u + 1) 33 (omega arith) (omega arith)
-    ∙ written ws w u low (omega arith)
-    ∙ ap (λ (b : List ℕ). b ++ d) (sym (ap (λ (k : ℕ). take k (half_on ws 33)) before ∙ half_front ws u 33 low (omega arith))))
-
--- a word that fills the block: its second half begins the next
-pub long_pushed_full : (ini h ws : List ℕ) (w : ℕ) (m : List ℕ) → IsAbsorbed ini h (half_on ws 33) m → length m % 128 ≡ 126 → length ws ≡ 33
-    → IsAbsorbed ini (compress h (take 128 (half_on (set ws 32 w) 33))) (half_on (set (set ws 32 w) 0 w) 33) (m ++ to_be_bytes w32 w)
-unfolding digest_bytes
-long_pushed_full ini h ws w m held at long =
-    let d : List ℕ = to_be_bytes w32 w in
-    let d1 : List ℕ = take 2 d in
-    let d2 : List ℕ = drop 2 d in
-    let x : List ℕ = take 128 (half_on (set ws 32 w) 33) in
-    let vs : List ℕ = set (set ws 32 w) 0 w in
-    let old : List ℕ = half_on ws 32 in
-    let l : length old ≡ 126 = length-half_on ws 32 (omega arith) in
-    let whole : 128 ≡ length old + 2 = omega (arith, l) in
-    let block : x ≡ old ++ d1 =
-    ap (take 128) (written ws w 32 (omega arith) (omega arith)) ∙ ap (λ (k : ℕ). take k (old ++ d)) whole ∙ take-append-add old d 2 in
-    let front : take (length m % 128) (half_on ws 33) ≡ old = ap (λ (k : ℕ). take k (half_on ws 33)) at ∙ half_front ws 32 33 (omega arith) (omega arith) in
-    let filled : IsAbsorbed ini (compress h x) [] (m ++ d1) =
-    IsAbsorbed_fill ini h (half_on ws 33) [] m d1 x held (omega (arith, at)) (block ∙ ap (λ (b : List ℕ). b ++ d1) (sym front)) in
-    let edge : length (m ++ d1) % 128 ≡ 0 = omega (arith, length-append m d1, at) in
-    let first : slice_index vs 0 ≡ w = get_or-set_same (set ws 32 w) 0 w 0 (omega (arith, length-set ws 32 w)) in
-    let rest : half_on vs 1 ≡ d2 = ap (λ (v : ℕ). drop 2 (to_be_bytes w32 v)) first in
-    let placed : take (length (m ++ d1) % 128 + length d2) (half_on vs 33) ≡ take (length (m ++ d1) % 128) [] ++ d2 =
-    rw edge (half_front vs 1 33 (omega arith) (omega arith) ∙ rest) in
-    rw (sym (append_assoc m d1 d2)) (IsAbsorbed_short ini (compress h x) [] (half_on vs 33) (m ++ d1) d2 filled (omega (arith, edge)) placed)
 
 -- eight zeros more
 eight_more : (k : ℕ) (t : List ℕ) → replicate (k + 8) 0 ++ t ≡ replicate k 0 ++ (0 ∷ 0 ∷ 0 ∷ 0 ∷ 0 ∷ 0 ∷ 0 ∷ 0 ∷ t)

@@ -5,12 +5,11 @@ use Rattle.std.proofs.lemmas.List.{length-replicate, take_all}
 use Rattle.std.proofs.Math.Seq.{take-append_seam, drop-append_seam}
 use Rattle.sha2.specs.Sha512.{compress, digest_bytes, hash_after, initial_hash_512, padded_message, padding, sha512}
 use Rattle.slh_params.specs.Address.{Address, compressed}
-use Rattle.slh_params.specs.Bits.{to_byte}
 use Rattle.slh_params.specs.Params.{Params}
 use Rattle.slh_hash.specs.Hash.{tweaked_hash}
 use Rattle.slh_hash.specs.HashFunctions.{SHA_512}
-use Rattle.slh_hash.proofs.Zeros.{to_byte-zero}
 use Rattle.slh_lanes.specs.LongBlock.{long_first_block, long_second_block}
+use Rattle.slh_lanes.proofs.Tweaked.{length-first_block}
 
 blocks : (s t : List ℕ) → length s ≡ 128 → length t ≡ 128 → hash_after initial_hash_512 (s ++ t) 2 ≡ compress (compress initial_hash_512 s) t
 unfolding hash_after
@@ -38,13 +37,8 @@ sha512_two s a x ls la few =
     let n : length (s ++ t) / 128 ≡ 2 = omega (arith, length-append s t) in
     ap (λ h. digest_bytes h 8) (ap (λ q. hash_after initial_hash_512 q (length q / 128)) p ∙ rw n (blocks s t ls lt))
 
-pub length-long_first_block : (p : Params) (pk : List ℕ) → length pk ≡ p.n → p.n ≤ 32 → length (long_first_block p pk) ≡ 128
-length-long_first_block p pk lp high =
-    let zeros : length (to_byte 0 (128 - p.n)) ≡ 128 - p.n = rw (to_byte-zero (128 - p.n)) (length-replicate (128 - p.n) 0) in
-    omega (arith, length-append pk (to_byte 0 (128 - p.n)), zeros)
-
 pub long_tweaked_is : (p : Params) (pk : List ℕ) (a : Address) (x : List ℕ) → length pk ≡ p.n → p.n ≤ 32 → length x ≤ 64
     → tweaked_hash SHA_512 p pk a x
     ≡ take p.n (digest_bytes (compress (compress initial_hash_512 (long_first_block p pk)) (long_second_block (compressed a) x)) 8)
 long_tweaked_is p pk a x lp high lx =
-    ap (take p.n) (sha512_two (long_first_block p pk) (compressed a) x (length-long_first_block p pk lp high) refl (omega arith))
+    ap (take p.n) (sha512_two (long_first_block p pk) (compressed a) x (length-first_block 128 p pk lp (omega (arith, high))) refl (omega arith))

@@ -3,8 +3,8 @@ use Rattle.std.proofs.Common.{◌≡◌, ℕ, zero, suc, ◌+◌, ◌-◌, ◌*�
 use Rattle.std.specs.Int.{from_be_bytes, to_be_bytes}
 use Rattle.std.proofs.lemmas.List.{get_or-set_same, get_or-set_other, get_or-take, get_or-drop, drop-take, drop-append-le, length-replicate, length-set, length-drop}
 use Rattle.std.proofs.Math.Seq.{take-append-add}
-use Rattle.sha2.specs.Sha256.{IsAbsorbed, compress, digest_bytes, final_hash, hash_after, padded_message, padding, word_at}
-use Rattle.sha2.proofs.Absorbing256.{IsAbsorbed_fill, IsAbsorbed_short, hash_after-append}
+use Rattle.sha2.specs.Sha256.{IsAbsorbed, digest_bytes, final_hash, hash_after, padded_message, padding, word_at}
+use Rattle.sha2.proofs.Absorbing256.{hash_after-append}
 use Rattle.slh_lanes.specs.Block.{halves}
 use Rattle.slh_lanes.specs.Streams.{half_on}
 use Rattle.slh_lanes.proofs.Halves.{byte, low_high}
@@ -56,43 +56,54 @@ half_word n ws k lt fp fq =
     let b3 = at (4 * k + 3) (omega arith) ∙ to _ (4 * (k + 1) + 1) (omega arith) ∙ digest_at ws (n + 1) (k + 1) 1 (omega arith) (omega arith) in
     (λ i. from_be_bytes w32 (b0 i ∷ b1 i ∷ b2 i ∷ b3 i ∷ [])) ∙ low_high (slice_index ws k) (slice_index ws (k + 1)) fp fq
 
--- a word that leaves the block short
-pub pushed_short : (ini h ws : List ℕ) (w u : ℕ) (m : List ℕ) → IsAbsorbed ini h (half_on ws 17) m → length m % 64 + 2 ≡ 4 * u → u < 16 → length ws ≡ 17
-    → IsAbsorbed ini h (half_on (set ws u w) 17) (m ++ to_be_bytes w32 w)
-pushed_short ini h ws w u m held at high long =
-    let d : List ℕ = to_be_bytes w32 w in
-    let low : 1 ≤ u = omega (arith, at) in
-    let before : length m % 64 ≡ 4 * u - 2 = omega (arith, at) in
-    let after : length m % 64 + length d ≡ 4 * (u + 1) - 2 = omega (arith, at) in
-    IsAbsorbed_short ini h (half_on ws 17) (half_on (set ws u w) 17) m d held (omega (arith, after, high))
-    (ap (λ (k : ℕ). take k (half_on (set ws u w) 17)) after ∙ half_front (set ws u w) (u + 1) 17 (omega arith) (omega arith)
-    ∙ written ws w u low (omega arith)
-    ∙ ap (λ (b : List ℕ). b ++ d) (sym (ap (λ (k : ℕ). take k (half_on ws 17)) before ∙ half_front ws u 17 low (omega arith))))
+-- a hash function over blocks of n words
+module _ (n size : ℕ) (IsAbsorbed : List ℕ → List ℕ → List ℕ → List ℕ → Type 0) (compress : List ℕ → List ℕ → List ℕ)
+    (whole : size ≡ 4 * n) (some : 1 ≤ n)
+    (IsAbsorbed_short : (ini h b c m d : List ℕ) → IsAbsorbed ini h b m → length m % size + length d < size
+    → take (length m % size + length d) c ≡ take (length m % size) b ++ d → IsAbsorbed ini h c (m ++ d))
+    (IsAbsorbed_fill : (ini h b c m d x : List ℕ) → IsAbsorbed ini h b m → length m % size + length d ≡ size
+    → x ≡ take (length m % size) b ++ d → IsAbsorbed ini (compress h x) c (m ++ d))
+    (filled_up : (k : ℕ) → k % size + 2 ≡ size → (k + 2) % size ≡ 0) where
+  -- a word that leaves the block short
+  pub pushed_short : (ini h ws : List ℕ) (w u : ℕ) (m : List ℕ) → IsAbsorbed ini h (half_on ws (n + 1)) m → length m % size + 2 ≡ 4 * u → u < n
+      → length ws ≡ n + 1 → IsAbsorbed ini h (half_on (set ws u w) (n + 1)) (m ++ to_be_bytes w32 w)
+  pushed_short ini h ws w u m held at high long =
+      let d : List ℕ = to_be_bytes w32 w in
+      let low : 1 ≤ u = omega (arith, at) in
+      let before : length m % size ≡ 4 * u - 2 = omega (arith, at) in
+      let after : length m % size + length d ≡ 4 * (u + 1) - 2 = omega (arith, at) in
+      IsAbsorbed_short ini h (half_on ws (n + 1)) (half_on (set ws u w) (n + 1)) m d held (omega (arith, after, high, whole))
+      (ap (λ (k : ℕ). take k (half_on (set ws u w) (n + 1))) after ∙ half_front (set ws u w) (u + 1) (n + 1) (omega arith) (omega arith)
+      ∙ written ws w u low (omega arith)
+      ∙ ap (λ (b : List ℕ). b ++ d) (sym (ap (λ (k : ℕ). take k (half_on ws (n + 1))) before ∙ half_front ws u (n + 1) low (omega arith))))
 
--- a word that fills the block: its second half begins the next
-pub pushed_full : (ini h ws : List ℕ) (w : ℕ) (m : List ℕ) → IsAbsorbed ini h (half_on ws 17) m → length m % 64 ≡ 62 → length ws ≡ 17
-    → IsAbsorbed ini (compress h (take 64 (half_on (set ws 16 w) 17))) (half_on (set (set ws 16 w) 0 w) 17) (m ++ to_be_bytes w32 w)
-unfolding digest_bytes
-pushed_full ini h ws w m held at long =
-    let d : List ℕ = to_be_bytes w32 w in
-    let d1 : List ℕ = take 2 d in
-    let d2 : List ℕ = drop 2 d in
-    let x : List ℕ = take 64 (half_on (set ws 16 w) 17) in
-    let vs : List ℕ = set (set ws 16 w) 0 w in
-    let old : List ℕ = half_on ws 16 in
-    let l : length old ≡ 62 = length-half_on ws 16 (omega arith) in
-    let whole : 64 ≡ length old + 2 = omega (arith, l) in
-    let block : x ≡ old ++ d1 =
-    ap (take 64) (written ws w 16 (omega arith) (omega arith)) ∙ ap (λ (k : ℕ). take k (old ++ d)) whole ∙ take-append-add old d 2 in
-    let front : take (length m % 64) (half_on ws 17) ≡ old = ap (λ (k : ℕ). take k (half_on ws 17)) at ∙ half_front ws 16 17 (omega arith) (omega arith) in
-    let filled : IsAbsorbed ini (compress h x) [] (m ++ d1) =
-    IsAbsorbed_fill ini h (half_on ws 17) [] m d1 x held (omega (arith, at)) (block ∙ ap (λ (b : List ℕ). b ++ d1) (sym front)) in
-    let edge : length (m ++ d1) % 64 ≡ 0 = omega (arith, length-append m d1, at) in
-    let first : slice_index vs 0 ≡ w = get_or-set_same (set ws 16 w) 0 w 0 (omega (arith, length-set ws 16 w)) in
-    let rest : half_on vs 1 ≡ d2 = ap (λ (v : ℕ). drop 2 (to_be_bytes w32 v)) first in
-    let placed : take (length (m ++ d1) % 64 + length d2) (half_on vs 17) ≡ take (length (m ++ d1) % 64) [] ++ d2 =
-    rw edge (half_front vs 1 17 (omega arith) (omega arith) ∙ rest) in
-    rw (sym (append_assoc m d1 d2)) (IsAbsorbed_short ini (compress h x) [] (half_on vs 17) (m ++ d1) d2 filled (omega (arith, edge)) placed)
+  -- a word that fills the block: its second half begins the next
+  pub pushed_full : (ini h ws : List ℕ) (w : ℕ) (m : List ℕ) → IsAbsorbed ini h (half_on ws (n + 1)) m → length m % size + 2 ≡ size
+      → length ws ≡ n + 1
+      → IsAbsorbed ini (compress h (take size (half_on (set ws n w) (n + 1)))) (half_on (set (set ws n w) 0 w) (n + 1)) (m ++ to_be_bytes w32 w)
+  unfolding digest_bytes
+  pushed_full ini h ws w m held at long =
+      let d : List ℕ = to_be_bytes w32 w in
+      let d1 : List ℕ = take 2 d in
+      let d2 : List ℕ = drop 2 d in
+      let x : List ℕ = take size (half_on (set ws n w) (n + 1)) in
+      let vs : List ℕ = set (set ws n w) 0 w in
+      let old : List ℕ = half_on ws n in
+      let l : length old + 2 ≡ size = omega (arith, length-half_on ws n some, whole, some) in
+      let before : length m % size ≡ 4 * n - 2 = omega (arith, at, whole) in
+      let block : x ≡ old ++ d1 =
+      ap (take size) (written ws w n some (omega arith)) ∙ ap (λ (k : ℕ). take k (old ++ d)) (sym l) ∙ take-append-add old d 2 in
+      let front : take (length m % size) (half_on ws (n + 1)) ≡ old =
+      ap (λ (k : ℕ). take k (half_on ws (n + 1))) before ∙ half_front ws n (n + 1) some (omega arith) in
+      let filled : IsAbsorbed ini (compress h x) [] (m ++ d1) =
+      IsAbsorbed_fill ini h (half_on ws (n + 1)) [] m d1 x held at (block ∙ ap (λ (b : List ℕ). b ++ d1) (sym front)) in
+      let edge : length (m ++ d1) % size ≡ 0 = ap (λ (k : ℕ). k % size) (length-append m d1) ∙ filled_up (length m) at in
+      let first : slice_index vs 0 ≡ w = get_or-set_same (set ws n w) 0 w 0 (omega (arith, length-set ws n w)) in
+      let rest : half_on vs 1 ≡ d2 = ap (λ (v : ℕ). drop 2 (to_be_bytes w32 v)) first in
+      let placed : take (length (m ++ d1) % size + length d2) (half_on vs (n + 1)) ≡ take (length (m ++ d1) % size) [] ++ d2 =
+      rw edge (half_front vs 1 (n + 1) (omega arith) (omega arith) ∙ rest) in
+      rw (sym (append_assoc m d1 d2))
+      (IsAbsorbed_short ini (compress h x) [] (half_on vs (n + 1)) (m ++ d1) d2 filled (omega (arith, edge, whole, some)) placed)
 
 -- a zero moved over zeros
 pub zeros_move : (k : ℕ) (t : List ℕ) → replicate k 0 ++ (0 ∷ t) ≡ 0 ∷ (replicate k 0 ++ t)

@@ -38,13 +38,14 @@ sha256_two s a x ls la few =
     let n : length (s ++ t) / 64 ≡ 2 = omega (arith, length-append s t) in
     ap (λ h. digest_bytes h 8) (ap (λ q. hash_after initial_hash_256 q (length q / 64)) p ∙ rw n (blocks s t ls lt))
 
-pub length-first_block : (p : Params) (pk : List ℕ) → length pk ≡ p.n → p.n ≤ 32 → length (first_block p pk) ≡ 64
-length-first_block p pk lp high =
-    let zeros : length (to_byte 0 (64 - p.n)) ≡ 64 - p.n = rw (to_byte-zero (64 - p.n)) (length-replicate (64 - p.n) 0) in
-    omega (arith, length-append pk (to_byte 0 (64 - p.n)), zeros)
+-- PK.seed and zeros fill a block of any size
+pub length-first_block : (size : ℕ) (p : Params) (pk : List ℕ) → length pk ≡ p.n → p.n ≤ size → length (pk ++ to_byte 0 (size - p.n)) ≡ size
+length-first_block size p pk lp high =
+    let zeros : length (to_byte 0 (size - p.n)) ≡ size - p.n = rw (to_byte-zero (size - p.n)) (length-replicate (size - p.n) 0) in
+    omega (arith, length-append pk (to_byte 0 (size - p.n)), zeros, lp, high)
 
 pub tweaked_is : (p : Params) (pk : List ℕ) (a : Address) (x : List ℕ) → length pk ≡ p.n → p.n ≤ 32 → length x ≤ 32
     → tweaked_hash SHA_256 p pk a x
     ≡ take p.n (digest_bytes (compress (compress initial_hash_256 (first_block p pk)) (second_block (compressed a) x)) 8)
 tweaked_is p pk a x lp high lx =
-    ap (take p.n) (sha256_two (first_block p pk) (compressed a) x (length-first_block p pk lp high) refl (omega arith))
+    ap (take p.n) (sha256_two (first_block p pk) (compressed a) x (length-first_block 64 p pk lp (omega (arith, high))) refl (omega arith))

@@ -18,7 +18,7 @@ impl JobTree {
     /// The height of the tree: h' or a.
     pub fn height(self, set: ParamSet) -> u32
         ensures value { result ≡ height_of (params set) self }
-        ensures low { result ≤ 14 }
+        ensures small { result ≤ 14 }
     {
         match self {
             JobTree::Xmss(_) => set.hp(),

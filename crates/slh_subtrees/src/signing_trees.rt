@@ -97,10 +97,19 @@ impl<'a> SigningTrees<'a> {
         ensures block { (z i : ℕ) → lo ≡ first_leaf z i → hi ≡ past_leaf z i
             → (p : Placed) × (result.cover.nodes.items ≡ p ∷ []) × (p.z ≡ z) × (p.i ≡ i) }
     {
-        match tree {
-            JobTree::Xmss(layer) => self.hashed_xmss(layer, lo, hi),
-            JobTree::Fors(number) => self.hashed_fors(number, lo, hi),
-        }
+        let seeds = &self.seeds;
+        let mut path = PathRec::for_leaf(tree.height(seeds.set), self.leaf(tree));
+        let cover = match tree {
+            JobTree::Xmss(layer) => {
+                let at = self.layer_place(layer);
+                xmss_range(seeds, layer, at.tree, lo, hi, &mut path)
+            }
+            JobTree::Fors(number) => {
+                let (idx_tree, idx_leaf) = (self.idx_tree, self.idx_leaf);
+                fors_range(seeds, idx_tree, idx_leaf, number, lo, hi, &mut path)
+            }
+        };
+        HashedRange { cover, path }
     }
 
     /// What is made of the leaves from `lo` to `hi`, `hi` left out, of the XMSS tree of a layer. Writes what is kept of
@@ -123,51 +132,6 @@ impl<'a> SigningTrees<'a> {
         let at = self.layer_place(layer);
         let mut path = PathRec::for_leaf(self.seeds.set.hp(), at.pair);
         let cover = xmss_range_keeping(&self.seeds, at, lo, hi, kept, &mut path);
-        HashedRange { cover, path }
-    }
-
-    /// What is made of the leaves from `lo` to `hi`, `hi` left out, of the XMSS tree of a layer.
-    #[tactic(auto, using(slh_params::proofs::Bounds::hp_low, slh_params::proofs::Bounds::hp_high))]
-    fn hashed_xmss(&self, layer: u8, lo: u32, hi: u32) -> HashedRange
-        requires layer { layer < (params self.now.seeds.set).d }
-        requires some { lo < hi }
-        requires within { hi ≤ 2 ^ (params self.now.seeds.set).hp }
-        ensures lo { result.cover.lo ≡ lo }
-        ensures hi { result.cover.hi ≡ hi }
-        ensures hashed { let tree = JobTree.Xmss layer in
-            IsHashed (tree_in self.now tree) (leaf_in self.now tree) result.cover result.path }
-        ensures block { (z i : ℕ) → lo ≡ first_leaf z i → hi ≡ past_leaf z i
-            → (p : Placed) × (result.cover.nodes.items ≡ p ∷ []) × (p.z ≡ z) × (p.i ≡ i) }
-    {
-        let at = self.layer_place(layer);
-        let mut path = PathRec::for_leaf(self.seeds.set.hp(), at.pair);
-        let cover = xmss_range(&self.seeds, layer, at.tree, lo, hi, &mut path);
-        HashedRange { cover, path }
-    }
-
-    /// What is made of the leaves from `lo` to `hi`, `hi` left out, of a FORS tree.
-    #[tactic(auto, using(slh_params::proofs::Bounds::a_low, slh_params::proofs::Bounds::a_high))]
-    fn hashed_fors(&self, number: u32, lo: u32, hi: u32) -> HashedRange
-        requires tree { number < (params self.now.seeds.set).k }
-        requires some { lo < hi }
-        requires within { hi ≤ 2 ^ (params self.now.seeds.set).a }
-        ensures lo { result.cover.lo ≡ lo }
-        ensures hi { result.cover.hi ≡ hi }
-        ensures hashed { let tree = JobTree.Fors number in
-            IsHashed (tree_in self.now tree) (leaf_in self.now tree) result.cover result.path }
-        ensures block { (z i : ℕ) → lo ≡ first_leaf z i → hi ≡ past_leaf z i
-            → (p : Placed) × (result.cover.nodes.items ≡ p ∷ []) × (p.z ≡ z) × (p.i ≡ i) }
-    {
-        let mut path = PathRec::for_leaf(self.seeds.set.a(), self.fors_index(number));
-        let cover = fors_range(
-            &self.seeds,
-            self.idx_tree,
-            self.idx_leaf,
-            number,
-            lo,
-            hi,
-            &mut path,
-        );
         HashedRange { cover, path }
     }
 

@@ -20,13 +20,13 @@ root_at-requires-clause-leaf c =
     let p = params c.args.public.now.set in
     let At : ℕ → Type 0 = λ i. i < 2 ^ p.a in
     let b : c.loop-j.j < p.k = omega (arith, c.k-j-end.ensures) in
-    rw c.new-tree.ensures.seeds (subst At (sym (c.fors_indices-indices.ensures.indices c.loop-j.j b)) (index_lt p c.args.md.now c.loop-j.j))
+    rw c.at-tree.ensures.seeds (subst At (sym (c.fors_indices-indices.ensures.indices c.loop-j.j b)) (index_lt p c.args.md.now c.loop-j.j))
 
 pub root_at-requires-clause-sig : goal.root_at-requires-clause-sig
 root_at-requires-clause-sig c =
     let p = params c.args.public.now.set in
     let b : c.loop-j.j < p.k = omega (arith, c.k-j-end.ensures) in
-    rw (c.new-tree.ensures.seeds, c.new-tree.ensures.tree_no) (part_fits c.loop-j.j p.k (fors_part_len p) (length c.args.sig.now) b c.requires.sig)
+    rw (c.at-tree.ensures.seeds, c.at-tree.ensures.tree_no) (part_fits c.loop-j.j p.k (fors_part_len p) (length c.args.sig.now) b c.requires.sig)
 
 pub absorb_in_lanes-done-requires-clause-leaves : goal.absorb_in_lanes-done-requires-clause-leaves
 absorb_in_lanes-done-requires-clause-leaves c = λ j.
@@ -59,7 +59,7 @@ loop-j-preserved c =
     let j = c.loop-j.j in
     let b : c.loop-j.j < p.k = omega (arith, c.k-j-end.ensures) in
     let x : c.root_at.result.items ≡ fors_root p pk c.args.idx_tree c.args.idx_leaf md j (part (fors_part_len p) c.args.sig.now j) =
-    rw (c.new-tree.ensures.seeds, c.new-tree.ensures.idx_tree, c.new-tree.ensures.idx_leaf, c.new-tree.ensures.tree_no, c.fors_indices-indices.ensures.indices c.loop-j.j b) at c.root_at.ensures in
+    rw (c.at-tree.ensures.seeds, c.at-tree.ensures.idx_tree, c.at-tree.ensures.idx_leaf, c.at-tree.ensures.tree_no, c.fors_indices-indices.ensures.indices c.loop-j.j b) at c.root_at.ensures in
     rw (end_to_end-more (λ j. fors_root p pk c.args.idx_tree c.args.idx_leaf md j (part (fors_part_len p) c.args.sig.now j)) c.loop-j.j, sym x)
     (c.absorb.ensures _ _ _ _ c.loop-j.invariant)
 

@@ -15,14 +15,14 @@ put_tree-requires-clause-leaf c =
     let p = params c.args.seeds.now.set in
     let At : ℕ → Type 0 = λ i. i < 2 ^ p.a in
     let b : c.loop-j.j < p.k = omega (arith, c.k-j-end.ensures) in
-    rw c.new-tree.ensures.seeds (subst At (sym (c.fors_indices-indices.ensures.indices c.loop-j.j b)) (index_lt p c.args.md.now c.loop-j.j))
+    rw c.at-tree.ensures.seeds (subst At (sym (c.fors_indices-indices.ensures.indices c.loop-j.j b)) (index_lt p c.args.md.now c.loop-j.j))
 
 pub put_tree-requires-clause-out : goal.put_tree-requires-clause-out
 put_tree-requires-clause-out c =
     let p = params c.args.seeds.now.set in
     let b : c.loop-j.j < p.k = omega (arith, c.k-j-end.ensures) in
     let q : length c.loop-j.out ≡ p.k * fors_part_len p = omega (arith, c.requires.out) in
-    rw (c.new-tree.ensures.seeds, c.fors_part_len-size.ensures.value) (part_fits c.loop-j.j p.k (fors_part_len p) (length c.loop-j.out) b q)
+    rw (c.at-tree.ensures.seeds, c.fors_part_len-size.ensures.value) (part_fits c.loop-j.j p.k (fors_part_len p) (length c.loop-j.out) b q)
 
 pub loop-j-init : goal.loop-j-init
 loop-j-init c =
@@ -40,8 +40,8 @@ loop-j-preserved c =
     let size = length-fors_part s sk pk c.args.idx_tree c.args.idx_leaf md j in
     let b : c.loop-j.j < p.k = omega (arith, c.k-j-end.ensures) in
     let put : take (j * fors_part_len p + fors_part_len p) c.put_tree.new.out ≡ take (j * fors_part_len p) c.loop-j.out ++ fors_part p sk pk c.args.idx_tree c.args.idx_leaf md j =
-    rw (c.new-tree.ensures.seeds, c.new-tree.ensures.idx_tree, c.new-tree.ensures.idx_leaf, c.new-tree.ensures.tree_no, c.fors_indices-indices.ensures.indices c.loop-j.j b, c.fors_part_len-size.ensures.value)
-    at (c.put_tree.ensures (rw c.new-tree.ensures.seeds c.new-tree.ensures.state)) in
+    rw (c.at-tree.ensures.seeds, c.at-tree.ensures.idx_tree, c.at-tree.ensures.idx_leaf, c.at-tree.ensures.tree_no, c.fors_indices-indices.ensures.indices c.loop-j.j b, c.fors_part_len-size.ensures.value)
+    at c.put_tree.ensures in
     writes-more (fors_part p sk pk c.args.idx_tree c.args.idx_leaf md) j (fors_part_len p) c.loop-j.out c.put_tree.new.out (fors_part p sk pk c.args.idx_tree c.args.idx_leaf md j)
     refl size c.loop-j.invariant (ap (λ k. take (j * fors_part_len p + k) c.put_tree.new.out) size ∙ put)
 

@@ -5,7 +5,7 @@ use Rattle.slh_few.specs.Fors.{fors_part_len}
 use Rattle.slh_few.proofs.fors.put_tree.Goals as goal
 
 pub returns : goal.returns
-returns c = λ h.
+returns c =
     let size : length c.sign_tree.new.out ≡ fors_part_len (params c.args.seeded_tree.now.tree.seeds.set) = omega (arith, c.sign_tree.auto.out, c.fors_part_len.ensures.value, c.requires.out) in
     take-put_mid c.args.start _ c.args.out.now c.sign_tree.new.out _ (omega (arith, size)) (omega (arith, c.requires.out))
-    ∙ ap (λ ys. take c.args.start c.args.out.now ++ ys) (c.sign_tree.ensures h)
+    ∙ ap (λ ys. take c.args.start c.args.out.now ++ ys) c.sign_tree.ensures

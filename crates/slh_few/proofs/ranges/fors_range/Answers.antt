@@ -17,7 +17,7 @@ pub hash_block-requires-clause-height : goal.hash_block-requires-clause-height
 hash_block-requires-clause-height c =
     let a = (params c.args.seeds.now.set).a in
     let z = c.in-Some.z in
-    let same : (params c.new-tree.result.tree.seeds.set).a ≡ a = ap (λ s. (params s.set).a) c.new-tree.ensures.seeds in
+    let same : (params c.at-tree.result.tree.seeds.set).a ≡ a = ap (λ s. (params s.set).a) c.at-tree.ensures.seeds in
     let ends = c.in-Some.ensures.1 in
     elim (cases_lt a z) [
       | inl lt ↦ absurd (omega (arith, past-first z (c.args.lo / 2 ^ z), pow_below a z lt, ends, c.requires.within))
@@ -26,4 +26,4 @@ hash_block-requires-clause-height c =
 
 pub returns-in-Some-clause-block : goal.returns-in-Some-clause-block
 returns-in-Some-clause-block c = λ z i from to.
-    block_cover (fors_tree_of c.new-tree.result.tree) z i c.args.lo c.args.hi c.hash_block.result.nodes.items from to c.hash_block.ensures.cover
+    block_cover (fors_tree_of c.at-tree.result.tree) z i c.args.lo c.args.hi c.hash_block.result.nodes.items from to c.hash_block.ensures.cover

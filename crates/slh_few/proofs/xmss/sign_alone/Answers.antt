@@ -13,5 +13,5 @@ returns c =
     let sk = c.args.seeds.now.sk_seed.now in
     let pk = c.args.seeds.now.pk_seed.now in
     let at = c.args.at in
-    let b : c.path.new.out ≡ path (xmss_tree p sk pk at.layer at.tree) at.pair = rw c.new.ensures at c.path.ensures in
+    let b : c.path.new.out ≡ path (xmss_tree p sk pk at.layer at.tree) at.pair = rw c.new-tree.ensures at c.path.ensures in
     ap (λ xs. xs ++ c.path.new.out) c.wots_sign.ensures.signature ∙ ap (λ ys. wots_sig p sk pk at c.args.msg.now.items ++ ys) b

@@ -10,8 +10,8 @@ use Rattle.slh_few.specs.declared.place.Place.{Place}
 use Rattle.slh_few.proofs.xmss.sign_in_group.Goals as goal
 use Rattle.slh_few.proofs.xmss.sign_in_group.Goals.{After-new-tree}
 
-pub new-tree-requires : goal.new-tree-requires
-new-tree-requires c =
+pub new-tree-requires-clause-known : goal.new-tree-requires-clause-known
+new-tree-requires-clause-known c =
     subst (λ (a : Place). AreKeysFrom (params c.args.seeds.now.set) c.args.seeds.now.sk_seed.now c.args.seeds.now.pk_seed.now a c.sign_among_eight-group.result.items)
     (sym c.first_of_eight.ensures) c.sign_among_eight-group.ensures.keys
 

@@ -1,15 +1,12 @@
 -- A node has n bytes, and its tag follows it.
 use Rattle.std.proofs.Common.{◌≡◌, ℕ, List, ◌++◌, length, ap, ◌∙◌, rules}
 use Rattle.slh_params.specs.ParamSet.{params}
-use Rattle.slh_tree.proofs.Authentic.{node_width}
-use Rattle.slh_few.specs.Trees.{xmss_tree-lawful}
 use Rattle.slh_jobs.specs.KeyJobs.{key_tag}
 use Rattle.slh_jobs.proofs.generation.keygen_job.Goals as goal
 
 pub copy_from_slice-requires : goal.copy_from_slice-requires
 copy_from_slice-requires c =
-    let own : length c.key_node-node.result.items ≡ (params c.args.levels.now.set).n =
-    ap length c.key_node-node.ensures ∙ node_width _ (xmss_tree-lawful c.args.levels.now.set _ _ _ _) _ _ in
+    let own : length c.key_node-node.result.items ≡ (params c.args.levels.now.set).n = c.key_node-node.ensures.len in
     search rules
 
 pub returns : goal.returns
@@ -20,4 +17,4 @@ returns c =
     let tag : c.answer_tag.result.items ≡ Tag x = c.answer_tag.ensures.value _ _ _ c.keyed_for_key-keyed.ensures in
     let first : c.copy_from_slice.new.self ≡ x = search rules in
     let second : c.copy_from_slice-2.new.self ≡ c.answer_tag.result.items = search rules in
-    ap (λ (xs : List ℕ). xs ++ c.copy_from_slice-2.new.self) first ∙ ap (λ (ys : List ℕ). x ++ ys) (second ∙ tag) ∙ ap (λ (xs : List ℕ). xs ++ Tag xs) c.key_node-node.ensures
+    ap (λ (xs : List ℕ). xs ++ c.copy_from_slice-2.new.self) first ∙ ap (λ (ys : List ℕ). x ++ ys) (second ∙ tag) ∙ ap (λ (xs : List ℕ). xs ++ Tag xs) c.key_node-node.ensures.value

@@ -1,5 +1,5 @@
-use Rattle.slh_lanes.proofs.WordLanes.{high_lanes}
+use Rattle.slh_lanes.proofs.WordLanes.{right_lanes}
 use Rattle.slh_lanes.proofs.words.high.Goals as goal
 
 pub returns : goal.returns
-returns c = high_lanes c.args.p c.fits-p.0
+returns c = right_lanes 16 c.args.p c.fits-p.0

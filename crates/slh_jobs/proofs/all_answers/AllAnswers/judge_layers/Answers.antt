@@ -1,7 +1,7 @@
 -- After each layer the roots so far are the same, and the next layer signs the last of them.
 use Rattle.std.proofs.Common.{◌≡◌, ℕ, ◌+◌, ◌*◌, ◌++◌, List, length, take, rules, arith, add-one, ap, ◌∙◌, sym}
 use Rattle.slh_few.specs.Xmss.{xmss_sig_len}
-use Rattle.slh_few.proofs.Ends.{end_to_end-none, writes-more}
+use Rattle.slh_few.proofs.Ends.{end_to_end-none, writes-more, written_all}
 use Rattle.slh_subtrees.specs.Assembled.{signed_by, layer_part_by}
 use Rattle.slh_jobs.specs.AllAnswers.{params_in, source_in, answers_in}
 use Rattle.slh_jobs.specs.Joined.{LayerFits}
@@ -36,3 +36,8 @@ loop-layer-preserved c =
       below_more Sized n c.loop-layer.invariant.3 c.in-Some.ensures.part_len,
       below_more (LayerFits s a) n c.loop-layer.invariant.4 here,
     )
+
+pub returns-clause-signed : goal.returns-clause-signed
+returns-clause-signed c = λ fits.
+    let p = params_in c.args.self.now in
+    written_all _ p.d p.n c.loop-layer.layer c.loop-layer.signed (omega (arith, c.d-layer-end.ensures)) (omega (arith, c.requires.signed)) c.loop-layer.invariant.2

@@ -1,7 +1,8 @@
-use Rattle.std.proofs.Common.{◌≡◌, ℕ, ◌+◌, ◌*◌, ◌/◌, ◌%◌, ◌<◌, List, ◌++◌, length, slice_index, set, take, arith, ap, ◌∙◌, length-append, w32}
+use Rattle.std.proofs.Common.{◌≡◌, ℕ, ◌+◌, ◌*◌, ◌/◌, ◌%◌, ◌<◌, List, ◌++◌, length, slice_index, set, take, arith, refl, ap, ◌∙◌, length-append, w32}
 use Rattle.std.specs.Int.{to_be_bytes}
 use Rattle.std.proofs.lemmas.List.{length-map}
-use Rattle.sha2.specs.Sha256.{compress, initial_hash_256}
+use Rattle.sha2.proofs.Absorbing256.{IsAbsorbed_fill, IsAbsorbed_short}
+use Rattle.sha2.specs.Sha256.{IsAbsorbed, compress, initial_hash_256}
 use Rattle.slh_lanes.specs.Columns.{column}
 use Rattle.slh_lanes.specs.Streams.{HoldsAt, half_on, vectors}
 use Rattle.slh_lanes.specs.declared.words.Vector.{Vector}
@@ -19,7 +20,7 @@ returns-then-used-eq16 c = λ j lane m held.
     let d : List ℕ = to_be_bytes w32 w in
     let all : length (m ++ d) ≡ length m + 4 = length-append m d in
     let used = c.if-used-eq16.true in
-    let at : length m % 64 ≡ 62 = omega (arith, used, held.0, held.1) in
+    let at : length m % 64 + 2 ≡ 64 = omega (arith, used, held.0, held.1) in
     let count : length old ≡ 17 = omega arith in
     let long : length ws ≡ 17 = length-map _ _ ∙ length-map _ _ ∙ count in
     let first : column j (vectors (set old ((c.args.self.now.len % 64 + 2) / 4) v)) ≡ set ws 16 w =
@@ -29,7 +30,7 @@ returns-then-used-eq16 c = λ j lane m held.
     ∙ ap (λ (l : List ℕ). set l 0 w) (ap (λ (l : List Vector). column j (vectors l)) c.take_block.ensures.words ∙ first) in
     let state = c.take_block.ensures.state j lane
     ∙ ap (λ (l : List ℕ). compress (column j (vectors c.args.self.now.state)) (take 64 (half_on l 17))) first in
-    let taken = pushed_full initial_hash_256 (column j (vectors c.args.self.now.state)) ws w m held.2 at long in (
+    let taken = pushed_full 16 64 IsAbsorbed compress refl (omega arith) IsAbsorbed_short IsAbsorbed_fill (λ k end. omega (arith, end)) initial_hash_256 (column j (vectors c.args.self.now.state)) ws w m held.2 at long in (
       omega (arith, c.take_block.ensures.len, held.0, all),
       omega (arith, held.1, all),
       (state ∙ taken.0, ap (λ (l : List ℕ). take (length (m ++ d) % 64) (half_on l 17)) words ∙ taken.1),
@@ -50,7 +51,7 @@ returns-else-used-eq16 c = λ j lane m held.
     let count : length old ≡ 17 = omega arith in
     let long : length ws ≡ 17 = length-map _ _ ∙ length-map _ _ ∙ count in
     let words : column j (vectors (set old u v)) ≡ set ws u w = vector_set j old u v in
-    let taken = pushed_short initial_hash_256 (column j (vectors c.args.self.now.state)) ws w u m held.2 at short long in (
+    let taken = pushed_short 16 64 IsAbsorbed compress refl (omega arith) IsAbsorbed_short IsAbsorbed_fill (λ k end. omega (arith, end)) initial_hash_256 (column j (vectors c.args.self.now.state)) ws w u m held.2 at short long in (
       omega (arith, held.0, all),
       omega (arith, held.1, all),
       (taken.0, ap (λ (l : List ℕ). take (length (m ++ d) % 64) (half_on l 17)) words ∙ taken.1),

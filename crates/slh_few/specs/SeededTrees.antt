@@ -1,0 +1,11 @@
+-- `SeededXmssTree` and `SeededForsTree` as trees: ours.
+use Rattle.slh_tree.specs.Tree.{MerkleTree}
+use Rattle.slh_few.specs.Trees.{xmss_tree_of, fors_tree_of}
+use Rattle.slh_few.specs.declared.fors_tree.SeededForsTree.{SeededForsTree}
+use Rattle.slh_few.specs.declared.xmss.SeededXmssTree.{SeededXmssTree}
+
+abbrev pub seeded_xmss_tree_of : SeededXmssTree → MerkleTree
+seeded_xmss_tree_of t = xmss_tree_of t.tree
+
+abbrev pub seeded_fors_tree_of : SeededForsTree → MerkleTree
+seeded_fors_tree_of t = fors_tree_of t.tree
