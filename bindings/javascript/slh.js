@@ -143,6 +143,7 @@ class Calls {
     /** The n bytes of a randomizer. None at all, the deterministic variant, is had by name alone. */
     randomizer(set, { randomizer, deterministic = false }) {
         const { n } = this.lengths(set);
+        if (typeof deterministic !== "boolean") throw new TypeError("deterministic is true or false");
         if (deterministic) {
             if (randomizer !== undefined) throw new TypeError("a deterministic signature has no randomizer");
             return NONE;

@@ -126,6 +126,9 @@ test("randomizers are drawn", () => {
         refused(17, "BadRandomizerLength", () => secret.sign(letter, { randomizer: new Uint8Array(length) }));
     }
     assert.throws(() => secret.sign(letter, { randomizer: new Uint8Array(16), deterministic: true }), TypeError);
+    for (const other of ["false", 1, null]) {
+        assert.throws(() => secret.sign(letter, { deterministic: other }), { name: "TypeError", message: /true or false/ });
+    }
 });
 
 test("contexts have at most 255 bytes", () => {

@@ -179,6 +179,8 @@ def _random(count: int) -> bytes:
 
 def _randomizer(n: int, given: Bytes | None, deterministic: bool) -> bytes:
     """The randomizer of a signature. None at all, the deterministic variant, is had by name alone."""
+    if not isinstance(deterministic, bool):
+        raise TypeError("deterministic is True or False")
     if deterministic:
         if given is not None:
             raise TypeError("a deterministic signature has no randomizer")

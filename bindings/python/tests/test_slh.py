@@ -145,6 +145,9 @@ class Calls(unittest.TestCase):
         self.refused(17, "BadRandomizerLength", self.secret.sign, b"letter", randomizer=bytes(15))
         with self.assertRaises(TypeError):
             self.secret.sign(b"letter", randomizer=bytes(16), deterministic=True)
+        for other in ("no", 1, None):
+            with self.assertRaisesRegex(TypeError, "True or False"):
+                self.secret.sign(b"letter", deterministic=other)
 
     def test_contexts(self) -> None:
         longest, longer = bytes(255), bytes(256)
