@@ -79,12 +79,35 @@ def lengths(library, number):
     return [it.value for it in found]
 
 
-def read_key(path, kind):
-    """The set's number and the bytes of a key file, of either version."""
-    words = pathlib.Path(path).read_text(encoding="ascii").removesuffix("\n").split("\n")
-    if len(words) != 3 or words[0] not in (f"slh-dsa-{kind} 1", f"slh-dsa-{kind} 2") or words[1] not in SETS:
-        raise ValueError(f"{path} is no {kind} key file of a set of the standard")
-    return SETS.index(words[1]) + 1, bytes.fromhex(words[2])
+def erase(library, buffer):
+    library.slh_erase(buffer, ctypes.c_size_t(len(buffer)))
+
+
+def read_key(library, path, kind):
+    """The set's number and the bytes of a key file, of either version, in a buffer: to erase it is left to the caller.
+    A secret key's digits are nowhere else, since nothing erases Python's own texts."""
+    text = ctypes.create_string_buffer(1024)
+    try:
+        with open(path, "rb", buffering=0) as file:
+            count = file.readinto(text)
+        ends = [at for at in range(count) if text[at] == b"\n"]
+        if len(ends) == 2:
+            ends.append(count)
+        head, label = text[: ends[0]], text[ends[0] + 1 : ends[1]] if len(ends) == 3 else b""
+        if head not in (b"slh-dsa-%s 1" % kind, b"slh-dsa-%s 2" % kind) or label.decode("latin-1") not in SETS:
+            raise ValueError
+        digits = range(ends[1] + 1, ends[2])
+        is_whole = digits and len(digits) % 2 == 0 and ends[2] >= count - 1
+        if not is_whole or any(text[at] not in b"0123456789abcdefABCDEF" for at in digits):
+            raise ValueError
+        key = ctypes.create_string_buffer(len(digits) // 2)
+        for at in range(len(key)):
+            key[at] = int(text[digits[2 * at] : digits[2 * at] + 2], 16)
+        return SETS.index(label.decode()) + 1, key
+    except (ValueError, IndexError):
+        raise ValueError(f"{path} is no {kind.decode()} key file of a set of the standard") from None
+    finally:
+        erase(library, text)
 
 
 def read(path, most=-1):
@@ -136,8 +159,12 @@ def judge(library, task, sk, name):
 def judge_all(task, names):
     """What is so of each of these files. This is what threads and the workers of a cluster run."""
     library = ctypes.CDLL(task.library)
-    _, sk = read_key(task.secret, "secret") if task.secret else (None, None)
-    return [(name, judge(library, task, sk, name)) for name in names]
+    _, sk = read_key(library, task.secret, b"secret") if task.secret else (None, None)
+    try:
+        return [(name, judge(library, task, sk, name)) for name in names]
+    finally:
+        if sk:
+            erase(library, sk)
 
 
 class Report:
@@ -252,13 +279,17 @@ def checked_task(words):
     """What the arguments ask for. A secret key whose root is not that of its seeds is refused."""
     library = ctypes.CDLL(os.path.abspath(words.library))
     is_sign = words.command == "sign"
-    number, key = read_key(words.key, "secret" if is_sign else "public")
+    number, key = read_key(library, words.key, b"secret" if is_sign else b"public")
     pk_len, sk_len, _, _ = lengths(library, number)
-    if len(key) != (sk_len if is_sign else pk_len) or is_sign and call(library, "slh_check", number, key) != DONE:
+    is_whole = len(key) == (sk_len if is_sign else pk_len)
+    is_right = is_whole and (not is_sign or call(library, "slh_check", number, key) == DONE)
+    pk = key[-pk_len:]
+    erase(library, key)
+    if not is_right:
         raise ValueError(f"{words.key} has a key of another length, or one whose root is not that of its seeds")
     secret = os.path.abspath(words.key) if is_sign else None
     root = os.path.realpath(words.folder or ".")
-    return Task(os.path.abspath(words.library), number, key[-pk_len:], secret, root)
+    return Task(os.path.abspath(words.library), number, pk, secret, root)
 
 
 def wanted_names(words):

@@ -3,7 +3,8 @@ same bytes, writes it into FILE.sig, and says how long each took: sign_cluster.p
 
 THE ANSWERS OF THE JOBS ARE SECRET: who reads one can have the key. They lie in the memory of the workers and of the
 scheduler, and go over the connections between them. So trust each of these as the machine that has the key, have the
-connections encrypted (`distributed.security.Security`), and let no worker write to a disk what it holds.
+connections encrypted (`distributed.security.Security`), and let no worker write to a disk what it holds. This program
+erases its own buffers. What distributed holds of an answer, and sends, it does not erase: end its processes.
 
 KEY has the 128 bytes of a secret key, and each worker reads it and the library under the same paths as this program.
 Both signatures are of the deterministic variant, so that they can be compared. One that is given away takes 32 fresh
@@ -13,6 +14,7 @@ On one machine of 4 processors 4 workers made it in 0.39 s where slh_sign alone 
 x86-64-v3 in 0.20 where that took 0.22 to 0.31. The answers are 2.2 MB, which between machines go over the network. That
 was not tried.
 """
+import contextlib
 import ctypes
 import os
 import pathlib
@@ -21,6 +23,9 @@ import time
 
 import distributed
 
+if len(sys.argv) != 5:
+    print("usage: sign_cluster.py SCHEDULER libslh.so KEY FILE", file=sys.stderr)
+    sys.exit(2)
 SCHEDULER, LIBRARY, KEY, FILE = sys.argv[1], *map(os.path.abspath, sys.argv[2:])
 # 256s, with each XMSS tree cut into 2^3 ranges, and each FORS tree whole
 SET, LEVELS, SIGNATURE = 5, (3, 0), 29792
@@ -35,19 +40,36 @@ def call(name, *arguments):
         raise RuntimeError(f"{name}: {result}")
 
 
+@contextlib.contextmanager
+def erased(buffer):
+    """Erases a buffer in the end."""
+    try:
+        yield buffer
+    finally:
+        ctypes.CDLL(LIBRARY).slh_erase(buffer, ctypes.c_size_t(len(buffer)))
+
+
+def read_key():
+    """The secret key, in a buffer that can be erased. A key of another length is refused by each call."""
+    sk = ctypes.create_string_buffer(os.stat(KEY).st_size)
+    with open(KEY, "rb", buffering=0) as file:
+        file.readinto(sk)
+    return sk
+
+
 def answer(job, sk, start):
     """Does one job: where its answer stands, and the answer."""
     at, length = ctypes.c_size_t(), ctypes.c_size_t()
     call("slh_answer_place", SET, *LEVELS, job, ctypes.byref(at), ctypes.byref(length))
-    made = ctypes.create_string_buffer(length.value)
-    call("slh_sign_job", SET, *LEVELS, sk, start, job, made)
-    return at.value, made.raw
+    with erased(ctypes.create_string_buffer(length.value)) as made:
+        call("slh_sign_job", SET, *LEVELS, sk, start, job, made)
+        return at.value, made.raw
 
 
 def some_answers(jobs, start):
     """Does some jobs. This is what the workers run."""
-    sk = pathlib.Path(KEY).read_bytes()
-    return [answer(job, sk, start) for job in jobs]
+    with erased(read_key()) as sk:
+        return [answer(job, sk, start) for job in jobs]
 
 
 def sign_by_jobs(client, sk, message):
@@ -55,12 +77,13 @@ def sign_by_jobs(client, sk, message):
     call("slh_sign_jobs", SET, *LEVELS, *map(ctypes.byref, (jobs, start_len, answers_len)))
     start, sig = ctypes.create_string_buffer(start_len.value), ctypes.create_string_buffer(SIGNATURE)
     call("slh_sign_start", SET, sk, message, b"", b"", start)
-    answers, parts = bytearray(answers_len.value), 4 * sum(client.nthreads().values())
+    parts = 4 * sum(client.nthreads().values())
     shared = [range(first, jobs.value, parts) for first in range(parts)]
-    for some in client.gather(client.map(some_answers, shared, start=start.raw, pure=False)):
-        for at, made in some:
-            answers[at : at + len(made)] = made
-    call("slh_sign_join", SET, *LEVELS, sk, start, bytes(answers), sig)
+    with erased(ctypes.create_string_buffer(answers_len.value)) as answers:
+        for some in client.gather(client.map(some_answers, shared, start=start.raw, pure=False)):
+            for at, made in some:
+                ctypes.memmove(ctypes.byref(answers, at), made, len(made))
+        call("slh_sign_join", SET, *LEVELS, sk, start, answers, sig)
     return sig.raw
 
 
@@ -76,12 +99,17 @@ def timed(sign, *arguments):
 
 
 if __name__ == "__main__":
-    sk, message = (pathlib.Path(it).read_bytes() for it in (KEY, FILE))
-    with distributed.Client(SCHEDULER) as client:
+    try:
+        message, key = pathlib.Path(FILE).read_bytes(), read_key()
+    except OSError as fault:
+        print(fault, file=sys.stderr)
+        sys.exit(2)
+    with erased(key) as sk, distributed.Client(SCHEDULER) as client:
         by_jobs, seconds = timed(sign_by_jobs, client, sk, message)
         workers = len(client.nthreads())
-    alone, seconds_alone = timed(sign_alone, sk, message)
-    call("slh_verify", SET, sk[64:], message, b"", by_jobs)
+        alone, seconds_alone = timed(sign_alone, sk, message)
+        pk = sk[64:]
+    call("slh_verify", SET, pk, message, b"", by_jobs)
     if by_jobs != alone:
         sys.exit("the signatures differ")
     pathlib.Path(FILE + ".sig").write_bytes(by_jobs)

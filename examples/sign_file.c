@@ -1,5 +1,6 @@
-/* Makes a key, signs a file and verifies the signature, and then writes it into FILE.sig and the public key into
-   FILE.pub: sign_file FILE */
+/* Makes a key, signs a file and verifies the signature, and then writes it into FILE.sig and the public key, as a key
+   file of slh, into FILE.pub: sign_file FILE
+   So it verifies by: slh verify --key FILE.pub --message FILE --signature FILE.sig */
 #include <slh.h>
 
 #include <stdio.h>
@@ -16,43 +17,51 @@ static void expect_done(const char *step, uint32_t result) {
     exit(1);
 }
 
+static FILE *opened(const char *path, const char *suffix, const char *mode) {
+    char name[4096];
+    int is_whole = (size_t)snprintf(name, sizeof name, "%s%s", path, suffix) < sizeof name;
+    FILE *file = is_whole ? fopen(name, mode) : NULL;
+    if (file == NULL) perror(name), exit(2);
+    return file;
+}
+
 static uint8_t *read_file(const char *path, size_t *len) {
-    FILE *file = fopen(path, "rb");
+    FILE *file = opened(path, "", "rb");
     uint8_t *bytes = NULL;
     size_t room = 0, got = 0;
-    while (file != NULL && !feof(file) && !ferror(file)) {
+    while (!feof(file) && !ferror(file)) {
         if (got == room && (bytes = realloc(bytes, room = 2 * room + 4096)) == NULL) break;
         got += fread(bytes + got, 1, room - got, file);
     }
-    if (bytes == NULL || ferror(file)) exit(1);
+    if (bytes == NULL || ferror(file)) perror(path), exit(2);
     fclose(file);
     *len = got;
     return bytes;
 }
 
-static void write_file(const char *path, const char *suffix, const uint8_t *bytes, size_t len) {
-    char name[4096];
-    int is_whole = (size_t)snprintf(name, sizeof name, "%s%s", path, suffix) < sizeof name;
-    FILE *file = is_whole ? fopen(name, "wb") : NULL;
-    if (file == NULL || fwrite(bytes, 1, len, file) != len || fclose(file) != 0) exit(1);
-}
-
 int main(int count, char **words) {
     uint8_t seeds[4 * N], sk[SLH_DSA_SHA2_128F_SECRET_KEY], pk[SLH_DSA_SHA2_128F_PUBLIC_KEY];
     static uint8_t sig[SLH_DSA_SHA2_128F_SIGNATURE];
-    if (count != 2) return 2;
+    if (count != 2) return fputs("usage: sign_file FILE\n", stderr), 2;
     size_t len;
     uint8_t *msg = read_file(words[1], &len);
-    FILE *random = fopen("/dev/urandom", "rb");
-    if (random == NULL || fread(seeds, 1, sizeof seeds, random) != sizeof seeds || fclose(random) != 0) return 1;
+    FILE *random = opened("/dev/urandom", "", "rb");
+    setbuf(random, NULL); /* a buffer of C would keep a copy of the seeds */
+    if (fread(seeds, 1, sizeof seeds, random) != sizeof seeds || fclose(random) != 0) return 1;
 
     expect_done("keygen", slh_keygen(SET, seeds, N, seeds + N, N, seeds + 2 * N, N, sk, sizeof sk));
     expect_done("public", slh_public(SET, sk, sizeof sk, pk, sizeof pk));
     /* an empty context, and a randomizer of n bytes */
     expect_done("sign", slh_sign(SET, sk, sizeof sk, msg, len, NULL, 0, seeds + 3 * N, N, sig, sizeof sig));
+    slh_erase(seeds, sizeof seeds);
+    slh_erase(sk, sizeof sk);
     expect_done("verify", slh_verify(SET, pk, sizeof pk, msg, len, NULL, 0, sig, sizeof sig));
-    write_file(words[1], ".sig", sig, sizeof sig);
-    write_file(words[1], ".pub", pk, sizeof pk);
+
+    FILE *out = opened(words[1], ".sig", "wb"), *key = opened(words[1], ".pub", "wb");
+    if (fwrite(sig, 1, sizeof sig, out) != sizeof sig || fclose(out) != 0) return 1;
+    fputs("slh-dsa-public 2\nSLH-DSA-SHA2-128f\n", key);
+    for (size_t at = 0; at < sizeof pk; at++) fprintf(key, "%02x%s", pk[at], at + 1 < sizeof pk ? "" : "\n");
+    if (ferror(key) || fclose(key) != 0) return 1;
     puts("valid");
     free(msg);
     return 0;

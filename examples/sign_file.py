@@ -1,12 +1,17 @@
-"""Makes a key, signs a file and verifies the signature, and then writes it into FILE.sig and the public key into
-FILE.pub: python3 sign_file.py libslh.so FILE"""
+"""Makes a key, signs a file and verifies the signature, and then writes it into FILE.sig and the public key, as a key
+file of slh, into FILE.pub: python3 sign_file.py libslh.so FILE
+So it verifies by: slh verify --key FILE.pub --message FILE --signature FILE.sig"""
 import ctypes
 import os
 import pathlib
 import sys
 
-SET = 2  # SLH_DSA_SHA2_128F
-library = ctypes.CDLL(os.path.abspath(sys.argv[1]))
+SET, LABEL = 2, "SLH-DSA-SHA2-128f"
+
+
+def end(why):
+    print(why, file=sys.stderr)
+    sys.exit(2)
 
 
 def call(name, *arguments):
@@ -30,20 +35,38 @@ def done(name, *arguments):
         sys.exit(f"{name}: {result} {refusal.value.decode() or 'Invalid'}")
 
 
+def drawn(count):
+    """Random bytes in a buffer that can be erased, as those of os.urandom can't be."""
+    made = ctypes.create_string_buffer(count)
+    with open("/dev/urandom", "rb", buffering=0) as source:
+        if source.readinto(made) != count:
+            sys.exit("no random bytes")
+    return made
+
+
+if len(sys.argv) != 3:
+    end("usage: python3 sign_file.py libslh.so FILE")
+path = pathlib.Path(sys.argv[2])
+try:
+    library = ctypes.CDLL(os.path.abspath(sys.argv[1]))
+    message = path.read_bytes()
+except OSError as fault:
+    end(fault)
 lengths = [ctypes.c_size_t() for _ in range(4)]
 if library.slh_lengths(SET, *map(ctypes.byref, lengths)) != 0:
     sys.exit("no such set")
 pk_len, sk_len, sig_len, n = (it.value for it in lengths)
-
-path = pathlib.Path(sys.argv[2])
-message = path.read_bytes()
 sk, pk, sig = (ctypes.create_string_buffer(it) for it in (sk_len, pk_len, sig_len))
-done("slh_keygen", SET, os.urandom(n), os.urandom(n), os.urandom(n), sk)
-done("slh_public", SET, sk, pk)
-
-# an empty context, and a randomizer of n bytes
-done("slh_sign", SET, sk, message, b"", os.urandom(n), sig)
+seeds = [drawn(n) for _ in range(3)]
+try:
+    done("slh_keygen", SET, *seeds, sk)
+    done("slh_public", SET, sk, pk)
+    # an empty context, and a randomizer of n bytes
+    done("slh_sign", SET, sk, message, b"", os.urandom(n), sig)
+finally:
+    for it in [*seeds, sk]:
+        library.slh_erase(it, ctypes.c_size_t(len(it)))
 done("slh_verify", SET, pk, message, b"", sig)
 path.with_name(path.name + ".sig").write_bytes(sig.raw)
-path.with_name(path.name + ".pub").write_bytes(pk.raw)
+path.with_name(path.name + ".pub").write_text(f"slh-dsa-public 2\n{LABEL}\n{pk.raw.hex()}\n")
 print("valid")

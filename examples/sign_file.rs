@@ -1,6 +1,7 @@
-//! Makes a key, signs a file and verifies the signature, and then writes it into FILE.sig and the public key into
-//! FILE.pub: sign_file FILE
-use std::{env, error::Error, fs, io::Read};
+//! Makes a key, signs a file and verifies the signature, and then writes it into FILE.sig and the public key, as a key
+//! file of slh, into FILE.pub: sign_file FILE
+//! So it verifies by: slh verify --key FILE.pub --message FILE --signature FILE.sig
+use std::{env, fs, io::Read, process::ExitCode};
 
 const SET: u32 = 2; // SLH_DSA_SHA2_128F
 const N: usize = 16;
@@ -8,6 +9,7 @@ const N: usize = 16;
 #[rustfmt::skip]
 #[link(name = "slh", kind = "static")]
 unsafe extern "C" {
+    fn slh_erase(bytes: *mut u8, n: usize);
     fn slh_keygen(set: u32, sk_seed: *const u8, sk_seed_len: usize, sk_prf: *const u8, sk_prf_len: usize,
         pk_seed: *const u8, pk_seed_len: usize, sk: *mut u8, sk_len: usize) -> u32;
     fn slh_public(set: u32, sk: *const u8, sk_len: usize, pk: *mut u8, pk_len: usize) -> u32;
@@ -17,23 +19,32 @@ unsafe extern "C" {
         sig: *const u8, sig_len: usize) -> u32;
 }
 
+/// Bytes that are erased when they are dropped. They stay in their place where a Secret is moved.
+struct Secret(Vec<u8>);
+
+impl Drop for Secret {
+    fn drop(&mut self) {
+        // SAFETY: each pointer has the length that follows it, and each output is a buffer of its own. So below.
+        unsafe { slh_erase(self.0.as_mut_ptr(), self.0.len()) }
+    }
+}
+
 fn done(step: &str, result: u32) -> Result<(), String> {
     if result == 0 { Ok(()) } else { Err(format!("{step}: {result}")) }
 }
 
 #[rustfmt::skip]
-fn keygen(seeds: &[[u8; N]; 4]) -> Result<([u8; 4 * N], [u8; 2 * N]), String> {
-    let (mut sk, mut pk) = ([0; 4 * N], [0; 2 * N]);
-    // SAFETY: each pointer has the length that follows it, and the output is a buffer of its own. So below.
-    done("keygen", unsafe { slh_keygen(SET, seeds[0].as_ptr(), N, seeds[1].as_ptr(), N, seeds[2].as_ptr(), N, sk.as_mut_ptr(), sk.len()) })?;
-    done("public", unsafe { slh_public(SET, sk.as_ptr(), sk.len(), pk.as_mut_ptr(), pk.len()) })?;
+fn keygen(seeds: &Secret) -> Result<(Secret, Vec<u8>), String> {
+    let (mut sk, mut pk, seed) = (Secret(vec![0; 4 * N]), vec![0; 2 * N], |at| seeds.0[at * N..][..N].as_ptr());
+    done("keygen", unsafe { slh_keygen(SET, seed(0), N, seed(1), N, seed(2), N, sk.0.as_mut_ptr(), sk.0.len()) })?;
+    done("public", unsafe { slh_public(SET, sk.0.as_ptr(), sk.0.len(), pk.as_mut_ptr(), pk.len()) })?;
     Ok((sk, pk))
 }
 
 #[rustfmt::skip]
-fn sign(sk: &[u8], msg: &[u8], ctx: &[u8], randomizer: &[u8]) -> Result<Vec<u8>, String> {
+fn sign(sk: &Secret, msg: &[u8], ctx: &[u8], randomizer: &[u8]) -> Result<Vec<u8>, String> {
     let mut sig = vec![0; 17088];
-    done("sign", unsafe { slh_sign(SET, sk.as_ptr(), sk.len(), msg.as_ptr(), msg.len(), ctx.as_ptr(), ctx.len(),
+    done("sign", unsafe { slh_sign(SET, sk.0.as_ptr(), sk.0.len(), msg.as_ptr(), msg.len(), ctx.as_ptr(), ctx.len(),
         randomizer.as_ptr(), randomizer.len(), sig.as_mut_ptr(), sig.len()) })?;
     Ok(sig)
 }
@@ -43,16 +54,36 @@ fn verify(pk: &[u8], msg: &[u8], ctx: &[u8], sig: &[u8]) -> Result<(), String> {
     done("verify", unsafe { slh_verify(SET, pk.as_ptr(), pk.len(), msg.as_ptr(), msg.len(), ctx.as_ptr(), ctx.len(), sig.as_ptr(), sig.len()) })
 }
 
-fn main() -> Result<(), Box<dyn Error>> {
-    let path = env::args().nth(1).ok_or("sign_file FILE")?;
-    let msg = fs::read(&path)?;
-    let mut seeds = [[0; N]; 4];
-    fs::File::open("/dev/urandom")?.read_exact(seeds.as_flattened_mut())?;
+/// Signs a message: the signature, and the public key as a key file.
+fn signed(msg: &[u8]) -> Result<(Vec<u8>, String), String> {
+    let mut seeds = Secret(vec![0; 4 * N]);
+    let random = fs::File::open("/dev/urandom").and_then(|mut it| it.read_exact(&mut seeds.0));
+    random.map_err(|fault| fault.to_string())?;
     let (sk, pk) = keygen(&seeds)?;
-    let sig = sign(&sk, &msg, b"", &seeds[3])?;
-    verify(&pk, &msg, b"", &sig)?;
-    fs::write(format!("{path}.sig"), &sig)?;
-    fs::write(format!("{path}.pub"), &pk)?;
+    let sig = sign(&sk, msg, b"", &seeds.0[3 * N..])?;
+    verify(&pk, msg, b"", &sig)?;
+    let digits: String = pk.iter().map(|byte| format!("{byte:02x}")).collect();
+    Ok((sig, format!("slh-dsa-public 2\nSLH-DSA-SHA2-128f\n{digits}\n")))
+}
+
+fn end(status: u8, why: impl std::fmt::Display) -> ExitCode {
+    eprintln!("{why}");
+    ExitCode::from(status)
+}
+
+fn main() -> ExitCode {
+    let Some(path) = env::args().nth(1) else { return end(2, "usage: sign_file FILE") };
+    let msg = match fs::read(&path) {
+        Ok(msg) => msg,
+        Err(fault) => return end(2, format!("{path}: {fault}")),
+    };
+    let (sig, key) = match signed(&msg) {
+        Ok(made) => made,
+        Err(fault) => return end(1, fault),
+    };
+    if let Err(fault) = fs::write(format!("{path}.sig"), sig).and(fs::write(format!("{path}.pub"), key)) {
+        return end(1, fault);
+    }
     println!("valid");
-    Ok(())
+    ExitCode::SUCCESS
 }

@@ -1,15 +1,15 @@
 #!/usr/bin/env python3
 """Tries examples/archive.py and examples/sign_cluster.py, by threads and on a cluster of two workers on this machine.
 
-usage: tools/archive_tests.py [--after-ci | LIBRARY]
+usage: tools/archive_tests.py [--few] [--after-ci | --dist DIST | LIBRARY]
 
-LIBRARY is libslh.so. Without it tools/library.sh installs one, under --after-ci as that script says. The archive has
+LIBRARY is libslh.so. Without it tools/library.sh installs one, under --after-ci and of a release as that script says.
+With --few an archive is verified by threads, and that is all. The archive has
 over a thousand signatures of vectors/, some damaged, and some that can't be read. A worker is killed in the middle, and
 runs are stopped and ended by force in the middle: each file must then stand once in the report, with what is so of it.
 
-The cluster needs Debian's python3-distributed, which tools/install_emulators.sh installs, and Debian's python3. Where
-it is missing, the tests on the cluster are skipped: they count neither as passed nor as failed. The last line has the
-counts, and the status is 0 where nothing failed.
+The cluster needs Debian's python3-distributed, which tools/setup.sh installs, and Debian's python3. Where it is
+missing, the tests on the cluster are skipped. The last line has the counts, and the status is 0 where nothing failed.
 """
 import collections
 import json
@@ -22,21 +22,20 @@ import sys
 import tempfile
 import time
 
-here = pathlib.Path(__file__).resolve().parent.parent
+sys.dont_write_bytecode = True
+import counts
+
+here = counts.HERE
 python = "/usr/bin/python3" if os.path.exists("/usr/bin/python3") else sys.executable
-passed = failed = 0
 
 
 def tell(name, test, *arguments):
     """Runs a test, and counts it."""
-    global passed, failed
     try:
         test(*arguments)
-        passed += 1
-        print(f"{name}: yes", flush=True)
+        counts.count("passed", f"{name}: yes")
     except Exception as fault:
-        failed += 1
-        print(f"{type(fault).__name__}: {fault}\n{name}: no", flush=True)
+        counts.count("failed", f"{type(fault).__name__}: {fault}\n{name}: no")
 
 
 def expect(is_so, what):
@@ -255,6 +254,26 @@ class Runs:
         expect("is no public key file" in self.ends(2, report, key=report), "no key file")
         expect(report.read_bytes() == whole, "the report was changed")
 
+    def odd_keys_are_refused(self):
+        """Key files that are none, or not of this kind, and those of version 1 and without the last line feed."""
+        digits, head = self.archive.pk.hex(), "slh-dsa-public 2\nSLH-DSA-SHA2-128f\n"
+        odd, empty = self.work / "odd.key", self.work / "empty"
+        empty.mkdir()
+        for text in (head.replace("public 2", "public 1") + digits, head + digits.upper() + "\n"):
+            odd.write_text(text)
+            (self.work / "odd").unlink(missing_ok=True)
+            self.ends(0, self.work / "odd", key=odd, folder=empty)
+        for text in ("", head, head[:-1], digits, head + digits + "\n\n", head + digits + "\nx", head + digits[1:],
+                     head + " " + digits[1:], head + "+f" + digits[2:], head + "g" + digits[1:], head + digits + "0",
+                     head.replace("128f", "128x") + digits, head.replace("public", "secret") + digits,
+                     head + 1000 * digits):
+            odd.write_text(text)
+            expect("is no public key file" in self.ends(2, self.work / "odd", key=odd, folder=empty), repr(text[:80]))
+        for text in (head + digits[2:], head + digits + "00"):
+            odd.write_text(text)
+            expect("another length" in self.ends(2, self.work / "odd", key=odd, folder=empty), repr(text))
+        expect("No such file" in self.ends(2, self.work / "odd", key=self.work / "none", folder=empty), "no key file")
+
     def of_a_list(self):
         """Of a list just its files are done, and the status is 0 where all are valid; under another key none are."""
         names = [it for it, word in self.archive.wanted.items() if word == "valid" and "\n" not in it][-40:]
@@ -308,12 +327,15 @@ class Runs:
         expect(done.returncode == 1 and not made.exists() and "slh_sign_join: 25" in done.stderr, done.stderr[-2000:])
 
 
-def installed(work, words):
+def installed(work, release, words):
     """The library that is given, or the one that tools/library.sh installs."""
+    library = work / "prefix" / "lib" / "libslh.so"
     if words and words[0] != "--after-ci":
-        return pathlib.Path(words[0]).resolve()
-    subprocess.run([here / "tools" / "library.sh", *words, work / "prefix"], check=True, stdout=subprocess.DEVNULL)
-    return work / "prefix" / "lib" / "libslh.so"
+        library = pathlib.Path(words[0]).resolve()
+    else:
+        words = ["--dist", release] if release else words
+        subprocess.run([here / "tools" / "library.sh", *words, work / "prefix"], stdout=subprocess.DEVNULL)
+    return library if library.is_file() else counts.nothing_to_test(f"there is no library: {library}")
 
 
 def has_distributed():
@@ -323,21 +345,23 @@ def has_distributed():
 def main():
     work = pathlib.Path(tempfile.mkdtemp())
     try:
-        runs = Runs(installed(work, sys.argv[1:]), work)
+        release, few, words = counts.take_options(sys.argv[1:])
+        runs = Runs(installed(work, release, words), work)
         tell("an archive by threads", runs.by_threads)
+        if few:
+            return
         tell("a run by threads that is stopped goes on", runs.stopped, "stopped", "--threads", 2)
         tell("a run that is ended by force goes on", runs.ended_by_force)
         tell("reports are not mixed", runs.reports_are_not_mixed)
         tell("the files of a list", runs.of_a_list)
+        tell("key files of other kinds are refused", runs.odd_keys_are_refused)
         tell("files are signed by threads", runs.signs, "signed", "--threads", 2)
         if has_distributed():
             on_the_cluster(runs, Cluster(work / "cluster_files"))
         else:
-            print("the cluster: SKIPPED, since there is no python3-distributed")
+            counts.skip("the cluster", "there is no python3-distributed")
     finally:
         shutil.rmtree(work)
-    print(f"{passed} passed, {failed} failed")
-    sys.exit(failed != 0)
 
 
 def on_the_cluster(runs, cluster):
@@ -352,3 +376,4 @@ def on_the_cluster(runs, cluster):
 
 
 main()
+counts.end_counts()

@@ -1,10 +1,11 @@
 #!/usr/bin/env python3
 """Times key generation, signing and verifying in one thread, for each set, beside OpenSSL.
 
-It builds the program slh_bench for x86-64-v2 and for x86-64-v3, or for the one of these that SLH_CPU names, and where
-OPENSSL names a folder, tools/openssl_times.c over the OpenSSL there. In each turn each program has its runs of each
-task, one program after the other, so that all meet each state of the machine. A row has the least time of one run in
-milliseconds, by program, and its ratio to OpenSSL's. Afterwards it prints what one compression of sha2 takes.
+It builds the program slh_bench for x86-64-v2, x86-64-v3 and x86-64-v4, or for the one of these that SLH_CPU names
+(without it x86-64-v4 is left out where the processor lacks it), and where OPENSSL names a folder, tools/openssl_times.c
+over the OpenSSL there. In each turn each program has its runs of each task, one program after the other, so that all
+meet each state of the machine. A row has the least time of one run in milliseconds, by program, and its ratio to
+OpenSSL's. Afterwards it prints what one compression of sha2 takes.
 Needs `rt`. Usage: tools/benchmark.py [--turns N] [SET ..]
        tools/benchmark.py --workers [SET ..]
 
@@ -29,7 +30,7 @@ PREFIX = "SLH-DSA-SHA2-"
 SETS = [f"{PREFIX}{size}{kind}" for size in (128, 192, 256) for kind in "sf"]
 ROOT = os.path.dirname(os.path.dirname(os.path.abspath(__file__)))
 FOLDER = os.path.join(ROOT, "crates", "slh_bench")
-LEVELS = ["x86-64-v2", "x86-64-v3"]
+LEVELS = ["x86-64-v2", "x86-64-v3", "x86-64-v4"]
 OPENSSL = "OpenSSL"
 TURNS = 10
 WORKERS = (1, 2, 4)
@@ -39,11 +40,23 @@ WORKERS_TURNS = 10
 BLOCKS = {"sha256": 65536 // 64 + 1, "sha512": 65536 // 128 + 1}
 
 
+def levels():
+    """The levels to build for. A program for x86-64-v4 would end by a signal where the processor lacks that level."""
+    with open("/proc/cpuinfo", encoding="ascii", errors="replace") as lines:
+        flags = next((line.split() for line in lines if line.startswith("flags")), [])
+    has_v4 = {"avx512f", "avx512bw", "avx512cd", "avx512dq", "avx512vl"}.issubset(flags)
+    return LEVELS if has_v4 else LEVELS[:-1]
+
+
 def built(level, folder):
     """The program slh_bench for a level of processors, or for what `rt` builds by default."""
     program = os.path.join(folder, f"slh_bench-{level}")
-    cpu = [f"--cpu={level}"] if level else []
-    subprocess.run(["rt", "run", *cpu], cwd=FOLDER, check=True, stdout=subprocess.DEVNULL, stderr=subprocess.DEVNULL)
+    quiet = dict(cwd=FOLDER, check=True, stdout=subprocess.DEVNULL, stderr=subprocess.DEVNULL)
+    if level == "x86-64-v4":  # rt knows no such level
+        subprocess.run(["rt", "check"], **quiet)
+        subprocess.run([os.path.join(ROOT, "tools", "program.sh"), level, program, "slh_bench"], **quiet)
+        return program
+    subprocess.run(["rt", "run", *([f"--cpu={level}"] if level else [])], **quiet)
     shutil.copy(os.path.join(FOLDER, "out", "slh_bench"), program)
     return program
 
@@ -102,7 +115,7 @@ def print_one_thread(sets, turns):
     with tempfile.TemporaryDirectory() as folder:
         prefix = os.environ.get("OPENSSL")
         other = {OPENSSL: built_openssl(prefix, folder)} if prefix else {}
-        ours = {level.removeprefix("x86-64-"): built(level, folder) for level in ([level] if level else LEVELS)}
+        ours = {level.removeprefix("x86-64-"): built(level, folder) for level in ([level] if level else levels())}
         least, compression = {}, {}
         for _ in range(turns):
             compression_turn(ours, compression)

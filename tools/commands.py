@@ -1,11 +1,12 @@
 #!/usr/bin/env python3
 """Runs the program `slh` over tables of command lines, and compares what it writes.
 
-usage: tools/commands.py [TABLES [PROGRAM]]
+usage: tools/commands.py [--few] [--dist DIST] [TABLES [PROGRAM]]
 
-TABLES is a folder of tables (default: vectors/commands), PROGRAM the program (default: crates/slh/out/slh, which
-`rt ci` leaves built). A row is a line, a JSON object; lines that begin with `#` are comments. The rows of a table run
-in order in a folder of their own, which is empty at first. Bytes that are no ASCII stand as the characters 80 to ff.
+TABLES is a folder of tables (default: vectors/commands), PROGRAM the program (default: crates/slh/out/slh, which `rt
+ci` leaves built); --dist takes the one of a release. With --few only tables of under 5,000 bytes are run. A row is a
+line, a JSON object; lines that begin with `#` are comments. The rows of a table run in order in a folder of their
+own, which is empty at first. Bytes that are no ASCII stand as the characters 80 to ff.
 Members:
 
 - `words`: the arguments;
@@ -29,9 +30,13 @@ import subprocess
 import sys
 import tempfile
 
-here = pathlib.Path(__file__).resolve().parent.parent
-tables = pathlib.Path(sys.argv[1] if len(sys.argv) > 1 else here / "vectors" / "commands")
-program = str(pathlib.Path(sys.argv[2] if len(sys.argv) > 2 else here / "crates" / "slh" / "out" / "slh").resolve())
+sys.dont_write_bytecode = True
+import counts
+
+here = counts.HERE
+release, few, words = counts.take_options(sys.argv[1:])
+tables = pathlib.Path(words[0] if words else here / "vectors" / "commands")
+program = counts.choose_program(release, words[1] if len(words) > 1 else here / "crates" / "slh" / "out" / "slh")
 ANSWERS = ["output", "sha256", "contains"]
 MEMBERS = {"words", "status", "errors", "input", "write", "keep", "cut", "put", "flip", "add", *ANSWERS}
 
@@ -89,21 +94,13 @@ def run(row, folder):
     return f"output without {missing}" if missing else None
 
 
-passed, failed = 0, 0
-
-
 def tell(name, fault):
     """Counts a row, and prints what is wrong with it."""
-    global passed, failed
-    if fault is None:
-        passed += 1
-    else:
-        failed += 1
-        print(f"{name}: {fault}")
+    counts.count("passed" if fault is None else "failed", None if fault is None else f"{name}: {fault}")
 
 
-found = []
-for table in sorted(tables.glob("*.jsonl")):
+found, run_tables = [], [it for it in sorted(tables.glob("*.jsonl")) if not few or it.stat().st_size < 5000]
+for table in run_tables:
     rows = collections.Counter()
     with tempfile.TemporaryDirectory() as folder:
         for number, line in enumerate(table.read_text().splitlines(), 1):
@@ -119,6 +116,7 @@ for table in sorted(tables.glob("*.jsonl")):
     found += [f"{table.stem} {command} {count}" for command, count in sorted(rows.items())]
 print("\n".join(found))
 listed = (tables / "rows.txt").read_text().splitlines() if (tables / "rows.txt").exists() else []
+if few:
+    listed = [it for it in listed if it.split()[0] in {table.stem for table in run_tables}]
 tell("rows.txt", None if found and listed == found else "these are not the rows that it has")
-print(f"{passed} passed, {failed} failed")
-sys.exit(failed != 0)
+counts.end_counts()

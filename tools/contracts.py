@@ -1,10 +1,12 @@
 #!/usr/bin/env python3
 """Writes docs/CONTRACTS.md from the sources: for each file of each crate the calls that other crates have, the names of
 the clauses of their contracts, and the wrong bodies that the prover has to refuse, as edits in must-fail/ (tried by `rt ci`) and
-wrong/ (tried by tools/wrong_bodies.py). A private function is listed where an edit turns it. It also looks whether the
-code on docs/CALLING.md is that of crates/slh_hello and crates/slh_examples, and its lines of crates.txt.
+wrong/ (tried by tools/wrong_bodies.py). A private function is listed where an edit turns it. It writes into
+docs/AUDIT.md how many lines the files of definitions have that the page names. It also looks whether the code on
+docs/CALLING.md is that of crates/slh_hello and crates/slh_examples, and its lines of crates.txt, and whether the
+clauses that README.md and docs/AUDIT.md name stand in the sources.
 
-Usage: tools/contracts.py           writes the page
+Usage: tools/contracts.py           writes the pages
        tools/contracts.py --check   fails where the page or the code is not what the sources say
 """
 import glob
@@ -15,6 +17,8 @@ import sys
 ROOT = os.path.dirname(os.path.dirname(os.path.abspath(__file__)))
 PAGE = os.path.join(ROOT, "docs", "CONTRACTS.md")
 CALLING = os.path.join(ROOT, "docs", "CALLING.md")
+AUDIT = os.path.join(ROOT, "docs", "AUDIT.md")
+README = os.path.join(ROOT, "README.md")
 UNNAMED = "one, unnamed"
 HEAD = """# Every call, its clauses and its wrong bodies
 
@@ -159,15 +163,52 @@ def strange_code():
     return strange + [line for line in lines if line not in known]
 
 
+def with_lines(page):
+    """The page AUDIT, with the numbers of lines that its files of definitions have."""
+    counts = []
+
+    def counted(row):
+        names = re.findall(r"(\w+) \d+", row[2])
+        lines = [read(row[1], "specs", f"{name}.antt").count("\n") for name in names]
+        counts.extend(lines)
+        return f"| `{row[1]}/specs` | {', '.join(f'{name} {count}' for name, count in zip(names, lines))} |"
+
+    page = re.sub(r"^\| `(\w+)/specs` \| ([\w, ]+) \|", counted, page, flags=re.M)
+    return re.sub(r"\d+ lines in all", f"{sum(counts)} lines in all", page)
+
+
+def missing_clauses():
+    """Of the clauses that README names for a crate, and AUDIT for a function of a file, those that are not there."""
+    with open(README) as readme, open(AUDIT) as audit:
+        crate_rows = re.findall(r"^\| (slh_\w+) \| .* \| (`.*`.*?) \|$", readme.read(), re.M)
+        rows = re.findall(r"^\| (?:`(\w+)`|the one) of `([\w:]+)` \| `(\w+)/(src/[\w/]+\.rt)` \|", audit.read(), re.M)
+    if len(crate_rows) < 10 or len(rows) != 5:
+        yield f"{len(crate_rows)} crates with clauses in README.md, {len(rows)} clauses in docs/AUDIT.md"
+    for crate, named in crate_rows:
+        known = {clause for path in sources(crate) for function in functions(crate, path) for clause in function[3]}
+        known |= {name for path in sources(crate) for _, name, _, _ in functions(crate, path)}
+        yield from (f"{name} of {crate}" for name in re.findall(r"`(\w+)`", named) if name not in known)
+    for clause, function, crate, path in rows:
+        if not any(name == function and (clause or UNNAMED) in all for _, name, _, all in functions(crate, path)):
+            yield f"{clause or UNNAMED} of {function} in {path} of {crate}"
+
+
 def main():
     written = head() + "".join(rows_of(crate) for crate in crates())
+    with open(AUDIT) as file:
+        audit = file.read()
     if "--check" not in sys.argv[1:]:
         with open(PAGE, "w") as file:
             file.write(written)
+        with open(AUDIT, "w") as file:
+            file.write(with_lines(audit))
     else:
         with open(PAGE) as file:
-            if file.read() != written:
-                sys.exit("docs/CONTRACTS.md is not what the sources say: run tools/contracts.py")
+            if (file.read(), audit) != (written, with_lines(audit)):
+                sys.exit("docs/CONTRACTS.md or docs/AUDIT.md is not what the sources say: run tools/contracts.py")
+    missing = list(missing_clauses())
+    if missing:
+        sys.exit("README.md or docs/AUDIT.md names clauses that are not there: " + "; ".join(missing))
     strange = strange_code()
     if strange:
         sys.exit("docs/CALLING.md has what no file of slh_hello or slh_examples and no line of crates.txt has: "

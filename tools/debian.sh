@@ -1,9 +1,10 @@
 #!/usr/bin/env bash
 # Makes Debian packages of a release into FOLDER, for amd64:
 #
-#   libslh0      libslh.so.0, and its build for processors of the level x86-64-v3, which glibc takes by itself
-#   libslh-dev   the headers, libslh.a, libslh_verify.a, and the files for pkg-config
-#   slh          the program, built for both levels, its man page, and completions for bash and zsh
+#   libslh0      libslh.so.0, with the code for all levels of processors
+#   libslh-dev   the headers, the archives, and the files for pkg-config and CMake
+#   slh          the program, built for all levels, its man page, and completions for bash and zsh
+#   slh-openssl  the provider for OpenSSL, where bindings/openssl/build.sh finds OpenSSL 3.5 and a C compiler
 #
 # usage: tools/debian.sh [DIST] FOLDER
 #
@@ -114,26 +115,30 @@ build() {
 
 make_libslh0() {
     begin libslh0
-    put 644 x86-64-v2/libslh.so.0 $lib/libslh.so.0
-    put 644 x86-64-v3/libslh.so.0 $lib/glibc-hwcaps/x86-64-v3/libslh.so.0
-    (cd "$root" && strip --strip-unneeded $lib/libslh.so.0 $lib/glibc-hwcaps/x86-64-v3/libslh.so.0)
+    put 644 x86-64/libslh.so.0 $lib/libslh.so.0
+    (cd "$root" && strip --strip-unneeded $lib/libslh.so.0)
     echo "libslh 0 libslh0 (>= $upstream)" | write DEBIAN/shlibs
     echo "activate-noawait ldconfig" | write DEBIAN/triggers
-    build libslh0 $lib/libslh.so.0 $lib/glibc-hwcaps/x86-64-v3/libslh.so.0
+    build libslh0 $lib/libslh.so.0
 }
 
 make_libslh_dev() {
-    local file
+    local file level
     begin libslh-dev
     for file in slh.h slh_internal.h slh_verify.h; do
         put 644 include/$file usr/include/$file
     done
-    for file in libslh.a libslh_verify.a; do
-        put 644 x86-64-v2/$file $lib/$file
+    put 644 x86-64/libslh.a $lib/libslh.a
+    for level in v2 v3 v4; do
+        put 644 x86-64-$level/libslh.a $lib/libslh-$level.a
     done
+    put 644 x86-64-v2/libslh_verify.a $lib/libslh_verify.a
     ln -s libslh.so.0 "$root/$lib/libslh.so"
     pkgconfig slh "SLH-DSA (FIPS 205) with SHA-2, proved by machine"
     pkgconfig slh_verify "Verifying signatures of SLH-DSA (FIPS 205) with SHA-2, proved by machine"
+    write $lib/cmake/slh/slh-config.cmake <"$here/bindings/cmake/slh-config.cmake"
+    sed "s/@version@/$upstream/" "$here/bindings/cmake/slh-config-version.cmake.in" |
+        write $lib/cmake/slh/slh-config-version.cmake
     build libslh-dev
 }
 
@@ -143,19 +148,38 @@ texts() { "$here/packages/debian/from_help.py" "$root/usr/libexec/slh/x86-64-v2/
 make_slh() {
     local level
     begin slh
-    for level in x86-64-v2 x86-64-v3; do
+    for level in x86-64-v2 x86-64-v3 x86-64-v4; do
         put 755 $level/slh usr/libexec/slh/$level/slh
     done
-    install -D -m 755 "$here/packages/debian/slh.sh" "$root/usr/bin/slh"
+    sed 's|@FOLDER@|libexec/slh|' "$here/packages/slh.sh" | write usr/bin/slh
+    chmod 755 "$root/usr/bin/slh"
     texts man | gzip -9n | write usr/share/man/man1/slh.1.gz
     texts bash | write usr/share/bash-completion/completions/slh
     texts zsh | write usr/share/zsh/vendor-completions/_slh
     gzip -9n <"$here/docs/FORMATS.md" | write usr/share/doc/slh/FORMATS.md.gz
-    build slh usr/libexec/slh/x86-64-v{2,3}/slh
+    build slh usr/libexec/slh/x86-64-v{2,3,4}/slh
+}
+
+# The provider is compiled here, over the files of libslh0 and libslh-dev. Without OpenSSL 3.5 there is none.
+make_slh_openssl() {
+    local prefix=$work/prefix status=0
+    mkdir -p "$prefix/lib"
+    cp -r "$work/libslh-dev/usr/include" "$prefix/"
+    cp "$work/libslh0/$lib/libslh.so.0" "$prefix/lib/"
+    ln -s libslh.so.0 "$prefix/lib/libslh.so"
+    SLH_RUNPATH='' "$here/bindings/openssl/build.sh" "$prefix" >&2 || status=$?
+    [ $status != 3 ] || return 0
+    [ $status = 0 ] || exit 1
+    begin slh-openssl
+    install -D -m 644 "$prefix/lib/ossl-modules/slh.so" "$root/$lib/ossl-modules/slh.so"
+    strip --strip-unneeded "$root/$lib/ossl-modules/slh.so"
+    gzip -9n <"$here/docs/OPENSSL.md" | write usr/share/doc/slh-openssl/OPENSSL.md.gz
+    build slh-openssl
 }
 
 mkdir "$work/made"
 make_libslh0
 make_libslh_dev
 make_slh
+make_slh_openssl
 mv "$work"/made/*.deb "$folder/"

@@ -3,25 +3,27 @@
 # a damaged file is not packaged; dpkg installs them into a root of its own, where `slh` signs and verifies, a C program
 # is linked by pkg-config, and nothing is left once they are removed; man page and completions are the program's.
 #
-# usage: tools/debian_tests.sh [DIST]
+# usage: tools/debian_tests.sh [--few] [--dist DIST]
 #
-# DIST is a folder as tools/release.sh writes it (default: dist). It needs what tools/debian.sh needs, a C compiler,
-# pkg-config and openssl. The root has this system's programs, by an overlay that unshare mounts; this system is not
-# changed. Where that, lintian, zsh or man is missing, its tests are skipped, which counts neither as passed nor as
-# failed. tools/install_emulators.sh installs lintian and zsh. The last line has the counts, and the status is 0 where
-# nothing failed.
+# DIST is a folder as tools/release.sh writes it (default: dist). With --few the packages are made, and that is all. It
+# needs what tools/debian.sh needs, a C compiler, pkg-config and openssl. The root has this system's programs, by an
+# overlay that unshare mounts; this system is not changed. Where that, lintian, zsh or man is missing, its tests are
+# skipped. tools/setup.sh installs lintian and zsh. The last line has the counts, and the status is 0 where nothing
+# failed.
 set -u
 here=$(cd "$(dirname "${BASH_SOURCE[0]}")/.." && pwd)
-dist=$(cd "${1-$here/dist}" && pwd) || exit 2
+source "$here/tools/counts.sh"
+take_options "$@"
+dist=${release:-$here/dist}
+[ -f "$dist/BUILD" ] || nothing_to_test "$dist is no release"
 work=$(mktemp -d)
 trap 'rm -rf "$work"' EXIT
-source "$here/tools/counts.sh"
 source "$here/tools/library_parts.sh"
 debs=$work/debs files=$work/debs/files
 export LC_ALL=C.UTF-8
 
-are_three() {
-    [ "$(cd "$debs" && ls | sed 's/_.*//' | tr '\n' ' ')" = "libslh-dev libslh0 slh " ]
+are_all() {
+    [ "$(cd "$debs" && ls | sed 's/_.*//' | LC_ALL=C sort | tr '\n' ' ')" = "libslh-dev libslh0 slh $1" ]
 }
 
 are_the_same_bits() {
@@ -31,7 +33,7 @@ are_the_same_bits() {
 # A file with a byte more than it had, one that is missing, and one that is not listed: there is no package.
 damaged_is_not_packaged() {
     local file how bad=$work/bad
-    for file in x86-64-v2/slh x86-64-v3/libslh.so.0 x86-64-v2/libslh_verify.a include/slh.h; do
+    for file in x86-64-v4/slh x86-64/libslh.so.0 x86-64-v{3,4}/libslh.a x86-64-v2/libslh_verify.a include/slh.h; do
         for how in 'echo >>' 'rm' 'sed -i /^[0-9a-f]*..PLACE$/d SHA256SUMS #'; do
             rm -rf "$bad" "$work/none"
             cp -r "$dist" "$bad"
@@ -101,7 +103,7 @@ END
 runs_the_level() {
     in_a_root <<END
 $install
-for level in v2 v3; do printf '#!/bin/sh\necho %s "\$@"\n' \$level > /usr/libexec/slh/x86-64-\$level/slh; done
+for level in v2 v3 v4; do printf '#!/bin/sh\necho %s "\$@"\n' \$level > /usr/libexec/slh/x86-64-\$level/slh; done
 flags="cx16 lahf_lm popcnt pni sse4_1 sse4_2 ssse3"
 more="avx avx2 bmi1 bmi2 f16c fma abm movbe"
 runs() {
@@ -110,14 +112,17 @@ runs() {
     [ "\$(slh 'a b' c)" = "\$1 a b c" ]
     umount /proc/cpuinfo
 }
+most="avx512f avx512bw avx512cd avx512dq avx512vl"
 runs v2 "\$flags"
 runs v3 "\$flags \$more"
-for lacking in \$more; do runs v2 "\$flags \${more/\$lacking/}"; done
+runs v4 "\$flags \$more \$most"
+for lacking in \$more; do runs v2 "\$flags \${more/\$lacking/} \$most"; done
+for lacking in \$most; do runs v3 "\$flags \$more \${most/\$lacking/}"; done
 END
 }
 
-# The example for C is linked with the shared object, of which glibc takes the build for this processor, and the example
-# that verifies with the archive.
+# The example for C is linked with the shared object, and with the archives for one level, and the example that verifies
+# with its archive.
 links_by_pkg_config() {
     make_image
     cp -r "$work"/{image,image.sig,public_key.h} "$files"
@@ -127,15 +132,48 @@ $install
 cc -std=c99 -Wall -Werror /sources/examples/sign_file.c \$(pkg-config --cflags --libs slh) -o sign_file
 echo "Dear reader," > letter.txt
 [ "\$(./sign_file letter.txt)" = valid ]
-folder=/lib/x86_64-linux-gnu
-if /lib64/ld-linux-x86-64.so.2 --help | grep -q 'x86-64-v3 (supported'; then folder=\$folder/glibc-hwcaps/x86-64-v3; fi
-ldd sign_file | grep -F "libslh.so.0 => \$folder/libslh.so.0 "
+ldd sign_file | grep -F "libslh.so.0 => /lib/x86_64-linux-gnu/libslh.so.0 "
+for level in v2 v3 v4; do cc /sources/examples/sign_file.c -lslh-\$level -o sign_alone; done
 cc -I /debs/files /sources/examples/verify_image.c \$(pkg-config --cflags --libs slh_verify) -o it
 ldd it | grep libslh && exit 1
 [ "\$(./it /debs/files/image /debs/files/image.sig)" = valid ]
 cp /debs/files/image damaged && echo >> damaged
 said=\$(./it damaged /debs/files/image.sig) && exit 1
 [ "\$said" = invalid ]
+END
+}
+
+# The module of slh-openssl by the command `openssl-3.5`, and its library by the system's own folders. It needs no newer
+# C library than the package says.
+openssl_signs() {
+    in_a_root <<END
+$install
+modules=/usr/lib/x86_64-linux-gnu/ossl-modules
+with="-provider-path \$modules -provider default -provider slh -propquery ?provider=slh"
+PATH=\$PATH:/usr/local/bin
+openssl-3.5 list -providers -provider-path \$modules -provider slh | grep 'name: SLH-DSA by libslh'
+echo "Dear reader," > letter.txt
+openssl-3.5 genpkey \$with -algorithm SLH-DSA-SHA2-128f -out key.pem
+openssl-3.5 pkeyutl \$with -sign -rawin -inkey key.pem -in letter.txt -pkeyopt workers:2 -out letter.sig
+openssl-3.5 pkeyutl -verify -rawin -inkey key.pem -in letter.txt -sigfile letter.sig
+readelf -d \$modules/slh.so | grep -E 'R(UN)?PATH' && exit 1
+most=\$(readelf -V \$modules/slh.so | grep -o 'GLIBC_2\.[0-9]*' | sort -V | tail -n 1)
+dpkg -s slh-openssl | grep -F "libc6 (>= \${most#GLIBC_})"
+END
+}
+
+# The programs of bindings/cmake/tests are linked by find_package(slh), and one of them judges an image.
+links_by_cmake() {
+    make_image
+    cp -r "$work"/{image,image.sig,public_key.h} "$files"
+    in_a_root <<END
+$install
+cmake -S /sources/bindings/cmake/tests -B built -DKEY=/debs/files
+cmake --build built
+[ "\$(built/verify_image /debs/files/image /debs/files/image.sig)" = valid ]
+ldd built/calls_shared | grep -F 'libslh.so.0 => /'
+ldd built/calls_slh | grep libslh && exit 1
+exit 0
 END
 }
 
@@ -146,14 +184,14 @@ listed > before
 $install
 listed > installed
 [ "\$(diff before installed | grep -c '^> .*slh')" -gt 20 ]
-dpkg --purge slh libslh-dev libslh0
+dpkg --purge slh-openssl slh libslh-dev libslh0
 listed | diff before -
 END
 }
 
 # apt would find all that they need.
 apt_would_install() {
-    apt-get install --simulate "$debs"/*.deb | grep -c '^Inst \(slh\|libslh0\|libslh-dev\) ' | grep -qx 3
+    apt-get install --simulate "$debs"/{slh_,libslh}*.deb | grep -c '^Inst \(slh\|libslh0\|libslh-dev\) ' | grep -qx 3
 }
 
 # What `slh --help` lists, from the files of the package.
@@ -227,13 +265,22 @@ if [ "$failed" != 0 ]; then
     end_counts
     exit
 fi
-one "there are three" are_three
+if command -v openssl-3.5 >/dev/null || pkg-config --atleast-version=3.5 libcrypto; then
+    one "there are four" are_all "slh-openssl "
+else
+    skip "slh-openssl" "there is no OpenSSL 3.5"
+    one "there are three" are_all ""
+fi
+if [ $few = yes ]; then
+    end_counts
+    exit
+fi
 one "made again they are the same bits" are_the_same_bits
 one "a damaged file is not packaged" damaged_is_not_packaged
 if command -v lintian >/dev/null; then
     one "lintian finds no error" no_error_of_lintian
 else
-    echo "lintian: SKIPPED, since it is not installed"
+    skip "lintian" "it is not installed"
 fi
 mkdir "$files" && cp "$dist/BUILD" "$debs/"
 if can_mount; then
@@ -241,25 +288,31 @@ if can_mount; then
     one "slh has the values of the vectors there" has_the_vectors_values
     one "slh runs the program for the processor's level" runs_the_level
     one "C programs are linked by pkg-config" links_by_pkg_config
+    if [[ $(realpath "$(command -v openssl-3.5)" 2>/dev/null) = /usr/* ]]; then
+        one "OpenSSL signs by its provider" openssl_signs
+    else
+        skip "OpenSSL by its provider" "openssl-3.5 is not in /usr"
+    fi
+    if can_run "CMake" cmake; then one "C programs are linked by find_package" links_by_cmake; fi
     one "removed they leave nothing" leaves_nothing
 else
-    echo "an installation in a root of its own: SKIPPED, since no overlay can be mounted"
+    skip "an installation in a root of its own" "no overlay can be mounted"
 fi
 if [ -n "$(apt-cache show sse4.2-support 2>/dev/null)" ]; then
     one "apt would install them" apt_would_install
 else
-    echo "apt: SKIPPED, since it has no list of packages"
+    skip "apt" "it has no list of packages"
 fi
 dpkg -x "$debs"/slh_*.deb "$unpacked"
 if command -v man >/dev/null; then
     one "the man page has each command and option" man_page_has_all
 else
-    echo "the man page: SKIPPED, since there is no man"
+    skip "the man page" "there is no man"
 fi
 one "bash completes commands, options and values" completes_in_bash
 if command -v zsh >/dev/null; then
     one "zsh completes them, too" completes_in_zsh
 else
-    echo "zsh: SKIPPED, since it is not installed"
+    skip "zsh" "it is not installed"
 fi
 end_counts

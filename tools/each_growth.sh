@@ -2,20 +2,22 @@
 # Runs each command of the program `slh`, with each kind of option, once for each growth of memory that it asks for,
 # with that growth refused, until a run meets no refusal.
 #
-# usage: tools/each_growth.sh [PROGRAM]
+# usage: tools/each_growth.sh [--few] [--dist DIST | PROGRAM]
 #
 # Each run must end with status 2, nothing on standard output and `slh: 1 NoMemory` on standard error, or with what the
 # program gives without any refusal, where it goes on without a refused growth: the start of a thread, or a text of
-# `clap` about arguments that are refused anyway. PROGRAM is crates/slh/out/slh without it. The last line has the
-# counts, and the status is 0 where nothing failed. It needs a C compiler, as CC or cc.
+# `clap` about arguments that are refused anyway. PROGRAM is crates/slh/out/slh without it, and --dist takes the one of
+# a release. With --few one command is run so. The last line has the counts, and the status is 0 where nothing failed.
+# It needs a C compiler, as CC or cc.
 set -u
 here=$(cd "$(dirname "${BASH_SOURCE[0]}")/.." && pwd)
-program=$(realpath "${1:-$here/crates/slh/out/slh}")
+source "$here/tools/counts.sh"
+take_options "$@"
+choose_program "${words[0]-}" "$here/crates/slh/out/slh"
 work=$(mktemp -d)
 trap 'rm -rf "$work"' EXIT
-"${CC:-cc}" -O2 -shared -fPIC -o "$work/refuse_nth.so" "$here/tools/refuse_nth.c" -ldl || exit 1
-cd "$work" || exit 1
-source "$here/tools/counts.sh"
+"${CC:-cc}" -O2 -shared -fPIC -o "$work/refuse_nth.so" "$here/tools/refuse_nth.c" -ldl || exit 2
+cd "$work" || exit 2
 echo "slh: 1 NoMemory" >told
 
 # check OVER LEAST ARGUMENT..: runs a command with each growth refused in turn. At most OVER refused growths may leave
@@ -65,6 +67,10 @@ context=$(python3 -c 'print("00" * 255)')
 } >tests.json
 
 check 0 50
+if [ $few = yes ]; then
+    end_counts
+    exit
+fi
 check 0 50 params
 check 0 50 params --set $set
 check 0 50 root --set $set

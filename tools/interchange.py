@@ -1,10 +1,11 @@
 #!/usr/bin/env python3
 """Holds the program `slh` against signatures that other implementations made.
 
-usage: tools/interchange.py [VECTORS [PROGRAM]]
+usage: tools/interchange.py [--few] [--dist DIST] [VECTORS [PROGRAM]]
 
-VECTORS is a folder of vector files (default: vectors), PROGRAM the program (default: the script slh beside tools).
-The tests of the form `internal` are passed over, since the program has no such form. Of the others:
+VECTORS is a folder of vector files (default: vectors), PROGRAM the program (default: the script slh beside tools);
+--dist takes the one of a release. With --few the file smoke-128f.json alone is run. The tests of the form `internal`
+are passed over, since the program has no such form. Of the others:
 
 - keygen: `slh keygen` of the seeds writes the secret key, `slh public` the public key, `slh upgrade` of their files of
   version 1 writes the same bytes, and `slh check` is consistent;
@@ -24,9 +25,13 @@ import subprocess
 import sys
 import tempfile
 
-here = pathlib.Path(__file__).resolve().parent.parent
-vectors = pathlib.Path(sys.argv[1] if len(sys.argv) > 1 else here / "vectors")
-program = sys.argv[2] if len(sys.argv) > 2 else str(here / "slh")
+sys.dont_write_bytecode = True
+import counts
+
+here = counts.HERE
+release, few, words = counts.take_options(sys.argv[1:])
+vectors = pathlib.Path(words[0] if words else here / "vectors")
+program = counts.choose_program(release, words[1] if len(words) > 1 else here / "slh")
 work = pathlib.Path(tempfile.mkdtemp())
 
 
@@ -117,16 +122,18 @@ def record_results(record):
 
 
 passes = {"keygen": keygen_passes, "sign": sign_passes, "verify": verify_passes}
-counts = {"passed": 0, "failed": 0, "passed over": 0}
+passed_over = 0
 
 
 def count(passed, name):
-    counts[{None: "passed over", True: "passed", False: "failed"}[passed]] += 1
-    if passed is False:
-        print(f"{name}: fail")
+    global passed_over
+    if passed is None:
+        passed_over += 1
+    else:
+        counts.count("passed" if passed else "failed", None if passed else f"{name}: fail")
 
 
-for path in sorted(set(vectors.glob("*.json")) - {vectors / "records.json"}):
+for path in sorted(set(vectors.glob("smoke-128f.json" if few else "*.json")) - {vectors / "records.json"}):
     tests = json.loads(path.read_text())
     if not isinstance(tests, list):
         continue
@@ -134,9 +141,8 @@ for path in sorted(set(vectors.glob("*.json")) - {vectors / "records.json"}):
         passed = None if test.get("form") == "internal" else passes[test["kind"]](test)
         count(passed, f"{path.name} test {number} {test['kind']} {test['set']}")
 records = vectors / "records.json"
-for record in json.loads(records.read_text()) if records.exists() else []:
+for record in json.loads(records.read_text()) if records.exists() and not few else []:
     for number, passed in enumerate(record_results(record)):
         count(passed, f"records.json {record['label']} {number}")
-print(f"{counts['passed over']} tests of the form internal were passed over")
-print(f"{counts['passed']} passed, {counts['failed']} failed")
-sys.exit(1 if counts["failed"] or not counts["passed"] else 0)
+print(f"{passed_over} tests of the form internal were passed over")
+counts.end_counts()

@@ -5,19 +5,19 @@
 #   PREFIX/include/slh.h            the header, which includes
 #   PREFIX/include/slh_verify.h     what verifies, the numbers and the lengths
 #   PREFIX/include/slh_internal.h   the calls for test vectors of the internal functions
-#   PREFIX/lib/libslh.a             all calls
-#   PREFIX/lib/libslh_verify.a      the calls of slh_verify.h alone, for firmware
-#   PREFIX/lib/libslh.so.0          all calls as a shared object, and libslh.so, a link to it for linkers
-#   PREFIX/lib/glibc-hwcaps/x86-64-v3/libslh.so.0  the same for processors of this level, which glibc takes by itself
+#   PREFIX/lib/libslh.a             all calls, with code for the levels x86-64-v2, -v3 and -v4: the best one runs
+#   PREFIX/lib/libslh-v2.a, libslh-v3.a, libslh-v4.a   the same for one level each
+#   PREFIX/lib/libslh_verify.a      the calls of slh_verify.h alone, for firmware, and for x86-64-v2
+#   PREFIX/lib/libslh.so.0          libslh.a as a shared object, and libslh.so, a link to it for linkers
 #   PREFIX/lib/pkgconfig/slh.pc, slh_verify.pc     for pkg-config, with the version of the file VERSION
 #   PREFIX/lib/cmake/slh/           for find_package(slh) of CMake, with the same version
 #
-# usage: tools/library.sh [--after-ci] [--target TARGET] PREFIX
+# usage: tools/library.sh [--after-ci | --dist DIST] [--target TARGET] PREFIX
 #
-# TARGET is x86-64-v2, x86-64-v3, aarch64 or wasm64 (tools/target.sh says what each is): without it the level that
-# SLH_CPU names, or x86-64-v2. Shared objects are for x86-64 alone, the second one for x86-64-v2; of wasm64 there is
-# PREFIX/lib/slh.wasm alone.
+# TARGET is x86-64, as without it, or aarch64 or wasm64. The archives for one level and shared objects are for x86-64
+# alone; of wasm64 there is PREFIX/lib/slh.wasm alone.
 #
+# DIST is a release, a folder as tools/release.sh writes it: what it has is installed, whatever the sources are.
 # SLH_BUILD=1 takes none of dist/. Where rt is not on the path, so that nothing can be built, the release is installed
 # whatever the sources are, and it is told that they differ. A build needs rt: `rt check` proves what is not proved yet.
 # Under --after-ci it builds, and only the topmost crate is proved, over the libraries that `rt ci` has just proved and
@@ -25,26 +25,28 @@
 set -euo pipefail
 here=$(cd "$(dirname "${BASH_SOURCE[0]}")/.." && pwd)
 source "$here/tools/released.sh"
-after_ci=no target=${SLH_CPU:-x86-64-v2}
+after_ci=no target=x86-64
 if [ "${1-}" = --after-ci ]; then
     after_ci=yes
     shift
+elif [ "${1-}" = --dist ] && [ $# -gt 1 ]; then
+    after_ci=given dist=$(realpath "$2")
+    shift 2
 fi
 if [ "${1-}" = --target ] && [ $# -gt 1 ]; then
     target=$2
     shift 2
 fi
 if [ $# != 1 ]; then
-    echo "usage: tools/library.sh [--after-ci] [--target TARGET] PREFIX" >&2
+    echo "usage: tools/library.sh [--after-ci | --dist DIST] [--target TARGET] PREFIX" >&2
     exit 2
 fi
 work=$(mktemp -d)
 trap 'rm -rf "$work"' EXIT
 
-# What of dist/ is installed, and where each kind of it is.
+# What of dist/ is installed.
 case "$target" in
-x86-64-v2) files=(x86-64-v2/{libslh.a,libslh_verify.a,libslh.so.0} x86-64-v3/libslh.so.0) ;;
-x86-64-v3) files=(x86-64-v3/{libslh.a,libslh_verify.a,libslh.so.0}) ;;
+x86-64) files=(x86-64/{libslh.a,libslh.so.0} x86-64-v{2,3,4}/libslh.a x86-64-v2/libslh_verify.a) ;;
 aarch64) files=(aarch64/{libslh.a,libslh_verify.a}) ;;
 wasm64) files=(wasm64/slh.wasm) ;;
 *)
@@ -53,8 +55,11 @@ wasm64) files=(wasm64/slh.wasm) ;;
     ;;
 esac
 headers=(include/{slh.h,slh_internal.h,slh_verify.h})
-if [ "$after_ci" = no ] && takes_release "${files[@]}" "${headers[@]}"; then
-    made=$here/dist version=$(release_says version)
+if [ "$after_ci" = given ]; then
+    has_release && are_whole BUILD "${files[@]}" "${headers[@]}" || exit 2
+fi
+if [ "$after_ci" = given ] || { [ "$after_ci" = no ] && takes_release "${files[@]}" "${headers[@]}"; }; then
+    made=$dist version=$(release_says version)
     how="the release $version"
 else
     command -v rt >/dev/null || {
@@ -62,9 +67,7 @@ else
         exit 2
     }
     [ "$after_ci" = yes ] || (cd "$here/crates/slh_c" && rt check) >&2
-    for level in "$target" $([ "$target" != x86-64-v2 ] || echo x86-64-v3); do
-        "$here/tools/target.sh" "$level" "$work/$level"
-    done
+    "$here/tools/target.sh" "$target" "$work"
     cp -r "$here/include" "$work/"
     made=$work version=$(cat "$here/VERSION") how="built of the sources"
 fi
@@ -99,16 +102,22 @@ if [ "$target" = wasm64 ]; then
 else
     install -d "$prefix/include" "$prefix/lib/pkgconfig"
     install -m 644 "${headers[@]/#/$made/}" "$prefix/include/"
-    install -m 644 "$made/$target"/*.a "$prefix/lib/"
+    for file in "${files[@]}"; do
+        name=$(basename "$file")
+        case "$file" in
+        *.so.0) mode=755 ;;
+        x86-64-v*/libslh.a) mode=644 name=libslh-${file:7:2}.a ;;
+        *) mode=644 ;;
+        esac
+        install -m $mode "$made/$file" "$prefix/lib/$name"
+    done
     pkgconfig slh "SLH-DSA (FIPS 205) with SHA-2, proved by machine"
     pkgconfig slh_verify "Verifying signatures of SLH-DSA (FIPS 205) with SHA-2, proved by machine"
     cmake_files
 fi
-if [ -f "$made/$target/libslh.so.0" ]; then
-    install -m 755 "$made/$target/libslh.so.0" "$prefix/lib/"
+if [ "$target" = x86-64 ]; then
     ln -sf libslh.so.0 "$prefix/lib/libslh.so"
-fi
-if [ "$target" = x86-64-v2 ]; then
-    install -D -m 755 "$made/x86-64-v3/libslh.so.0" "$prefix/lib/glibc-hwcaps/x86-64-v3/libslh.so.0"
+    # Releases up to 0.4 put the code for a level there, and glibc would load it in place of what is installed now.
+    rm -f "$prefix"/lib/glibc-hwcaps/x86-64-v{3,4}/libslh.so.0
 fi
 echo "installed in $prefix: $how"

@@ -9,7 +9,8 @@
 #include <stdlib.h>
 #include <string.h>
 
-enum { SETS = 6, PAINT = 0xa5, MOST_ANSWERS = 64000000, MOST_TEXT = 256 };
+/* ENCODING is the number of the encoding of starts and answers. */
+enum { SETS = 6, PAINT = 0xa5, MOST_ANSWERS = 64000000, MOST_TEXT = 256, ENCODING = 2 };
 
 /* Of each set the numbers of FIPS 205's Table 2 that say how many trees there are and how high, and a start's length. */
 static const struct {
@@ -324,7 +325,7 @@ static void oracle(const struct work *w) {
                                          w->start_len);
         expect(result == SLH_DONE && !is_tag(w, made), "R is a tag", w->set, i);
     }
-    const uint8_t numbers[] = {1, (uint8_t)n, 4, (uint8_t)sets[w->set - 1].hp, (uint8_t)sets[w->set - 1].d,
+    const uint8_t numbers[] = {ENCODING, (uint8_t)n, 4, (uint8_t)sets[w->set - 1].hp, (uint8_t)sets[w->set - 1].d,
                                (uint8_t)sets[w->set - 1].a, (uint8_t)sets[w->set - 1].k};
     const uint8_t cut[] = {(uint8_t)w->xmss, (uint8_t)w->fors};
     for (uint32_t kind = 0; kind < 3; kind++)
@@ -344,6 +345,20 @@ static void oracle(const struct work *w) {
             uint32_t result = slh_sign_internal(w->set, w->sk, w->sk_len, text + n, at - n, text, n, sig, w->sig_len);
             expect(result == SLH_DONE && !is_tag(w, sig), "R of the text of a tag is a tag", w->set, kind * 1000 + job);
         }
+}
+
+/* The same with SK.seed and PK.seed of zeros. HMAC fills up SK.prf, the key of PRF_msg, with zeros: so if the key of the
+   tags were SK.prf, SK.seed and PK.seed alone, R of the text of a tag would be that tag. */
+static void oracle_of_zeros(uint32_t set) {
+    struct work w = numbered(set, 1, 1);
+    size_t n = w.n;
+    uint8_t *seeds = w.seeds;
+    memset(seeds, 0, n);
+    memset(seeds + 2 * n, 0, n);
+    expect(slh_keygen(set, seeds, n, seeds + n, n, seeds + 2 * n, n, w.sk, w.sk_len) == SLH_DONE, "a key of zeros", set, 0);
+    answer_all(&w, 'a');
+    oracle(&w);
+    free(w.answers);
 }
 
 static void refusals(const struct work *w) {
@@ -473,6 +488,7 @@ int main(void) {
             if (i == 2) of_other_set(&w);
             free(w.answers);
         }
+    for (uint32_t set = 2; set <= SETS; set += 2) oracle_of_zeros(set);
     struct work w = made(SLH_DSA_SHA2_128F, 1, 1);
     for (uint32_t job = 0; job < w.jobs; job++) fields(&w, job);
     refusals(&w);

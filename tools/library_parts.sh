@@ -8,8 +8,20 @@ can_run() {
     local target=$1 tool
     shift
     for tool in "$@"; do
-        command -v "$tool" >/dev/null || { echo "$target: SKIPPED, since there is no $tool" && return 1; }
+        command -v "$tool" >/dev/null || { skip "$target" "there is no $tool" && return 1; }
     done
+}
+
+# Whether the processor has a feature, as /proc/cpuinfo names it. Says what is skipped where it has not.
+can_use() {
+    grep -qw "$1" /proc/cpuinfo || { skip "$1" "this processor has none" && return 1; }
+}
+
+# Whether this Node takes a module whose memory has 64-bit addresses. Says of a TARGET that it does not.
+has_memory64() {
+    node --experimental-wasm-memory64 -e '
+        process.exit(WebAssembly.validate(new Uint8Array([0, 97, 115, 109, 1, 0, 0, 0, 5, 3, 1, 4, 1])) ? 0 : 1)
+    ' 2>/dev/null || { skip "$1" "this Node has no WebAssembly with 64-bit memory" && return 1; }
 }
 
 # Runs a command, and tells by NAME whether its status was 0. Where it was not, what it prints is shown, and the status is 1.
@@ -25,7 +37,7 @@ one() {
     fi
 }
 
-# Runs a command whose last line is 'N passed, M failed', and adds up the counts. One that ends otherwise has failed. What
+# Runs a command whose last line has counts, and adds them up. One that ends otherwise has failed. What
 # it skips is shown.
 count() {
     local name=$1 status
@@ -38,8 +50,8 @@ count() {
     echo "$name: $(tail -n 1 "$work/said")"
 }
 
-# Whether what NM lists of a FILE, with these flags, is just the lines of standard input. What the C runtime adds to each shared object is left out, and
-# so are memcmp and bcmp, which a compiler may call as it does the three of of_c.
+# Whether what NM lists of a FILE, with these flags, is just the lines of standard input. What the C runtime adds to
+# each shared object is left out, and so are memcmp and bcmp, which a compiler may call as it does the three of of_c.
 has_symbols() {
     local nm=$1 file=$2
     shift 2
@@ -49,10 +61,15 @@ has_symbols() {
     diff "$work/symbols" -
 }
 
+# The proved calls; the libraries, and not the module for wasm64, have two more.
 calls() {
     printf 'T slh_%s\n' answer_place check hash_sign hash_sign_digest hash_sign_start hash_verify hash_verify_digest \
         keygen keygen_job keygen_jobs keygen_join lengths public refusal_name sign sign_internal sign_job sign_jobs \
         sign_join sign_start verify verify_internal version
+}
+
+library_calls() {
+    { calls && printf 'T slh_%s\n' erase level; } | LC_ALL=C sort
 }
 
 verify_calls() {
@@ -61,6 +78,70 @@ verify_calls() {
 
 of_c() {
     printf 'U %s\n' memcpy memmove memset
+}
+
+# The kit's objcopy, or that of this machine where there is no kit.
+objcopy() {
+    local llvm
+    if llvm=$("$here/tools/kit.py" path toolchain/bin/clang 2>/dev/null); then
+        (exec -a llvm-objcopy "$llvm" "$@")
+    else
+        command objcopy "$@"
+    fi
+}
+
+# Writes an ARCHIVE to OTHER, in which names that nobody else sees are seen, and weak: a program that is linked with it
+# can bring its own.
+with_weak() {
+    local archive=$1 other=$2
+    shift 2
+    objcopy "${@/#/--globalize-symbol=}" "$archive" "$other.seen" &&
+        objcopy "${@/#/--weaken-symbol=}" "$other.seen" "$other"
+}
+
+# Makes PROGRAM of tools/library_depths.c and an ARCHIVE, by a compiler.
+measures_depths() {
+    local archive=$1 program=$2
+    shift 2
+    with_weak "$archive" "$work/weak.a" slh_clear &&
+        "$@" -std=c11 "${strict[@]}" -O1 -static "$here/tools/library_depths.c" "$work/weak.a" -o "$program"
+}
+
+# The best level of x86-64 that this processor and system have, in glibc's judgement: 2, 3 or 4.
+best_level() {
+    local level
+    for level in 4 3; do
+        ! /lib64/ld-linux-x86-64.so.2 --help | grep -q "^ *x86-64-v$level (supported" || break
+        level=2
+    done
+    echo $level
+}
+
+# Whether the program that searches for secrets finds some after each call where nothing is cleared: an ARCHIVE with
+# another slh_clear, compiled by a compiler, and run by RUN, for the set 128f.
+finds_what_is_left() {
+    local archive=$1 run=$2
+    shift 2
+    {
+        printf '#include <stddef.h>\n#include <stdint.h>\n'
+        printf 'uint32_t slh_clear(uint32_t result, size_t depth, uint32_t vectors);\n'
+        printf 'uint32_t slh_clear(uint32_t result, size_t depth, uint32_t vectors) {\n'
+        printf '    (void)depth, (void)vectors;\n    return result;\n}\n'
+    } >"$work/clears_nothing.c"
+    with_weak "$archive" "$work/weak.a" slh_clear &&
+        "$@" -std=c11 "${strict[@]}" -O2 -static -o "$work/leaves" "$here/tools/library_erase.c" \
+            "$work/clears_nothing.c" "$work/weak.a" || return
+    $run "$work/leaves" 2 >"$work/left"
+    [ $? = 1 ] && grep -qx '0 passed, [1-9][0-9]* failed' "$work/left" || { cat "$work/left" && return 1; }
+}
+
+# Where the code of a TARGET aligns its stack to 32 or 64 bytes, a call is measured from 2 or 4 places.
+shifts_of() {
+    case "$1" in
+    x86-64-v3) echo 2 ;;
+    x86-64-v4) echo 4 ;;
+    *) echo 1 ;;
+    esac
 }
 
 # Writes image, image.sig and public_key.h into $work: a message of the vectors that OpenSSL signed in the pre-hash form
@@ -105,7 +186,8 @@ judges_images() {
         cp "$work/image.sig" "$work/long.sig" && printf x >>"$work/long.sig" &&
         says valid 0 "$@" "$work/image" "$work/image.sig" && says invalid 1 "$@" "$work/damaged" "$work/image.sig" &&
         says "" 2 "$@" "$work/image" "$work/long.sig" && says "" 2 "$@" "$work/none" "$work/image.sig" &&
-        says "" 2 "$@" "$work/image" "$work/none"
+        says "" 2 "$@" "$work/image" "$work/none" && says "" 2 "$@" &&
+        "$@" "$work/image" "$work/none" 2>&1 | grep -qF "$work/none"
 }
 
 # Whether a command prints just a LINE and ends with a STATUS.

@@ -2,8 +2,10 @@
 # Builds the library for C by tools/library.sh into a folder of its own, and tests what was installed: its symbols, the
 # headers, the calls with valid and invalid arguments, the vectors of other implementations, the stack, the examples.
 #
-# usage: tools/library_tests.sh [--after-ci]      tools/library.sh says what --after-ci is
+# usage: tools/library_tests.sh [--few] [--after-ci | --dist DIST]
 #
+# tools/library.sh says what --after-ci is, and which release is installed with --dist. With --few the symbols
+# and the headers are looked at, and that is all.
 # It needs what tools/library.sh needs, and a C++ compiler as CXX or g++, rustc as RUSTC or rustc, python3 and
 # pkg-config. The last line has the counts, and the status is 0 where nothing failed.
 set -u
@@ -13,23 +15,76 @@ work=$(mktemp -d)
 trap 'rm -rf "$work"' EXIT
 source "$here/tools/counts.sh"
 source "$here/tools/library_parts.sh"
+take_options "$@"
 prefix=$work/prefix lib=$work/prefix/lib
 sanitized=(-g -fsanitize=address,undefined -fno-sanitize-recover=all)
 export ASAN_OPTIONS=detect_leaks=0
 
 # Runs an example over a fresh file: it must say that its signature is valid, and leave it beside the file, and the
-# public key under which it is. Over a file that is not there it must fail.
+# public key under which it is. It must refuse a file that is not there, a folder, and no file.
 example() {
     rm -f "$work"/letter*
     printf 'a letter\nof two lines' >"$work/letter"
-    [ "$("$@" "$work/letter")" = valid ] && verifies && ! "$@" "$work/no_such_file"
+    [ "$("$@" "$work/letter")" = valid ] && verifies && tells_why no_such_file "$@" "$work/no_such_file" &&
+        tells_why "$here" "$@" "$here" && tells_why usage: "$@"
 }
 
-# Whether the signature beside the letter is valid under the public key beside it.
+# Whether a command ends with status 2, writes nothing to standard output, and to standard error this text.
+tells_why() {
+    local text=$1
+    shift
+    "$@" >"$work/out" 2>"$work/err"
+    [ $? = 2 ] && [ ! -s "$work/out" ] && grep -qF -- "$text" "$work/err"
+}
+
+# Whether an example has erased the secret key where it writes its signature, in what it has freed as well: NAME, and the
+# command but for the file. It must not be built with a sanitizer, whose memory is too large to read.
+erases_its_key() {
+    local name=$1
+    shift
+    printf 'a letter\nof two lines' >"$work/letter"
+    one "$name erases the secret key" "$here/tools/examples_memory.py" "$lib/libslh.so.0" "$work/letter" \
+        env LD_PRELOAD="$work/kept.so" "$@" "$work/letter"
+}
+
+# The same of all examples that have one.
+count_erasing() {
+    local plain=("$cc" -O2 -I "$prefix/include" -pthread)
+    one "a library that keeps what is freed compiles" "$cc" -shared -fPIC -fno-builtin -o "$work/kept.so" -x c \
+        <(echo 'void free(void *bytes) { (void)bytes; }')
+    one "the C example compiles without sanitizers" "${plain[@]}" "$here/examples/sign_file.c" "$lib/libslh.a" \
+        -o "$work/plain_c"
+    one "the C example of threads as well" "${plain[@]}" "$here/examples/sign_threads.c" "$lib/libslh.a" \
+        -o "$work/plain_threads"
+    one "the C++ example as well" "$cxx" -O2 -I "$prefix/include" "$here/examples/sign_file.cpp" "$lib/libslh.a" \
+        -o "$work/plain_cpp"
+    python3 -c 'import json, sys; sys.stdout.buffer.write(bytes.fromhex(json.load(sys.stdin)[0]["sk"]))' \
+        <"$here/vectors/slh-dsa-sha2-128f.json" >"$work/key"
+    erases_its_key "the C example" "$work/plain_c"
+    erases_its_key "the C++ example" "$work/plain_cpp"
+    erases_its_key "the Rust example" "$work/of_rust"
+    erases_its_key "the Python example" python3 "$here/examples/sign_file.py" "$lib/libslh.so"
+    erases_its_key "the C example of threads" "$work/plain_threads" 2 "$work/key"
+    erases_its_key "the Rust example of threads" "$work/rust_threads" 2 "$work/key"
+}
+
+# Whether examples of threads tell why, for no arguments, each file that is not there, and a key of another length.
+threads_tell_why() {
+    local program key=$work/key letter=$work/letter none=$work/no_such_file
+    printf 'a letter' | tee "$work/short" >"$letter" && head -c 64 /dev/zero >"$key"
+    for program in "$@"; do
+        tells_why usage: "$program" && tells_why no_such_file "$program" 2 "$none" "$letter" &&
+            tells_why short "$program" 2 "$work/short" "$letter" &&
+            tells_why no_such_file "$program" 2 "$key" "$none" || return
+    done
+}
+
+# Whether the signature beside the letter is valid under the public key beside it, a key file as docs/FORMATS.md has it.
 verifies() {
     python3 - "$lib/libslh.so" "$work/letter" <<'END'
-import ctypes, pathlib, sys
-letter, sig, pk = (pathlib.Path(sys.argv[2] + it).read_bytes() for it in ("", ".sig", ".pub"))
+import ctypes, pathlib, re, sys
+letter, sig, key = (pathlib.Path(sys.argv[2] + it).read_bytes() for it in ("", ".sig", ".pub"))
+pk = bytes.fromhex(re.fullmatch(rb"slh-dsa-public 2\nSLH-DSA-SHA2-128f\n([0-9a-f]{64})\n", key)[1].decode())
 some = [it for text in (pk, letter, b"", sig) for it in (text, ctypes.c_size_t(len(text)))]
 sys.exit(ctypes.CDLL(sys.argv[1]).slh_verify(2, *some))
 END
@@ -57,7 +112,7 @@ for test in tests:
     letter.write_bytes(bytes.fromhex(test["message"]))
     for threads in "124":
         said = run(threads, random)
-        if said != ("valid\n", 0, sig, sk[32:]):
+        if said != ("valid\n", 0, sig, b"slh-dsa-public 2\nSLH-DSA-SHA2-128f\n%s\n" % sk[32:].hex().encode()):
             sys.exit(f"{threads} threads: {said[:2]}")
 key.write_bytes(sk[:-1] + bytes([sk[-1] ^ 1]))
 said = run("2", random)
@@ -96,17 +151,10 @@ has_soname() {
         [ "$(readlink "$lib/libslh.so")" = libslh.so.0 ]
 }
 
-# Whether glibc loads the shared object for x86-64-v3 where the processor has that level, and the other one where it is
-# told of no level, and the example runs over each. On a lesser processor it loads the other one alone.
-loads_by_level() {
-    local loader lesser=$lib/libslh.so.0 best=$lib/libslh.so.0
-    loader=$(readelf -l "$work/shared" | sed -n 's/.*interpreter: \(.*\)]/\1/p')
-    "$loader" --help | grep -q 'x86-64-v3 (supported' && best=$lib/glibc-hwcaps/x86-64-v3/libslh.so.0
-    [ -f "$lib/glibc-hwcaps/x86-64-v3/libslh.so.0" ] && ! cmp -s "$lib/glibc-hwcaps/x86-64-v3/libslh.so.0" "$lesser" &&
-        "$loader" --library-path "$lib" --list "$work/shared" | grep -qF "=> $best (" &&
-        "$loader" --glibc-hwcaps-mask none --library-path "$lib" --list "$work/shared" | grep -qF "=> $lesser (" &&
-        example "$loader" --library-path "$lib" "$work/shared" &&
-        example "$loader" --glibc-hwcaps-mask none --library-path "$lib" "$work/shared"
+# Whether glibc loads the shared object that is installed, also where there was one of an earlier release for a level.
+is_loaded() {
+    LD_LIBRARY_PATH=$lib ldd "$work/shared" | grep -qF "=> $lib/libslh.so.0 (" &&
+        [ ! -e "$lib/glibc-hwcaps/x86-64-v3/libslh.so.0" ]
 }
 
 # A program over the headers, two of them twice, with more in its one function.
@@ -117,11 +165,11 @@ declared() {
 
 # The calls that headers declare, a line each.
 declares() {
-    (cd "$prefix/include" && cat "$@") | sed -n 's/^uint32_t \(slh_[a-z_]*\)(.*/T \1/p' | LC_ALL=C sort
+    (cd "$prefix/include" && cat "$@") | sed -En 's/^(uint32_t|void) (slh_[a-z_]*)\(.*/T \2/p' | LC_ALL=C sort
 }
 
 is_declared_once() {
-    diff <(declares slh.h slh_verify.h slh_internal.h) <(calls | LC_ALL=C sort) &&
+    diff <(declares slh.h slh_verify.h slh_internal.h) <(library_calls) &&
         diff <(declares slh_verify.h) <(verify_calls | LC_ALL=C sort)
 }
 
@@ -138,14 +186,35 @@ warns() {
         [ "$(grep -c error: "$work/warned")" = 1 ] && grep -q 'error: .*unused-result' "$work/warned"
 }
 
-if ! "$here/tools/library.sh" "$@" "$prefix" >"$work/said" 2>&1; then
+# Whether a program that verifies alone has no code that signs where the linker drops what is not called, and the proved
+# exports are not to be seen under their other names.
+drops_signing() {
+    printf '#include <slh.h>\nint main(void) { return (int)slh_verify(1, 0, 0, 0, 0, 0, 0, 0, 0); }\n' \
+        >"$work/verifies.c"
+    "$cc" -I "$prefix/include" "$work/verifies.c" "$lib/libslh.a" -Wl,--gc-sections -o "$work/verifies" &&
+        nm "$work/verifies" | grep -q ' T slh_verify$' && ! nm "$work/verifies" | grep -E 'slh_(sign|keygen|clear)'
+}
+
+# Searches what calls of a LIBRARY leave, where it is installed and the processor has a FEATURE, if it needs one.
+searches() {
+    local library=$1 feature=$2
+    [ -f "$library" ] || return 0
+    [ "$feature" = . ] || can_use "$feature" || return 0
+    one "the program that searches ${library#"$lib/"} for secrets compiles" "$cc" -std=c11 -O2 "${strict[@]}" \
+        -I "$prefix/include" -o "$work/erase" "$here/tools/library_erase.c" "$library" \
+        -Wl,-z,lazy,-rpath,"$(dirname "$library")" && count "what calls of ${library#"$lib/"} leave" "$work/erase"
+}
+
+mkdir -p "$lib/glibc-hwcaps/x86-64-v3"
+echo "of an earlier release" >"$lib/glibc-hwcaps/x86-64-v3/libslh.so.0"
+if ! "$here/tools/library.sh" ${release:+--dist "$release"} ${words[@]+"${words[@]}"} "$prefix" >"$work/said" 2>&1; then
     tail -n 20 "$work/said"
-    echo "0 passed, 1 failed"
-    exit 1
+    nothing_to_test "there is no library"
 fi
 
-one "libslh.a defines the calls, and asks for three of C" has_symbols nm "$lib/libslh.a" < <(calls; of_c)
-one "libslh.so as well" has_symbols nm "$lib/libslh.so" -D < <(calls; of_c)
+one "libslh.a defines the calls, and asks for three of C" has_symbols nm "$lib/libslh.a" < <(library_calls; of_c)
+one "libslh.so as well" has_symbols nm "$lib/libslh.so" -D < <(library_calls; of_c)
+one "a program that verifies alone has no code that signs" drops_signing
 one "libslh_verify.a defines four calls" has_symbols nm "$lib/libslh_verify.a" < <(verify_calls; of_c)
 
 one "all are of the version of the file VERSION" is_version
@@ -167,6 +236,10 @@ one "each call is declared once, and slh_verify.h declares those of libslh_verif
 one "the calls are found where all else is hidden" "$cc" -shared -fPIC "${strict[@]}" -I "$prefix/include" -x c \
     -o "$work/hidden.so" <(hidden) -x none "$lib/libslh.so" -Wl,--no-undefined
 
+if [ $few = yes ]; then
+    end_counts
+    exit
+fi
 one "the test program compiles" "$cc" -std=c99 "${strict[@]}" "${sanitized[@]}" -I "$prefix/include" \
     -o "$work/tests" "$here/tools/library_tests.c" "$lib/libslh.a" -pthread
 count "valid and invalid calls" "$work/tests"
@@ -176,6 +249,28 @@ count "valid and invalid jobs" "$work/jobs_tests"
 one "the program that measures the stack compiles" "$cc" -std=c99 "${strict[@]}" -I "$prefix/include" \
     -o "$work/stack" "$here/tools/library_stack.c" "$lib/libslh.a" -pthread -Wl,-z,now
 one "the stack is below the limits" "$work/stack"
+one "the program of late writes compiles" "$cc" -std=c11 -O1 "${strict[@]}" -I "$prefix/include" \
+    -o "$work/late" "$here/tools/library_late.c" "$lib/libslh.a" -pthread
+count "late writes" "$work/late" 1500
+
+one "the program that erases its buffers compiles" "$cc" -std=c99 "${strict[@]}" -O3 -I "$prefix/include" \
+    -o "$work/buffers" "$here/tools/erased_buffers.c" "$lib/libslh.a" -Wl,-z,lazy
+one "slh_erase overwrites a caller's buffer, and a first call leaves zeros" "$work/buffers"
+one "the program that measures depths compiles" measures_depths "$lib/libslh.a" "$work/depths" "$cc" \
+    -I "$prefix/include"
+count "each call clears as deep as it goes" "$work/depths" "$(shifts_of "x86-64-v$(best_level)")"
+one "the program with a guard page compiles" "$cc" -std=c11 "${strict[@]}" -I "$prefix/include" -o "$work/guard" \
+    "$here/tools/library_guard.c" "$lib/libslh.a"
+count "a stack that is too short ends at its guard page" "$work/guard"
+for level in . -v2:ssse3 -v3:avx2 -v4:avx512bw; do
+    searches "$lib/libslh${level%%[.:]*}.a" "${level#*:}"
+done
+searches "$lib/libslh.so.0" .
+one "the search finds secrets where nothing is cleared" finds_what_is_left "$lib/libslh.a" "" "$cc" \
+    -I "$prefix/include"
+count "levels" "$here/tools/levels_tests.sh" "$prefix"
+count "secrets and time" "$here/tools/secrets_tests.sh" "$prefix"
+count "numbers of the documents" "$here/tools/numbers.py" --check "x86-64=$prefix"
 
 count "vectors" "$here/tools/library_vectors.py" "$lib/libslh.so"
 one "libslh_verify.a makes a shared object" "$cc" -shared -o "$work/libslh_verify.so" \
@@ -188,7 +283,7 @@ one "the C example" example "$work/of_c"
 read -ra flags < <(PKG_CONFIG_PATH=$lib/pkgconfig pkg-config --cflags --libs slh)
 one "the C example compiles over the shared object" "$cc" "$here/examples/sign_file.c" "${flags[@]}" -o "$work/shared"
 one "the C example over the shared object" example env LD_LIBRARY_PATH="$lib" "$work/shared"
-one "glibc loads the shared object of the processor's level" loads_by_level
+one "glibc loads the shared object that is installed, and no earlier one" is_loaded
 one "the C++ example compiles" "$cxx" -std=c++11 "${strict[@]}" "${sanitized[@]}" "$here/examples/sign_file.cpp" \
     -I "$prefix/include" "$lib/libslh.a" -o "$work/of_cpp"
 one "the C++ example" example "$work/of_cpp"
@@ -203,7 +298,9 @@ verify_example "this machine" "$lib/libslh_verify.a" env "$cc" "${sanitized[@]}"
 one "the C example of threads compiles" "$cc" -std=c99 "${strict[@]}" "${sanitized[@]}" \
     "$here/examples/sign_threads.c" -I "$prefix/include" "$lib/libslh.a" -pthread -o "$work/of_threads"
 one "the C example of threads gives the vectors' signatures" by_threads "$work/of_threads"
-one "each example that signs a file alone has under 60 lines" \
-    awk 'FNR == 60 { long = 1 } END { exit long }' "$here"/examples/sign_file.*
+count_erasing
+one "the examples of threads say what is wrong" threads_tell_why "$work/of_threads" "$work/rust_threads"
+one "each example that signs a file alone has under 90 lines" \
+    awk 'FNR == 90 { long = 1 } END { exit long }' "$here"/examples/sign_file.*
 
 end_counts

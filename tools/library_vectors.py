@@ -41,7 +41,10 @@ import threading
 
 DONE, INVALID, CONTEXT_TOO_LONG, ANSWERS_DISAGREE, BAD_START = 0, 30, 2, 25, 28
 # The number of the encoding of starts and answers.
-ENCODING = 1
+ENCODING = 2
+
+# The last byte of the key of the tags.
+KEY_END = b"\x01"
 SETS = [f"SLH-DSA-SHA2-{it}" for it in ("128s", "128f", "192s", "192f", "256s", "256f")]
 FUNCTIONS = ["SHA2-224", "SHA2-256", "SHA2-384", "SHA2-512", "SHA2-512/224", "SHA2-512/256"]
 # n, lg_w, h', d, a and k of each set (FIPS 205, Table 2)
@@ -159,7 +162,7 @@ def tag(sk, kind, record, *parts, encoding=ENCODING):
     """The tag of a start (1: PK.root, R and the digest) or of an answer (2: the start, levels, job and node)."""
     n, function = len(sk) // 4, "sha256" if len(sk) == 64 else "sha512"
     sk_seed, sk_prf, pk_seed = sk[:n], sk[n : 2 * n], sk[2 * n : 3 * n]
-    return hmac.digest(sk_prf + sk_seed + pk_seed, bytes([kind, encoding, *record]) + b"".join(parts), function)[:n]
+    return hmac.digest(sk_prf + sk_seed + pk_seed + KEY_END, bytes([kind, encoding, *record]) + b"".join(parts), function)[:n]
 
 
 class Jobs:

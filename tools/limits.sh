@@ -3,19 +3,21 @@
 # it gives without one, or the refusal `1 NoMemory`; a limit under which the system does not start the program counts
 # for nothing.
 #
-# usage: tools/limits.sh [PROGRAM]
+# usage: tools/limits.sh [--few] [--dist DIST | PROGRAM]
 #
-# PROGRAM is crates/slh/out/slh without it. The last line has the counts, and the status is 0 where nothing failed. It
-# needs a C compiler, as CC or cc.
+# PROGRAM is crates/slh/out/slh without it, and --dist takes the one of a release. With --few each command is run under
+# the least limit of the stack alone. The last line has the counts, and the status is 0 where nothing failed. It needs a
+# C compiler, as CC or cc.
 set -u
 here=$(cd "$(dirname "${BASH_SOURCE[0]}")/.." && pwd)
-program=$(realpath "${1:-$here/crates/slh/out/slh}")
+source "$here/tools/counts.sh"
+take_options "$@"
+choose_program "${words[0]-}" "$here/crates/slh/out/slh"
 vectors=$here/vectors
 work=$(mktemp -d)
 trap 'rm -rf "$work"' EXIT
-"${CC:-cc}" -O2 -shared -fPIC -o "$work/refuse_threads.so" "$here/tools/refuse_threads.c" -ldl || exit 1
-cd "$work" || exit 1
-source "$here/tools/counts.sh"
+"${CC:-cc}" -O2 -shared -fPIC -o "$work/refuse_threads.so" "$here/tools/refuse_threads.c" -ldl || exit 2
+cd "$work" || exit 2
 echo "slh: 1 NoMemory" >no_memory
 
 # Runs a command under one limit, `-s` or `-v` in KB, and says what came of it: right, refused, unstarted or the fault.
@@ -43,7 +45,7 @@ want() {
 }
 
 # Goes over limits FROM, FROM + STEP, up to TO, and counts what came of them. Of refusals and of right answers there has
-# to be one at least, where SOME is yes.
+# to be one at least, where SOME is yes, and else one of the two.
 sweep() {
     local name=$1 option=$2 from=$3 to=$4 step=$5 some=$6 limit came right=0 refused=0 bad=0
     shift 6
@@ -59,7 +61,7 @@ sweep() {
             ;;
         esac
     done
-    if [ $bad = 0 ] && { [ "$some" = no ] || { [ $right -gt 0 ] && [ $refused -gt 0 ]; }; }; then
+    if [ $bad = 0 ] && [ $((right + refused)) -gt 0 ] && { [ "$some" = no ] || [ $((right * refused)) -gt 0 ]; }; then
         tell "$name under ulimit $option $from to $to: $right right, $refused refused" yes
     else
         tell "$name under ulimit $option $from to $to: $right right, $refused refused, $bad wrong" no
@@ -118,6 +120,10 @@ vectors --file $vectors/smoke-128f.json --workers 64
 vectors --file deep.json
 sign --help
 END
+if [ $few = yes ]; then
+    end_counts
+    exit
+fi
 while read -r name n; do
     python3 -c "print(bytes(range(3 * $n)).hex())" >seeds
     "$program" keygen --set "$name" <seeds >"key_of_$name"

@@ -1,25 +1,27 @@
 #!/usr/bin/env bash
-# Holds the program `slh` against the command `openssl` of version 3.5 or later, over keys that go from one to the other by
-# the lines of docs/LIBRARY.md, "Keys to and from OpenSSL". For each of the six sets: a key that OpenSSL made is consistent
-# and has the public key that OpenSSL says, and comes back as the same PEM; a key that `slh` made is one to OpenSSL, with
-# the public key that `slh` says; in both directions a deterministic signature is the same bytes by both, a randomized one
-# is valid, and a signature of another message is not. It also runs the commands of docs/QUESTIONS.md for CI and for PEM
-# files, as they stand, in a folder that has a secret key already.
+# Holds the program `slh` against the command `openssl` of version 3.5 or later, over keys that go from one to the other
+# by the lines of docs/LIBRARY.md, "Keys to and from OpenSSL". For each of the six sets: a key that OpenSSL made is
+# consistent and has the public key that OpenSSL says, and comes back as the same PEM; a key that `slh` made is one to
+# OpenSSL, with the public key that `slh` says; in both directions a deterministic signature is the same bytes by both,
+# a randomized one is valid, and a signature of another message is not. It also runs the commands of docs/QUESTIONS.md
+# for CI and for PEM files, as they stand, in a folder that has a secret key already.
 #
-# usage: tools/openssl_keys.sh [PROGRAM]
+# usage: tools/openssl_keys.sh [--few] [--dist DIST | PROGRAM]
 #
-# PROGRAM is crates/slh/out/slh without it. The command is the one that OPENSSL names, else `openssl-3.5`, which
-# tools/install_emulators.sh installs, or `openssl`. Where it has no SLH-DSA, the script says so, and all is skipped: it
-# counts neither as passed nor as failed. The last line has the counts, and the status is 0 where nothing failed.
+# PROGRAM is crates/slh/out/slh without it, and --dist takes the one of a release. With --few one set is tried. The
+# command is the one that OPENSSL names, else `openssl-3.5`, which tools/setup.sh installs, or `openssl`. Where it has
+# no SLH-DSA, the script says so, and all is skipped. The last line has the counts, and the status is 0 where nothing
+# failed.
 set -u
 here=$(cd "$(dirname "${BASH_SOURCE[0]}")/.." && pwd)
-program=$(realpath "${1:-$here/crates/slh/out/slh}")
+source "$here/tools/counts.sh"
+take_options "$@"
+choose_program "${words[0]-}" "$here/crates/slh/out/slh"
 work=$(mktemp -d)
 trap 'rm -rf "$work"' EXIT
-cd "$work" || exit 1
-source "$here/tools/counts.sh"
+cd "$work" || exit 2
 source "$here/tools/library_parts.sh"
-openssl=${OPENSSL:-$(command -v openssl-3.5 || echo openssl)}
+openssl=${OPENSSL:-$(PATH=$PATH:/usr/local/bin command -v openssl-3.5 || echo openssl)}
 
 # What stands in DER before the 4n bytes of a private key and before the 2n bytes of a public key, from the table of
 # docs/LIBRARY.md.
@@ -126,11 +128,12 @@ bad_pem_changes_no_key() {
 }
 
 if ! "$openssl" list -signature-algorithms 2>/dev/null | grep -q SLH-DSA-SHA2-128f; then
-    echo "keys from and to OpenSSL: SKIPPED, since $openssl has no SLH-DSA"
+    skip "keys from and to OpenSSL" "$openssl has no SLH-DSA"
     end_counts
     exit
 fi
 while read -r name n; do
+    [ $few = no ] || [ $name = 128f ] || continue
     set=SLH-DSA-SHA2-$name
     read -r before_private before_public < <(prefixes "$name")
     one "$name: a key from OpenSSL, and back" from_openssl

@@ -1,34 +1,39 @@
 #!/usr/bin/env bash
 # Tests the packages of bindings/ over the library as tools/library.sh installs it: each is built and used as its users
-# do, and its own tests run over a part of vectors/. Nothing is written into the repository, and no network is used.
+# do, its own tests run over a part of vectors/, and the memory of a program over it is searched for secrets that were
+# erased (tools/packages_memory.py). Nothing is written into the repository, and no network is used.
 #
-# usage: tools/packages_tests.sh [--prefix PREFIX --wasm PREFIX2]
+# usage: tools/packages_tests.sh [--few] [--dist DIST | --prefix PREFIX --wasm PREFIX2]
 #
 # PREFIX is a folder that tools/library.sh has installed into, PREFIX2 one that it has installed wasm64 into. Without
-# them both are built first, over what `rt ci`, or `rt check` in crates/slh_c, has built.
-# tools/install_emulators.sh installs what it needs, but for Rust and CMake: where a tool is missing, it says which, and
-# what that tool is for is skipped: it counts neither as passed nor as failed. The last line has the counts, and the
-# status is 0 where nothing failed.
+# them both are built first, over what `rt ci`, or `rt check` in crates/slh_c, has built, or taken from the release with
+# --dist. With --few the packages for Python and JavaScript alone are tested. tools/setup.sh installs what it needs, but
+# for Rust and CMake: where a tool is missing, it says which, and what that tool is for is skipped. The last line has
+# the counts, and the status is 0 where nothing failed.
 set -u
 here=$(cd "$(dirname "${BASH_SOURCE[0]}")/.." && pwd)
 work=$(mktemp -d)
 trap 'rm -rf "$work"' EXIT
 source "$here/tools/counts.sh"
 source "$here/tools/library_parts.sh"
-prefix=$work/prefix wasm=$work/wasm64
+take_options "$@"
+set -- ${words[@]+"${words[@]}"}
+prefix=$work/prefix wasm=$work/wasm64 from=(--after-ci)
+if [ -n "$release" ]; then from=(--dist "$release"); fi
 if [ $# = 4 ] && [ "$1" = --prefix ] && [ "$3" = --wasm ]; then
     prefix=$(realpath "$2") wasm=$(realpath "$4")
 elif [ $# = 0 ]; then
-    one "the library is built" "$here/tools/library.sh" --after-ci "$prefix"
-    one "the module is built" "$here/tools/library.sh" --after-ci --target wasm64 "$wasm"
+    one "the library is installed" "$here/tools/library.sh" "${from[@]}" "$prefix"
+    one "the module is installed" "$here/tools/library.sh" "${from[@]}" --target wasm64 "$wasm"
 else
-    echo "usage: tools/packages_tests.sh [--prefix PREFIX --wasm PREFIX2]" >&2
+    echo "usage: tools/packages_tests.sh [--few] [--dist DIST | --prefix PREFIX --wasm PREFIX2]" >&2
     exit 2
 fi
+[ -f "$prefix/lib/libslh.a" ] && [ -f "$wasm/lib/slh.wasm" ] || nothing_to_test "there is no library"
 export PYTHONDONTWRITEBYTECODE=1 PYTHONNOUSERSITE=1
 
-# Of a language, the Nth that docs/PACKAGES.md lists: its line of imports, and its calls, as they stand in a column of the
-# first table.
+# Of a language, the Nth that docs/PACKAGES.md lists: its line of imports, and its calls, as they stand in a column of
+# the first table.
 imports_of() {
     sed -n '/^## The calls/,/^|/s/^    //p' "$here/docs/PACKAGES.md" | sed -n "$1p"
 }
@@ -49,9 +54,56 @@ with_cmake() {
     for name in slh shared; do
         count "cmake: vectors over slh::$name" "$here/tools/library_vectors.py" --few --through "$built/calls_$name"
     done
+    for name in slh shared; do
+        runs_best "cmake, slh::$name" cmake_level $name
+    done
     one "cmake: slh::shared is asked for by its name" asks_for_shared "$built/calls_shared"
     one "cmake: slh::slh is not" fails asks_for_shared "$built/calls_slh"
     one "cmake: slh::verify judges images" judges_images "$built/verify_image"
+}
+
+# The best level that processor and system have, 2, 3 or 4, by /proc/cpuinfo.
+best_of_processor() {
+    local flags level=2
+    flags=" $(sed -n 's/^flags.*: //p' /proc/cpuinfo | head -n 1) "
+    has_flags "$flags" avx avx2 bmi1 bmi2 f16c fma abm movbe && level=3 &&
+        has_flags "$flags" avx512f avx512bw avx512cd avx512dq avx512vl && level=4
+    echo "$level"
+}
+
+has_flags() {
+    local flags=$1 flag
+    shift
+    for flag in "$@"; do [[ $flags == *" $flag "* ]] || return; done
+}
+
+# Runs a program over a package that prints slh_level: LANGUAGE, then the command.
+runs_best() {
+    local language=$1
+    shift
+    one "$language: the code that runs is the best for the processor" says "$(best_of_processor)" 0 "$@"
+}
+
+# Searches the memory of a program for secrets: LANGUAGE, then the command that runs it.
+erases() {
+    local language=$1
+    shift
+    if can_run "$language: memory" python3; then
+        one "$language: what is erased is nowhere in memory" "$here/tools/packages_memory.py" \
+            "$prefix/lib/libslh.so.0" "$@"
+    fi
+}
+
+# Prints slh_level by a program that is linked with a target of CMake: NAME.
+cmake_level() {
+    local level=$work/level_$1
+    mkdir -p "$level"
+    printf '#include <slh.h>\n#include <stdio.h>\nint main(void) { return printf("%%u\\n", slh_level()) < 0; }\n' \
+        >"$level/level.c"
+    printf 'cmake_minimum_required(VERSION 3.13)\nproject(level C)\nfind_package(slh REQUIRED)\nadd_executable(%s)\n%s\n' \
+        'level level.c' "target_link_libraries(level PRIVATE slh::$1)" >"$level/CMakeLists.txt"
+    cmake -S "$level" -B "$level/built" -DCMAKE_PREFIX_PATH="$prefix" >&2 && cmake --build "$level/built" >&2 &&
+        "$level/built/level"
 }
 
 asks_for_shared() {
@@ -80,6 +132,8 @@ with_python() {
     one "python: the installed package passes its tests" "$venv/bin/python" -m unittest discover -s "$package/tests"
     page_in_python >"$work/page.py"
     one "python: the calls of docs/PACKAGES.md" says done 0 "$venv/bin/python" "$work/page.py"
+    erases python "$venv/bin/python" "$here/bindings/tests/erased.py"
+    runs_best python "$venv/bin/python" -c 'import slh; print(slh._library.slh_level())'
 }
 
 page_in_python() {
@@ -113,9 +167,15 @@ with_rust() {
     one "rust: the example signs by threads, over the library of pkg-config" says valid 0 env -u SLH_PREFIX \
         CARGO_TARGET_DIR="$work/cargo" PKG_CONFIG_PATH="$prefix/lib/pkgconfig" cargo run -q --locked --offline \
         "${manifest[@]}" --example sign_threads 2 "$work/letter"
+    one "rust: its public key is a key file" is_key_file "$work/letter.pub"
     page_in_rust
-    one "rust: the calls of docs/PACKAGES.md" says done 0 env CARGO_TARGET_DIR="$work/cargo" SLH_PREFIX="$prefix" \
-        cargo run -q --offline --manifest-path "$work/page/Cargo.toml"
+    cargo=(env CARGO_TARGET_DIR="$work/cargo" SLH_PREFIX="$prefix" cargo)
+    one "rust: the calls of docs/PACKAGES.md" says done 0 "${cargo[@]}" run -q --offline \
+        --manifest-path "$work/page/Cargo.toml" --bin page
+    one "rust: the program that erases is built" "${cargo[@]}" build -q --offline \
+        --manifest-path "$work/page/Cargo.toml" --bin erased
+    erases rust "$work/cargo/debug/erased"
+    runs_best rust "${cargo[@]}" run -q --offline --manifest-path "$work/page/Cargo.toml" --bin level
     one "rust: without a library the build says so" misses_library 'libslh is not found: set SLH_PREFIX' \
         env -u SLH_PREFIX -u PKG_CONFIG_PATH PKG_CONFIG_LIBDIR="$work/none" CARGO_TARGET_DIR="$work/cargo" \
         cargo build --locked --offline "${manifest[@]}"
@@ -123,17 +183,28 @@ with_rust() {
         env SLH_PREFIX=prefix CARGO_TARGET_DIR="$work/cargo" cargo build --locked --offline "${manifest[@]}"
 }
 
+# Whether a FILE is a key file of version 2 with a public key of the set 128f (docs/FORMATS.md).
+is_key_file() {
+    diff <(sed -E '3s/^[0-9a-f]{64}$/digits/' "$1") <(printf 'slh-dsa-public 2\nSLH-DSA-SHA2-128f\ndigits\n')
+}
+
 # Writes a program as a user has it, in a folder of its own.
 page_in_rust() {
-    mkdir -p "$work/page/src"
+    mkdir -p "$work/page/src/bin"
+    cp "$here/bindings/tests/erased.rs" "$work/page/src/bin/"
+    cat >"$work/page/src/bin/level.rs" <<'END'
+use slh as _;
+extern "C" { fn slh_level() -> u32; }
+fn main() { println!("{}", unsafe { slh_level() }) }
+END
     printf '%s\n' '[package]' 'name = "page"' 'edition = "2021"' '[dependencies]' \
         "slh = { path = \"$here/bindings/rust/slh\" }" >"$work/page/Cargo.toml"
     {
         imports_of 1
         echo 'fn main() -> Result<(), Error> {'
         echo 'let (message, context, random, digest) = (b"letter", b"letters", [0; 16], [0; 32]);'
-        calls_of 1
-        echo 'assert!(secret.as_bytes() == sk && public.as_bytes() == pk && signature.as_bytes() == sig);'
+        calls_of 1 | sed 's/^drop(secret);$/assert!(secret.as_bytes() == sk \&\& public.as_bytes() == pk); &/'
+        echo 'assert!(signature.as_bytes() == sig);'
         echo 'println!("done"); Ok(()) }'
     } >"$work/page/src/main.rs"
 }
@@ -156,6 +227,28 @@ with_go() {
     one "go: it names the clone" in_go "$page" go mod edit -require "pipitscreen/slh@v$(cat "$here/VERSION")" \
         -replace pipitscreen/slh="$package"
     one "go: the calls of docs/PACKAGES.md" says done 0 in_go "$page" go run .
+    mkdir -p "$page/erased"
+    cp "$here/bindings/tests/erased.go" "$page/erased/main.go"
+    one "go: layout of the program that erases" is_laid_out "$page/erased"
+    one "go: the program that erases is built" in_go "$page" go build -o "$work/erased_in_go" ./erased
+    erases go "$work/erased_in_go"
+    mkdir -p "$page/level"
+    cat >"$page/level/main.go" <<'END'
+package main
+
+// #cgo LDFLAGS: -l:libslh.a
+// #include <slh.h>
+import "C"
+import "fmt"
+import _ "pipitscreen/slh"
+
+func main() { fmt.Println(C.slh_level()) }
+END
+    runs_best go in_go "$page" go run ./level
+    one "go: without the library the build says what to set" misses_library "set CGO_CFLAGS=-IPREFIX/include" \
+        in_go "$page" env -u CGO_CFLAGS -u CGO_LDFLAGS go build -o "$work/none" .
+    one "go: without cgo the build says so" misses_library set_CGO_ENABLED_to_1_and_install_a_C_compiler \
+        in_go "$page" env CGO_ENABLED=0 go build -o "$work/none" .
 }
 
 page_in_go() {
@@ -196,6 +289,8 @@ END
     page_in_javascript >"$work/page.mjs"
     one "javascript: the calls of docs/PACKAGES.md" says done 0 "${node[@]}" --no-warnings "$work/page.mjs"
     one "javascript: the types name what is exported" types_name_all
+    cp "$here/bindings/tests/erased.mjs" "$work/"
+    erases javascript "${node[@]}" --no-warnings "$work/erased.mjs"
 }
 
 page_in_javascript() {
@@ -203,7 +298,7 @@ page_in_javascript() {
     imports_of 4
     echo 'const [message, context] = ["letter", "letters"].map((it) => new TextEncoder().encode(it));'
     echo 'const [random, digest] = [new Uint8Array(16), new Uint8Array(32)];'
-    calls_of 4 | sed -E 's/^((publicKey|secret)\.[a-zA-Z]*\(.*);$/assert(\1);/'
+    calls_of 4 | sed -E '/erase/!s/^((publicKey|secret)\.[a-zA-Z]*\(.*);$/assert(\1);/'
     echo 'console.log("done");'
 }
 
@@ -215,9 +310,11 @@ types_name_all() {
         LC_ALL=C sort | diff - "$work/declared"
 }
 
-if can_run cmake cmake cc python3 readelf; then with_cmake; fi
 if can_run python python3; then with_python; fi
-if can_run rust cargo cc pkg-config; then with_rust; fi
-if can_run go go gofmt gcc; then with_go; fi
-if can_run javascript node; then with_javascript; fi
+if can_run javascript node && has_memory64 javascript; then with_javascript; fi
+if [ $few = no ]; then
+    if can_run cmake cmake cc python3 readelf; then with_cmake; fi
+    if can_run rust cargo cc pkg-config; then with_rust; fi
+    if can_run go go gofmt gcc; then with_go; fi
+fi
 end_counts

@@ -1,22 +1,32 @@
 #!/usr/bin/env bash
-# Builds the program `slh` for processors of one level into FILE, stripped, over the libraries that `rt ci`, or `rt
-# check` in crates/slh, has built: nobody looks whether a source has changed since. The kit's own linker makes it, with
-# the kit's own files of the C library.
+# Builds the program `slh`, or the one of another crate, for processors of one level into FILE, stripped, over the
+# libraries that `rt ci`, or `rt check` in its crate, has built: nobody looks whether a source has changed since. The
+# kit's own linker makes it, with the kit's own files of the C library.
 #
-# usage: tools/program.sh LEVEL FILE      LEVEL is x86-64-v2 or x86-64-v3
+# usage: tools/program.sh LEVEL FILE [CRATE]      LEVEL is x86-64-v2, x86-64-v3 or x86-64-v4
+#
+# rattle knows no x86-64-v4: it makes the module for x86-64-v3, which tools/clang.sh has compiled for x86-64-v4. That
+# program looks for x86-64-v3 alone when it starts: who runs it has to look for the rest.
 set -euo pipefail
 here=$(cd "$(dirname "${BASH_SOURCE[0]}")/.." && pwd)
-if [ $# != 2 ] || [[ $1 != x86-64-v[23] ]]; then
-    echo "usage: tools/program.sh LEVEL FILE" >&2
+if [ $# -lt 2 ] || [ $# -gt 3 ] || [[ $1 != x86-64-v[234] ]]; then
+    echo "usage: tools/program.sh LEVEL FILE [CRATE]" >&2
     exit 2
 fi
+crate=${3:-slh}
 work=$(mktemp -d)
 trap 'rm -rf "$work"' EXIT
 kit() { "$here/tools/kit.py" path "$1"; }
 
-mapfile -t build < <("$here/tools/kit.py" build slh)
-mkdir -p "$here/crates/slh/out/incremental"
-(cd "$here/crates/slh" && "${build[@]}" --incremental out/incremental --jobs "$(nproc)" --cpu "$1" -o "$work/slh.o") >&2
+level=$1 toolchain=()
+if [ "$1" = x86-64-v4 ]; then
+    level=x86-64-v3 toolchain=("$work/toolchain")
+    "$here/tools/kit.py" toolchain "${toolchain[0]}"
+fi
+mapfile -t build < <("$here/tools/kit.py" build "$crate" ${toolchain[@]+"${toolchain[@]}"})
+mkdir -p "$here/crates/$crate/out/incremental"
+(cd "$here/crates/$crate" && "${build[@]}" --incremental out/incremental --jobs "$(nproc)" --cpu "$level" \
+    -o "$work/slh.o") >&2
 # As `rt run` links a program: with the C code of the crates `os` and `libc`.
 (cd "$work" && "$(kit bin/rattle-link)" --target x86_64-unknown-linux-gnu --toolchain "$(kit toolchain)" -o slh slh.o \
     "$(kit c/libos_c.a)" "$(kit c/liblibc_c.a)") >&2

@@ -1,12 +1,14 @@
 #!/usr/bin/env bash
 # Writes the release of this version into dist/, or looks whether dist/ is what the sources give:
 #
-#   dist/x86-64-v2/, dist/x86-64-v3/   the program slh, libslh.a, libslh_verify.a and libslh.so.0
-#   dist/aarch64/                      libslh.a and libslh_verify.a
-#   dist/wasm64/                       slh.wasm
-#   dist/include/                      the headers
-#   dist/BUILD                         the version, the hash of the sources (tools/sources.sh), and the kit
-#   dist/SHA256SUMS                    the hashes of all these files
+#   dist/x86-64/                  libslh.a and libslh.so.0, with the code for each level below
+#   dist/x86-64-v2/, -v3/, -v4/   the program slh, libslh.a and libslh_verify.a
+#   dist/aarch64/                 libslh.a and libslh_verify.a
+#   dist/wasm64/                  slh.wasm
+#   dist/include/                 the headers
+#   dist/BUILD                    the version, the hash of the sources (tools/sources.sh), the kit, and the hashes of
+#                                 what compiles: its files, and tools/clang.sh, for x86-64-v4 and wasm64
+#   dist/SHA256SUMS               the hashes of all these files
 #
 # usage: tools/release.sh [--after-ci] VERSION     VERSION is that of the file VERSION, and nothing is uncommitted
 #        tools/release.sh [--after-ci] --check [FOLDER]     builds all again and compares, bit for bit
@@ -31,7 +33,7 @@ fi
 work=$(mktemp -d)
 trap 'rm -rf "$work"' EXIT
 
-# The kit: its name, the sum of its logic, and the hashes of what compiles.
+# The kit: its name, the sum of its logic, and the hashes of what compiles, of which one file is not the kit's.
 kit_lines() {
     rt version | sed -n 's/^\([^ ]*\) logic \([^ ]*\).*/kit \1\nlogic \2/p'
     (exec -a clang "$("$here/tools/kit.py" path toolchain/bin/clang)" --version) | sed -n '1s/^/compiler /p'
@@ -39,6 +41,7 @@ kit_lines() {
     for file in bin/rattle bin/rattle-link toolchain/bin/clang; do
         echo "$file $(sha256sum <"$("$here/tools/kit.py" path "$file")" | cut -d ' ' -f 1)"
     done
+    echo "tools/clang.sh $(sha256sum <"$here/tools/clang.sh" | cut -d ' ' -f 1)"
 }
 
 # Builds all into a folder.
@@ -48,10 +51,10 @@ build() {
         (cd "$here/crates/slh" && rt check) >&2
         (cd "$here/crates/slh_c" && rt check) >&2
     fi
-    for target in x86-64-v2 x86-64-v3 aarch64 wasm64; do
-        "$here/tools/target.sh" "$target" "$1/$target"
+    for target in x86-64 aarch64 wasm64; do
+        "$here/tools/target.sh" "$target" "$1"
     done
-    for level in x86-64-v2 x86-64-v3; do
+    for level in x86-64-v2 x86-64-v3 x86-64-v4; do
         "$here/tools/program.sh" "$level" "$1/$level/slh"
     done
     install -D -m 644 -t "$1/include" "$here"/include/*.h
@@ -75,12 +78,23 @@ write() {
     build "$work/dist"
     rm -rf "$here/dist"
     mv "$work/dist" "$here/dist"
+    write_numbers
     echo "dist/ is the release $1"
+}
+
+# Writes the sizes and the stack of what is now in dist/ into the documents.
+write_numbers() {
+    local folder targets=()
+    "$here/tools/library.sh" "$work/prefix" >&2
+    for folder in "$here"/dist/*-v? "$here"/dist/{aarch64,wasm64}; do
+        targets+=("${folder##*/}=$folder")
+    done
+    "$here/tools/numbers.py" --write "x86-64=$work/prefix" "${targets[@]}" >&2
 }
 
 # Says why nothing is compared, and ends.
 not_compared() {
-    echo "SKIPPED: $1, so nothing was compared"
+    skip "a comparison of dist/ with what the sources give" "$1"
     [ "$made" = "$work/dist" ] || build "$made"
     end_counts || exit 1
     [ "$after_ci" = yes ] || exit 3

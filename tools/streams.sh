@@ -1,21 +1,22 @@
 #!/usr/bin/env bash
 # Runs the built program over real files, pipes, broken and interrupted streams, counts its threads and reads its help.
 #
-# usage: tools/streams.sh [PROGRAM]
+# usage: tools/streams.sh [--few] [--dist DIST | PROGRAM]
 #
-# PROGRAM is the program (default: crates/slh/out/slh, which `rt ci` leaves built). Each run is judged by its status, by
-# all that it writes to standard output, and by all that it writes to standard error. Keys are of SLH-DSA-SHA2-128f and
-# the seeds 00, 01, 02, ..; the public key and the digest of the signature of "abc" are those of another implementation.
-# The last line has the counts, and the status is 0 where nothing failed. It needs a C compiler, as CC or cc.
+# PROGRAM is the program (default: crates/slh/out/slh, which `rt ci` leaves built), --dist takes the one of a release.
+# With --few only arguments, files and what is written where are looked at. Each run is judged by its status, by all
+# that it writes to standard output, and by all that it writes to standard error. Keys are of SLH-DSA-SHA2-128f and the
+# seeds 00, 01, 02, ..; the public key and the digest of the signature of "abc" are those of another implementation. The
+# last line has the counts, and the status is 0 where nothing failed. It needs a C compiler, as CC or cc.
 set -u
 here=$(cd "$(dirname "${BASH_SOURCE[0]}")/.." && pwd)
-program=${1:-$here/crates/slh/out/slh}
-program=$(cd "$(dirname "$program")" && pwd)/$(basename "$program")
+source "$here/tools/counts.sh"
+take_options "$@"
+choose_program "${words[0]-}" "$here/crates/slh/out/slh"
 work=$(mktemp -d)
 trap 'rm -rf "$work"' EXIT
-"${CC:-cc}" -O2 -shared -fPIC -o "$work/interrupt.so" "$here/tools/interrupt.c" -ldl || exit 1
-cd "$work" || exit 1
-source "$here/tools/counts.sh"
+"${CC:-cc}" -O2 -shared -fPIC -o "$work/interrupt.so" "$here/tools/interrupt.c" -ldl || exit 2
+cd "$work" || exit 2
 
 # Tells whether a run was as wanted: NAME, then a command that tells it by its status.
 check() {
@@ -124,6 +125,11 @@ run keygen --set $set <&-
 check "standard input closed" refused "32 ReadFailed"
 run sign --key "$(head -c 5000 /dev/zero | tr '\0' a)" --message abc
 check "a path that is too long" refused "32 ReadFailed"
+
+if [ $few = yes ]; then
+    end_counts
+    exit
+fi
 
 # ---- pipes
 slowly() {
@@ -347,17 +353,17 @@ explained() {
 # The last run wrote help that begins with the sentence, explains each option and ends in an example of the command.
 helped() {
     [ "$(cat status)" = 0 ] && [ ! -s errors ] && [ "$(head -n 1 output)" = "$2" ] && explained &&
-        tail -n 1 output | grep -q "^Example: slh $1 "
+        tail -n 1 output | grep -qE "^Example: (openssl rand -hex [0-9]+ \| )?slh $1 "
 }
 
-# The last run wrote help that says what the program is for and what its status means.
+# The last run wrote help that says its version, what the program is for and what its status means.
 introduced() {
-    [ "$(head -n 1 output)" = "Keys and signatures of SLH-DSA (FIPS 205) with SHA-2" ] &&
+    [ "$(head -n 1 output)" = "slh $(cat "$here/VERSION"): keys and signatures of SLH-DSA (FIPS 205) with SHA-2" ] &&
         grep -q "^Exit status: 0 for done" output
 }
 
 run --help
-check "help says what the program is for, and what its status means" introduced
+check "help says the version, what the program is for, and what its status means" introduced
 sed -n '/^Commands:/,/^$/s/^  \([a-z]*\)  *\([A-Z].*\)$/\1 \2/p' output >commands
 check "help has a sentence for each of the 10 commands" [ "$(wc -l <commands)" = 10 ]
 while read -r command sentence; do

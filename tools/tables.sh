@@ -12,9 +12,11 @@ set -u
 here=$(cd "$(dirname "${BASH_SOURCE[0]}")/.." && pwd)
 tables=${1:-$here/vectors/tables}
 program=${2:-$here/crates/slh_conformance/out/slh_conformance}
+source "$here/tools/counts.sh"
+[ -f "$program" ] && "$program" </dev/null >/dev/null 2>&1 ||
+    nothing_to_test "there is no program that can be run: $program"
 work=$(mktemp -d)
 trap 'rm -rf "$work"' EXIT
-source "$here/tools/counts.sh"
 
 # The functions of the rows of a report that are right, with their numbers: TABLE FUNCTION ROWS.
 rows_of() {

@@ -1,19 +1,21 @@
 #!/usr/bin/env bash
 # Runs the program `slh` over each vector file of a folder, as it is and with one digit of a signature changed.
 #
-# usage: tools/vectors.sh [VECTORS [PROGRAM]]
+# usage: tools/vectors.sh [--few] [--dist DIST] [VECTORS [PROGRAM]]
 #
 # VECTORS is a folder of vector files with one test per line (default: vectors), PROGRAM the program (default: the
-# script slh beside tools). Each file must pass whole: status 0, one line for each test and `passed P failed 0`. Then
-# the first digit in the signature of its last sign test is changed in a copy: that test must fail, and no other, with
-# status 1. The last line has the counts, and the status is 0 where nothing failed.
+# script slh beside tools); --dist takes the one of a release. With --few the file smoke-128f.json alone is run. Each
+# file must pass whole: status 0, one line for each test and `passed P failed 0`. Then the first digit in the signature
+# of its last sign test is changed in a copy: that test must fail, and no other, with status 1. The last line has the
+# counts, and the status is 0 where nothing failed.
 set -u
 here=$(cd "$(dirname "${BASH_SOURCE[0]}")/.." && pwd)
-vectors=${1:-$here/vectors}
-program=${2:-$here/slh}
+source "$here/tools/counts.sh"
+take_options "$@"
+vectors=${words[0]:-$here/vectors}
+choose_program "${words[1]-}" "$here/slh"
 work=$(mktemp -d)
 trap 'rm -rf "$work"' EXIT
-source "$here/tools/counts.sh"
 
 # Runs the program over a file, and leaves its report, its errors and its status in the work folder.
 run() {
@@ -27,13 +29,10 @@ one_failed() {
         sed "\$s/.*/passed $(($2 - 1)) failed 1/"
 }
 
-# The script slh builds the program where it is missing, and prints what that prints. So it runs once before any report
-# is read.
-"$program" params >"$work/report" 2>"$work/errors"
-
 for file in "$vectors"/*.json; do
     # Its rows are of parameter records, which no vector file names: tools/interchange.py and tools/tables.sh test them.
     [ "${file##*/}" != records.json ] || continue
+    [ $few = no ] || [ "${file##*/}" = smoke-128f.json ] || continue
     name=$(basename "$file")
     tests=$(grep -c '"kind":' "$file")
     run "$file"

@@ -3,11 +3,11 @@
 over signatures of vectors/, damaged ones, drops, a large file, the keyboard, and what a screen reader is told; that it
 can't send anything; and that a page without its module judges nothing.
 
-usage: tools/web_tests.py [--screenshot FILE] [DIST]
+usage: tools/web_tests.py [--few] [--dist DIST] [--screenshot FILE]
 
-DIST is a folder as tools/release.sh writes it (default: dist). It needs Chromium, which tools/install_emulators.sh
-installs. Where it is missing, or has no WebAssembly with 64-bit memory, all is skipped: that counts neither as passed
-nor as failed. The last line has the counts, and the status is 0 where nothing failed.
+DIST is a folder as tools/release.sh writes it (default: dist). With --few one set is tried. It needs Chromium, which
+tools/setup.sh installs. Where it is missing, or has no WebAssembly with 64-bit memory, all is skipped. The last line
+has the counts, and the status is 0 where nothing failed.
 """
 import argparse
 import base64
@@ -22,22 +22,21 @@ import tempfile
 import threading
 import time
 
-here = pathlib.Path(__file__).resolve().parent.parent
+sys.dont_write_bytecode = True
+import counts
+
+here = counts.HERE
 LABELS = ["128s", "128f", "192s", "192f", "256s", "256f"]
 FORMS = ["pure", "SHA2-224", "SHA2-256", "SHA2-384", "SHA2-512", "SHA2-512/224", "SHA2-512/256"]
-passed = failed = 0
 
 
 def tell(name, test, *arguments):
     """Runs a test, and counts it."""
-    global passed, failed
     try:
         test(*arguments)
-        passed += 1
-        print(f"{name}: yes", flush=True)
+        counts.count("passed", f"{name}: yes")
     except Exception as fault:
-        failed += 1
-        print(f"{type(fault).__name__}: {fault}\n{name}: no", flush=True)
+        counts.count("failed", f"{type(fault).__name__}: {fault}\n{name}: no")
 
 
 def expect(is_so, what):
@@ -305,9 +304,11 @@ class Tests:
         thrown = [it["params"] for it in self.browser.events if it["method"] == "Runtime.exceptionThrown"]
         expect(not thrown, thrown[:2])
 
-    def run(self):
-        for label in LABELS:
+    def run(self, few):
+        for label in LABELS[1:2] if few else LABELS:
             tell(f"signatures of {label}", self.of_vectors, label)
+        if few:
+            return
         tell("damaged signatures are invalid", self.damaged)
         tell("keys of each kind", self.keys)
         tell("files that are dropped", self.dropped)
@@ -330,24 +331,26 @@ HAS_MEMORY64 = "WebAssembly.validate(new Uint8Array([0, 97, 115, 109, 1, 0, 0, 0
 def main():
     parser = argparse.ArgumentParser()
     parser.add_argument("--screenshot", type=pathlib.Path)
-    parser.add_argument("dist", type=pathlib.Path, nargs="?", default=here / "dist")
-    words = parser.parse_args()
+    release, few, words = counts.take_options(sys.argv[1:])
+    words = parser.parse_args(words)
+    if not release and not (here / "dist" / "BUILD").is_file():
+        counts.nothing_to_test("there is no release in dist/")
     chromium = shutil.which("chromium")
     work = pathlib.Path(tempfile.mkdtemp()).resolve()
     browser = None
     try:
         if not chromium:
-            print("the page: SKIPPED, since there is no chromium")
+            counts.skip("the page", "there is no chromium")
             return
         page = work / "page" / "verify.html"
         page.parent.mkdir()
-        subprocess.run([here / "tools" / "web_page.sh", words.dist, page], check=True)
+        subprocess.run([here / "tools" / "web_page.sh", release or here / "dist", page], check=True)
         browser = Browser(chromium, work / "profile")
         if not browser.value(HAS_MEMORY64):
-            print("the page: SKIPPED, since this chromium has no WebAssembly with 64-bit memory")
+            counts.skip("the page", "this chromium has no WebAssembly with 64-bit memory")
             return
         tests = Tests(browser, page, work)
-        tests.run()
+        tests.run(few)
         if words.screenshot:
             tests.screenshot(words.screenshot)
     finally:
@@ -357,5 +360,4 @@ def main():
 
 
 main()
-print(f"{passed} passed, {failed} failed")
-sys.exit(failed != 0)
+counts.end_counts()

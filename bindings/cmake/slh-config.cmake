@@ -1,21 +1,26 @@
-# What find_package(slh) reads. It stands in PREFIX/lib/cmake/slh, and finds the library by where it stands itself.
+# What find_package(slh) reads. It stands in PREFIX/lib/cmake/slh, or in Debian's PREFIX/lib/MACHINE/cmake/slh, and finds
+# the library by where it stands itself.
 #
 #   slh::slh      all calls, as an archive
 #   slh::shared   all calls, as a shared object, where one is installed
 #   slh::verify   the calls of slh_verify.h alone, as an archive, for firmware
 cmake_minimum_required(VERSION 3.13)
 
-get_filename_component(_slh_prefix "${CMAKE_CURRENT_LIST_DIR}/../../.." ABSOLUTE)
+get_filename_component(_slh_lib "${CMAKE_CURRENT_LIST_DIR}/../.." REALPATH)
+get_filename_component(_slh_include "${_slh_lib}/../include" ABSOLUTE)
+if(NOT EXISTS "${_slh_include}/slh.h")
+    get_filename_component(_slh_include "${_slh_lib}/../../include" ABSOLUTE)
+endif()
 
 # Declares the library `name` of the file `file`, where that is installed.
 function(_slh_library name kind file)
-    if(EXISTS "${_slh_prefix}/lib/${file}" AND NOT TARGET slh::${name})
+    if(EXISTS "${_slh_lib}/${file}" AND NOT TARGET slh::${name})
         add_library(slh::${name} ${kind} IMPORTED)
         set_target_properties(
             slh::${name}
-            PROPERTIES IMPORTED_LOCATION "${_slh_prefix}/lib/${file}"
+            PROPERTIES IMPORTED_LOCATION "${_slh_lib}/${file}"
                        IMPORTED_LINK_INTERFACE_LANGUAGES C
-                       INTERFACE_INCLUDE_DIRECTORIES "${_slh_prefix}/include"
+                       INTERFACE_INCLUDE_DIRECTORIES "${_slh_include}"
         )
     endif()
 endfunction()
@@ -36,9 +41,10 @@ foreach(_slh_name IN LISTS slh_FIND_COMPONENTS)
         set(slh_${_slh_name}_FOUND FALSE)
         if(slh_FIND_REQUIRED_${_slh_name})
             set(slh_FOUND FALSE)
-            set(slh_NOT_FOUND_MESSAGE "slh::${_slh_name} is not installed in ${_slh_prefix}")
+            set(slh_NOT_FOUND_MESSAGE "slh::${_slh_name} is not installed in ${_slh_lib}")
         endif()
     endif()
 endforeach()
 unset(_slh_name)
-unset(_slh_prefix)
+unset(_slh_include)
+unset(_slh_lib)

@@ -1,9 +1,12 @@
 package slh
 
-// #include <slh.h>
+// #include "library.h"
 import "C"
 
-import "sync"
+import (
+	"crypto/subtle"
+	"sync"
+)
 
 // xmssLevels returns the levels by which the XMSS trees of a signature are cut: those that docs/BENCHMARKS.md has for
 // four workers, whatever their number. FORS trees are not cut: each is one job.
@@ -22,40 +25,100 @@ func (set Set) xmssLevels() C.uint32_t {
 
 const forsLevels = C.uint32_t(0)
 
+// A signing is one signature as jobs. Each is done once for each room for the answers of all jobs.
+type signing struct {
+	set, levels C.uint32_t
+	key, start  []byte
+	jobs        C.uint32_t
+	answers     [][]byte
+}
+
+// newSigning plans the signature of a key of these bytes, by jobs that are done so many times. The answers have to be
+// erased.
+func newSigning(set Set, key []byte, runs int) (*signing, error) {
+	it := &signing{set: C.uint32_t(set), levels: set.xmssLevels(), key: key}
+	var startLen, answersLen C.size_t
+	if err := done(C.slh_sign_jobs(it.set, it.levels, forsLevels, &it.jobs, &startLen, &answersLen)); err != nil {
+		return nil, err
+	}
+	it.start = make([]byte, startLen)
+	for run := 0; run < runs; run++ {
+		it.answers = append(it.answers, make([]byte, answersLen))
+	}
+	return it, nil
+}
+
+// erase overwrites the answers, which are as secret as the key.
+func (it *signing) erase() {
+	for _, answers := range it.answers {
+		erase(answers)
+	}
+}
+
 // signJobs returns the signature that a start begins, which a call writes. That many goroutines do its jobs, or as many
 // as there are jobs (docs/LIBRARY.md, "Signing with threads of your own"). A key whose root is not the one that its
 // seeds give signs nothing: AnswersDisagree.
-func (secret *SecretKey) signJobs(workers int, begin func(start []byte) C.uint32_t) ([]byte, error) {
-	set, levels := C.uint32_t(secret.set), secret.set.xmssLevels()
-	var jobs C.uint32_t
-	var startLen, answersLen C.size_t
-	if err := done(C.slh_sign_jobs(set, levels, forsLevels, &jobs, &startLen, &answersLen)); err != nil {
+func (secret *SecretKey) signJobs(key []byte, options Options, begin writing) ([]byte, error) {
+	it, err := newSigning(secret.set, key, options.runs())
+	if err != nil {
 		return nil, err
 	}
-	start := make([]byte, startLen)
-	if err := done(begin(start)); err != nil {
+	defer it.erase()
+	if err := done(begin(it.start)); err != nil {
 		return nil, err
 	}
-	answers := make([]byte, answersLen)
-	defer erase(answers)
-	if err := secret.answer(workers, start, jobs, answers); err != nil {
+	if err := it.answer(options.Workers); err != nil {
 		return nil, err
 	}
-	return secret.signature(func(sig []byte) C.uint32_t {
-		return C.slh_sign_join(set, levels, forsLevels, at(secret.bytes), size(secret.bytes), at(start), size(start),
-			at(answers), size(answers), at(sig), size(sig))
+	first := it.answers[0]
+	for _, other := range it.answers[1:] {
+		if subtle.ConstantTimeCompare(first, other) != 1 {
+			return nil, ErrFault
+		}
+	}
+	return secret.written(func(sig []byte) C.uint32_t {
+		return C.slh_sign_join(it.set, it.levels, forsLevels, at(key), size(key), at(it.start), size(it.start),
+			at(first), size(first), at(sig), size(sig))
 	})
 }
 
-// answer has goroutines do all jobs, and returns the first error.
-func (secret *SecretKey) answer(workers int, start []byte, jobs C.uint32_t, answers []byte) error {
-	queue := make(chan C.uint32_t, jobs)
-	for job := C.uint32_t(0); job < jobs; job++ {
-		queue <- job
+// A task is a job and the room for its answer.
+type task struct {
+	job    uint32
+	answer []byte
+}
+
+// tasks returns all jobs for each room for answers.
+func (it *signing) tasks() ([]task, error) {
+	var all []task
+	for _, answers := range it.answers {
+		for job := C.uint32_t(0); job < it.jobs; job++ {
+			var first, count C.size_t
+			if err := done(C.slh_answer_place(it.set, it.levels, forsLevels, job, &first, &count)); err != nil {
+				return nil, err
+			}
+			all = append(all, task{uint32(job), answers[first : first+count]})
+		}
+	}
+	return all, nil
+}
+
+// answer has goroutines do all tasks, and returns the first error.
+func (it *signing) answer(workers int) error {
+	tasks, err := it.tasks()
+	if err != nil {
+		return err
+	}
+	queue := make(chan task, len(tasks))
+	for _, next := range tasks {
+		queue <- next
 	}
 	close(queue)
-	if workers > len(queue) {
-		workers = len(queue)
+	if workers > int(it.jobs) {
+		workers = int(it.jobs)
+	}
+	if workers < 1 {
+		workers = 1
 	}
 	errs := make([]error, workers)
 	var running sync.WaitGroup
@@ -63,9 +126,9 @@ func (secret *SecretKey) answer(workers int, start []byte, jobs C.uint32_t, answ
 		running.Add(1)
 		go func(err *error) {
 			defer running.Done()
-			for job := range queue {
+			for next := range queue {
 				if *err == nil {
-					*err = secret.signJob(start, job, answers)
+					*err = runTask(it, next)
 				}
 			}
 		}(&errs[worker])
@@ -79,21 +142,11 @@ func (secret *SecretKey) answer(workers int, start []byte, jobs C.uint32_t, answ
 	return nil
 }
 
-// signJob writes the answer of a job into its place among the answers.
-func (secret *SecretKey) signJob(start []byte, job C.uint32_t, answers []byte) error {
-	set, levels := C.uint32_t(secret.set), secret.set.xmssLevels()
-	var first, count C.size_t
-	if err := done(C.slh_answer_place(set, levels, forsLevels, job, &first, &count)); err != nil {
-		return err
-	}
-	answer := answers[first : first+count]
-	return done(C.slh_sign_job(set, levels, forsLevels, at(secret.bytes), size(secret.bytes), at(start), size(start),
-		job, at(answer), size(answer)))
-}
+// runTask is run. A test puts one with faults in its place.
+var runTask = (*signing).run
 
-// erase overwrites the answers, which are as secret as the key.
-func erase(answers []byte) {
-	for i := range answers {
-		answers[i] = 0
-	}
+// run does a job.
+func (it *signing) run(next task) error {
+	return done(C.slh_sign_job(it.set, it.levels, forsLevels, at(it.key), size(it.key), at(it.start), size(it.start),
+		C.uint32_t(next.job), at(next.answer), size(next.answer)))
 }

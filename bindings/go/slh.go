@@ -14,14 +14,15 @@
 // signature or the key is valid, and ErrInvalid where it is not.
 //
 // Each signature has a fresh randomizer, from crypto/rand unless another source is given, or Options.Deterministic asks
-// for none. This package does not erase keys: the garbage collector may have copied them.
+// for none. SecretKey.Destroy overwrites a secret key. What this package makes of it for a call is overwritten when the
+// call returns. Slices that a caller hands in, and those of SecretKey.Bytes, are the caller's.
 //
-// The linker has to find libslh.a: CGO_CFLAGS=-IPREFIX/include and CGO_LDFLAGS=-LPREFIX/lib, where PREFIX is the folder
-// that tools/library.sh has installed into.
+// The compiler and the linker have to find libslh.a: CGO_CFLAGS=-IPREFIX/include and CGO_LDFLAGS=-LPREFIX/lib, where
+// PREFIX is the absolute path of the folder that tools/library.sh has installed into.
 package slh
 
 // #cgo LDFLAGS: -l:libslh.a
-// #include <slh.h>
+// #include "library.h"
 import "C"
 
 import (
@@ -101,6 +102,13 @@ var functions = map[crypto.Hash]Function{
 // ErrInvalid says that a signature is not valid, or that the root of a secret key is not the one that its seeds give.
 var ErrInvalid = errors.New("slh: invalid")
 
+// ErrDestroyed says that a secret key was destroyed.
+var ErrDestroyed = errors.New("slh: the secret key was destroyed")
+
+// ErrFault says that two runs of the same work gave different bytes, as by bad memory or a bad processor, where
+// Options.Twice asked for two. Nothing was signed.
+var ErrFault = errors.New("slh: two runs of the same work differ")
+
 // A Refusal is the number of the reason why a call was refused, libslh's: errors.Is(err, slh.ContextTooLong).
 type Refusal uint32
 
@@ -152,6 +160,13 @@ func at(bytes []byte) *C.uint8_t {
 		return nil
 	}
 	return (*C.uint8_t)(unsafe.Pointer(&bytes[0]))
+}
+
+// erase overwrites bytes with zeros.
+func erase(bytes []byte) {
+	if len(bytes) > 0 {
+		C.slh_erase(unsafe.Pointer(at(bytes)), size(bytes))
+	}
 }
 
 // size returns how many bytes there are.

@@ -14,6 +14,7 @@ import (
 	"os"
 	"path/filepath"
 	"strings"
+	"sync"
 	"testing"
 	"testing/iotest"
 )
@@ -355,6 +356,219 @@ func TestAWrongRootSignsNothingValid(t *testing.T) {
 	signature := sign(t, wrong, "letter", nil)
 	if err := wrong.PublicKey().Verify([]byte("letter"), signature, nil); !errors.Is(err, ErrInvalid) {
 		t.Error(err)
+	}
+}
+
+// isZeros tells whether there are bytes, and all are 0.
+func isZeros(text []byte) bool {
+	return len(text) > 0 && bytes.Equal(text, make([]byte, len(text)))
+}
+
+// panicOf returns what a call panics with.
+func panicOf(call func()) (found interface{}) {
+	defer func() { found = recover() }()
+	call()
+	return nil
+}
+
+func TestADestroyedKeyDoesNothing(t *testing.T) {
+	kept := generate(t)
+	given := kept.Bytes()
+	secret, err := NewSecretKey(fast, given)
+	if err != nil || !secret.Equal(kept) {
+		t.Fatal("another key", err)
+	}
+	shared, held := *secret, secret.held.bytes
+	secret.Destroy()
+	secret.Destroy()
+	if !isZeros(held) || !bytes.Equal(given, kept.Bytes()) {
+		t.Error("the key's bytes are not zeros, or the caller's are")
+	}
+	for _, it := range []*SecretKey{secret, &shared} {
+		errs := []error{it.Check()}
+		for _, options := range []*Options{nil, {Workers: 2}, {Twice: true}, {Hash: crypto.SHA256}} {
+			message := make([]byte, 32)
+			_, signed := it.Sign(nil, message, options)
+			_, hashed := it.HashSign(nil, SLH_SHA2_256, message, options)
+			_, digested := it.HashSignDigest(nil, SLH_SHA2_256, message, options)
+			errs = append(errs, signed, hashed, digested)
+		}
+		for number, err := range errs {
+			var refusal Refusal
+			if err != ErrDestroyed || errors.As(err, &refusal) || errors.Is(err, ErrInvalid) {
+				t.Error(number, err)
+			}
+		}
+		for number, call := range []func(){func() { it.Bytes() }, func() { it.PublicKey() }, func() { it.Public() }} {
+			if found := panicOf(call); found != ErrDestroyed {
+				t.Error(number, found)
+			}
+		}
+		if it.Equal(it) || it.Equal(kept) || kept.Equal(it) {
+			t.Error("a destroyed key is equal to one")
+		}
+		if text := fmt.Sprint(it, *it); text != "SecretKey(SLH-DSA-SHA2-128f) SecretKey(SLH-DSA-SHA2-128f)" {
+			t.Error(text)
+		}
+	}
+	new(SecretKey).Destroy()
+	expectRefusal(t, new(SecretKey).Check(), NoSuchSet, 8, "NoSuchSet")
+}
+
+// TestDestroyWhileSigning has a key destroyed while it signs: what is signed is valid, and at the end nothing is.
+func TestDestroyWhileSigning(t *testing.T) {
+	secret := generate(t)
+	public, results := secret.PublicKey(), make(chan error)
+	for signer := 0; signer < 4; signer++ {
+		go func() {
+			for {
+				signature, err := secret.Sign(nil, []byte("letter"), nil)
+				if err == nil {
+					err = public.Verify([]byte("letter"), signature, nil)
+				}
+				results <- err
+				if err != nil {
+					return
+				}
+			}
+		}()
+	}
+	for signed := 0; signed < 8; signed++ {
+		if err := <-results; err != nil {
+			t.Fatal(err)
+		}
+	}
+	secret.Destroy()
+	for ended := 0; ended < 4; {
+		if err := <-results; err == ErrDestroyed {
+			ended++
+		} else if err != nil {
+			t.Fatal(err)
+		}
+	}
+}
+
+// watched has an action run while each task is given to a function after it was done, and returns the signing.
+func watched(action func(), after func(next task) error) (seen *signing) {
+	var lock sync.Mutex
+	runTask = func(it *signing, next task) error {
+		lock.Lock()
+		defer lock.Unlock()
+		seen = it
+		if err := it.run(next); err != nil || after == nil {
+			return err
+		}
+		return after(next)
+	}
+	defer func() { runTask = (*signing).run }()
+	action()
+	return seen
+}
+
+// expectErased fails unless the key and all answers are zeros that jobs were given.
+func expectErased(t *testing.T, seen *signing, rooms int) {
+	t.Helper()
+	if seen == nil || len(seen.answers) != rooms || !isZeros(seen.key) || !isZeros(bytes.Join(seen.answers, nil)) {
+		t.Error("a buffer is not erased")
+	}
+}
+
+func TestBuffersOfSecretsAreErased(t *testing.T) {
+	secret, failed := generate(t), errors.New("a job that fails")
+	options := map[*Options]int{{Workers: 2}: 1, {Twice: true}: 2, {Workers: 3, Twice: true}: 2}
+	for options, rooms := range options {
+		expectErased(t, watched(func() { sign(t, secret, "letter", options) }, nil), rooms)
+		fail := func(next task) error {
+			if next.job == 40 {
+				return failed
+			}
+			return nil
+		}
+		expectErased(t, watched(func() {
+			if signature, err := secret.Sign(nil, []byte("letter"), options); err != failed || signature != nil {
+				t.Error(err)
+			}
+		}, fail), rooms)
+	}
+	var drawn [][]byte
+	source := readerFunc(func(into []byte) (int, error) {
+		drawn = append(drawn, into)
+		return rand.Read(into)
+	})
+	if _, err := Generate(source, fast); err != nil || len(drawn) != 1 || len(drawn[0]) != 48 || !isZeros(drawn[0]) {
+		t.Error("seeds are not erased", err, len(drawn))
+	}
+}
+
+// A readerFunc is a source of random bytes.
+type readerFunc func(into []byte) (int, error)
+
+func (read readerFunc) Read(into []byte) (int, error) {
+	return read(into)
+}
+
+// TestFaultsAreFound flips one bit of one answer after its job: in its node, its tag, what follows, and its last byte.
+func TestFaultsAreFound(t *testing.T) {
+	secret := generate(t)
+	for _, job := range []uint32{0, 21, 22, 54} {
+		for _, at := range []int{0, 16, 32, -1} {
+			for number := 0; number < 4; number++ {
+				wrongRun, workers, runs := number%2, number/2*3, 0
+				options := &Options{Workers: workers, Twice: true}
+				flip := func(next task) error {
+					if next.job != job {
+						return nil
+					}
+					if runs == wrongRun {
+						next.answer[(at+len(next.answer))%len(next.answer)] ^= 1
+					}
+					runs++
+					return nil
+				}
+				expectErased(t, watched(func() {
+					signature, err := secret.Sign(nil, []byte("letter"), options)
+					if err != ErrFault || signature != nil || runs != 2 {
+						t.Error(job, at, number, runs, err)
+					}
+				}, flip), 2)
+			}
+		}
+	}
+}
+
+// TestFaultsInDigestsAreFound flips one bit of one of the two signatures of a digest.
+func TestFaultsInDigestsAreFound(t *testing.T) {
+	secret, options := generate(t), &Options{Twice: true}
+	defer func() { writeOnce = (*SecretKey).written }()
+	for run := 0; run < 2; run++ {
+		var made [][]byte
+		writeOnce = func(secret *SecretKey, call writing) ([]byte, error) {
+			signature, err := secret.written(call)
+			if len(made) == run {
+				signature[len(signature)-1] ^= 1
+			}
+			made = append(made, signature)
+			return signature, err
+		}
+		signature, err := secret.HashSignDigest(nil, SLH_SHA2_256, make([]byte, 32), options)
+		if err != ErrFault || signature != nil || len(made) != 2 || !isZeros(made[0]) || !isZeros(made[1]) {
+			t.Error(run, err, len(made))
+		}
+	}
+}
+
+func TestTwiceSignsTheSame(t *testing.T) {
+	secret, hashed := generate(t), digest(crypto.SHA256, []byte("letter"))
+	for _, workers := range []int{0, 1, 3} {
+		once, twice := &Options{Deterministic: true}, &Options{Deterministic: true, Workers: workers, Twice: true}
+		if !bytes.Equal(sign(t, secret, "letter", once), sign(t, secret, "letter", twice)) {
+			t.Error(workers, "sign otherwise")
+		}
+		one, err := secret.HashSign(nil, SLH_SHA2_256, []byte("letter"), twice)
+		other, otherErr := secret.HashSignDigest(nil, SLH_SHA2_256, hashed, twice)
+		if err != nil || otherErr != nil || !bytes.Equal(one, other) {
+			t.Error(workers, err, otherErr)
+		}
 	}
 }
 

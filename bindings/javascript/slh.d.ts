@@ -30,6 +30,11 @@ export class Refusal extends Error {
     readonly number: number;
 }
 
+/** A secret key was used after `erase`. */
+export class Erased extends Error {
+    constructor();
+}
+
 /** Lengths in bytes. n is that of a seed and of a randomizer. */
 export interface Lengths {
     readonly publicKey: number;
@@ -74,7 +79,10 @@ export interface PublicKey {
     hashVerifyDigest(hash: HashFunction, digest: Uint8Array, signature: Uint8Array, options?: VerifyOptions): boolean;
 }
 
-/** A secret key, SK.seed, SK.prf, PK.seed and PK.root: 64, 96 or 128 bytes, which are not printed. */
+/**
+ * A secret key, SK.seed, SK.prf, PK.seed and PK.root: 64, 96 or 128 bytes, which are not printed. After `erase` each
+ * other call throws Erased.
+ */
 export interface SecretKey {
     readonly set: ParameterSet;
 
@@ -86,6 +94,12 @@ export interface SecretKey {
 
     /** Whether PK.root is the root that the seeds give. This takes as long as making a key. */
     check(): boolean;
+
+    /**
+     * Overwrites the bytes of this key with zeros. Arrays that it was made of, and those of `toBytes`, are the caller's
+     * and stay as they are.
+     */
+    erase(): void;
 
     /**
      * Signs a message in the pure form (Algorithm 22). Throws a Refusal: ContextTooLong for a context of over 255

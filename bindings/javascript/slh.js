@@ -13,8 +13,9 @@
  * an argument of another kind, or an option of another name, a TypeError. `verify` and `check` return true or false.
  *
  * Each signature has a fresh randomizer from crypto.getRandomValues, unless one is given or `deterministic: true` asks
- * for none. What a call was handed is overwritten in the module's memory when it returns; its stack, and the arrays of
- * this language, are not.
+ * for none. When a call returns, what it was handed is cleared in the module's memory, and its stack, too, where it
+ * takes secrets. `erase` clears a secret key. Arrays that a caller hands in or gets stay as they are, and an engine may
+ * keep what it had in its own stack and registers.
  *
  * The module has a 64-bit memory. Node 20 needs --experimental-wasm-memory64.
  */
@@ -41,6 +42,8 @@ const BAD_RANDOMIZER_LENGTH = 17;
 const INVALID = 30;
 const MAX_NAME = 20;
 const PAGE = 65536;
+// The calls that take no secret. After each other one the module's stack is cleared.
+const OPEN = ["slh_version", "slh_lengths", "slh_verify", "slh_hash_verify", "slh_hash_verify_digest"];
 
 const NAMES = ["", "128s", "128f", "192s", "192f", "256s", "256f"];
 const NONE = new Uint8Array(0);
@@ -56,10 +59,18 @@ export class Refusal extends Error {
     }
 }
 
+/** A secret key was used after `erase`. */
+export class Erased extends Error {
+    constructor() {
+        super("the secret key was erased");
+        this.name = "Erased";
+    }
+}
+
 /** Where a call writes so many bytes. */
 class Room {
     constructor(length) {
-        this.bytes = new Uint8Array(length);
+        this.bytes = zeros(length);
     }
 }
 
@@ -78,10 +89,13 @@ class NumberRoom extends Room {
 class Calls {
     #wasm;
     #first;
+    #stackEnd;
+    #lengths = new Map();
 
     constructor(wasm) {
         this.#wasm = wasm;
         this.#first = aligned(Number(wasm.__heap_base.value));
+        this.#stackEnd = stackEnd(new Int32Array(wasm.memory.buffer));
     }
 
     /** Calls with numbers, and with bytes and rooms as a pointer and a length each. Returns the number. */
@@ -106,6 +120,16 @@ class Calls {
                 if (it instanceof Room) bytes.set(memory.subarray(at, at + bytes.length));
             }
             memory.fill(0, this.#first, end);
+            if (!OPEN.includes(name)) this.#clearStack();
+        }
+    }
+
+    /** Clears pages from the stack's end down, until there is one that no call has written to. */
+    #clearStack() {
+        for (let end = this.#stackEnd; end > 0; end -= PAGE) {
+            const page = new Int32Array(this.#wasm.memory.buffer, Math.max(end - PAGE, 0), Math.min(end, PAGE) / 4);
+            if (end !== this.#stackEnd && areZeros(page)) return;
+            page.fill(0);
         }
     }
 
@@ -133,8 +157,13 @@ class Calls {
     }
 
     lengths(set) {
+        if (!this.#lengths.has(checkedSet(set))) this.#lengths.set(set, this.#askLengths(set));
+        return { ...this.#lengths.get(set) };
+    }
+
+    #askLengths(set) {
         const rooms = [new NumberRoom(), new NumberRoom(), new NumberRoom(), new NumberRoom()];
-        const result = this.call("slh_lengths", [checkedSet(set)], ...rooms);
+        const result = this.call("slh_lengths", [set], ...rooms);
         if (result !== DONE) throw this.refusal(result);
         const [publicKey, secretKey, signature, n] = rooms.map((it) => it.value);
         return { publicKey, secretKey, signature, n };
@@ -177,8 +206,35 @@ function aligned(at) {
     return Math.ceil(at / 16) * 16;
 }
 
+/**
+ * Where the module's stack ends: it lies below the constants, and is zeros before the first call. A constant's own
+ * zeros may be taken for it, which clearing leaves as they are. Words are those of the whole memory.
+ */
+function stackEnd(words) {
+    const end = 4 * words.findIndex((word) => word !== 0);
+    if (end < PAGE) throw new Error("the module does not have its stack below its constants");
+    return end - (end % 16);
+}
+
+function areZeros(words) {
+    let all = 0;
+    for (let at = 0; at < words.length; at += 1) all |= words[at];
+    return all === 0;
+}
+
+/** Zeros in memory of their own: engines move the bytes of short arrays that have none, and leave copies behind. */
+function zeros(length) {
+    return new Uint8Array(new ArrayBuffer(length));
+}
+
+function copyOf(bytes) {
+    const copy = zeros(bytes.length);
+    copy.set(bytes);
+    return copy;
+}
+
 function random(count) {
-    return globalThis.crypto.getRandomValues(new Uint8Array(count));
+    return globalThis.crypto.getRandomValues(zeros(count));
 }
 
 function checkedBytes(it) {
@@ -214,7 +270,7 @@ function checkedOptions(it, names) {
 /** A copy of a key's bytes. Refused: BadLength where there are more or fewer. */
 function keyBytes(calls, bytes, length) {
     if (checkedBytes(bytes).length !== length) throw calls.refusal(BAD_LENGTH);
-    return Uint8Array.from(bytes);
+    return copyOf(bytes);
 }
 
 /** A public key, PK.seed and PK.root: 2n bytes. `publicKey` of a Library makes one. */
@@ -268,6 +324,7 @@ class SecretKey {
     #calls;
     #set;
     #bytes;
+    #isErased = false;
 
     constructor(calls, set, bytes) {
         this.#bytes = keyBytes(calls, bytes, calls.lengths(set).secretKey);
@@ -280,17 +337,28 @@ class SecretKey {
     }
 
     toBytes() {
-        return Uint8Array.from(this.#bytes);
+        return copyOf(this.#held());
     }
 
     public() {
         const { publicKey } = this.#calls.lengths(this.#set);
-        const bytes = this.#calls.write("slh_public", publicKey, [this.#set], this.#bytes);
+        const bytes = this.#calls.write("slh_public", publicKey, [this.#set], this.#held());
         return new PublicKey(this.#calls, this.#set, bytes);
     }
 
     check() {
-        return this.#calls.judge("slh_check", [this.#set], this.#bytes);
+        return this.#calls.judge("slh_check", [this.#set], this.#held());
+    }
+
+    erase() {
+        this.#bytes.fill(0);
+        this.#isErased = true;
+    }
+
+    /** The bytes, unless they were erased: zeros would sign, too. */
+    #held() {
+        if (this.#isErased) throw new Erased();
+        return this.#bytes;
     }
 
     sign(message, options = {}) {
@@ -309,7 +377,10 @@ class SecretKey {
         const { context = NONE } = checkedOptions(options, SIGN_OPTIONS);
         const randomizer = this.#calls.randomizer(this.#set, options);
         const { signature } = this.#calls.lengths(this.#set);
-        return this.#calls.write(call, signature, [this.#set, ...hash], this.#bytes, text, context, randomizer);
+        const numbers = [this.#set, ...hash];
+        const made = this.#calls.write(call, signature, numbers, this.#held(), text, context, randomizer);
+        this.#held(); // what was handed in may have code of the caller's, which may have erased the key
+        return made;
     }
 
     toString() {
@@ -339,12 +410,22 @@ class Library {
 
     generate(set) {
         const { n } = this.lengths(set);
-        return this.keygen(set, random(n), random(n), random(n));
+        const seeds = [random(n), random(n), random(n)];
+        try {
+            return this.keygen(set, ...seeds);
+        } finally {
+            for (const seed of seeds) seed.fill(0);
+        }
     }
 
     keygen(set, skSeed, skPrf, pkSeed) {
         const { secretKey } = this.lengths(set);
-        return this.secretKey(set, this.#calls.write("slh_keygen", secretKey, [set], skSeed, skPrf, pkSeed));
+        const made = this.#calls.write("slh_keygen", secretKey, [set], skSeed, skPrf, pkSeed);
+        try {
+            return this.secretKey(set, made);
+        } finally {
+            made.fill(0);
+        }
     }
 
     secretKey(set, bytes) {

@@ -1,4 +1,4 @@
-"""Builds the wheel: the module and the shared objects of an installed library. A build backend (PEP 517) of its own.
+"""Builds the wheel: the module and the shared object of an installed library. A build backend (PEP 517) of its own.
 
     SLH_PREFIX=PREFIX pip wheel --no-index bindings/python
     SLH_PREFIX=PREFIX python3 bindings/python/build_wheel.py FOLDER
@@ -65,9 +65,6 @@ def contents(prefix: pathlib.Path, version: str) -> dict[str, bytes]:
     info = f"slh-{version}.dist-info"
     files = {f"slh/{name}": (HERE / "slh" / name).read_bytes() for name in ("__init__.py", "py.typed")}
     files["slh/libslh.so.0"] = (prefix / "lib" / "libslh.so.0").read_bytes()
-    best = prefix / "lib" / "glibc-hwcaps" / "x86-64-v3" / "libslh.so.0"
-    if best.exists():
-        files["slh/x86-64-v3/libslh.so.0"] = best.read_bytes()
     for name in ("LICENSE-APACHE", "LICENSE-MIT"):
         files[f"{info}/{name}"] = (REPOSITORY / name).read_bytes()
     files[f"{info}/METADATA"] = METADATA.format(version=version).encode()

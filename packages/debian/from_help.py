@@ -13,7 +13,8 @@ COMMAND = re.compile(r"^  ([a-z]+) {2,}(\S.*)$")
 
 
 class Help:
-    """A help text: its sentence, its usage, its commands and options, and the paragraph at its end."""
+    """A help text: its sentence, its usage, its commands and options, and the paragraph at its end. The sentence of the
+    program itself has its version before it."""
 
     def __init__(self, text):
         parts = text.rstrip("\n").split("\n\n")
@@ -63,7 +64,8 @@ def man_end(text):
 
 
 def man(program, commands, version):
-    name = program.sentence[0].lower() + program.sentence[1:]
+    name = program.sentence.split(": ", 1)[-1]
+    name = name[0].lower() + name[1:]
     yield f'.TH SLH 1 "" "slh {version}" "User Commands"'
     yield from (".SH NAME", f"slh \\- {roff(name)}", ".SH SYNOPSIS", f"\\fB{roff(program.usage)}\\fR")
     yield ".SH OPTIONS"

@@ -9,7 +9,7 @@ import { inspect } from "node:util";
 
 import * as names from "../slh.js";
 
-const { load, Refusal, SLH_DSA_SHA2_128F, SLH_SHA2_256 } = names;
+const { Erased, load, Refusal, SLH_DSA_SHA2_128F, SLH_SHA2_256 } = names;
 
 const repository = new URL("../../../", import.meta.url);
 const module = new WebAssembly.Module(readFileSync(process.env.SLH_WASM));
@@ -246,6 +246,111 @@ test("secrets are not printed", () => {
         assert.equal(text, "SecretKey(SLH-DSA-SHA2-128f)");
     }
     assert.equal(JSON.stringify(secret), "{}");
+});
+
+/** Loads the module anew. The library, and the module's memory, which the package keeps to itself. */
+async function loadWithMemory() {
+    const { instantiate } = WebAssembly;
+    let made;
+    WebAssembly.instantiate = async (...given) => (made = await instantiate(...given));
+    try {
+        const library = await load(module);
+        return [library, () => Buffer.from(made.exports.memory.buffer)];
+    } finally {
+        WebAssembly.instantiate = instantiate;
+    }
+}
+
+/** Runs an action, and returns the arrays that the package has drawn and those that it has put into the memory. */
+function watched(action) {
+    const { getRandomValues } = crypto;
+    const { set } = Uint8Array.prototype;
+    const [drawn, put] = [[], []];
+    crypto.getRandomValues = (it) => (drawn.push(it), getRandomValues.call(crypto, it));
+    Uint8Array.prototype.set = function (it, at) {
+        put.push(it);
+        set.call(this, it, at);
+    };
+    try {
+        return { result: action(), drawn, put };
+    } finally {
+        crypto.getRandomValues = getRandomValues;
+        Uint8Array.prototype.set = set;
+    }
+}
+
+const isZeros = (it) => it.every((byte) => byte === 0);
+
+// Each call that takes a secret: afterwards the memory is what it was before the first call, and zeros where it grew.
+// The sets whose names end in s are slow.
+test("no call leaves secrets in the module's memory", async () => {
+    const digest = new Uint8Array(32);
+    for (const set of [SLH_DSA_SHA2_128F, names.SLH_DSA_SHA2_192F, names.SLH_DSA_SHA2_256F]) {
+        const [library, memory] = await loadWithMemory();
+        const before = Buffer.from(memory());
+        const expectClear = (name) => {
+            assert.ok(memory().subarray(0, before.length).equals(before), `${name} of set ${set}`);
+            assert.ok(isZeros(memory().subarray(before.length)), `${name} of set ${set}, behind the first pages`);
+        };
+        const { n } = library.lengths(set);
+        const seeds = [1, 2, 3].map((byte) => new Uint8Array(n).fill(byte));
+        const secret = library.keygen(set, ...seeds);
+        expectClear("keygen");
+        assert.equal(secret.check(), true);
+        expectClear("check");
+        assert.equal(secret.public().toBytes().length, 2 * n);
+        expectClear("public");
+        secret.sign(letter);
+        expectClear("sign");
+        secret.hashSign(SLH_SHA2_256, letter);
+        expectClear("hashSign");
+        secret.hashSignDigest(SLH_SHA2_256, digest);
+        expectClear("hashSignDigest");
+        refused(2, "ContextTooLong", () => secret.sign(letter, { context: new Uint8Array(256) }));
+        expectClear("a refusal");
+    }
+});
+
+test("seeds and keys that the package made are erased", () => {
+    const { result: made, drawn, put } = watched(() => slh.generate(SLH_DSA_SHA2_128F));
+    assert.equal(drawn.length, 3);
+    assert.ok(drawn.every(isZeros));
+    const key = made.toBytes();
+    const copies = [...put, ...watched(() => made.check()).put];
+    assert.ok(copies.some((it) => hex(it) === hex(key)));
+    made.erase();
+    for (const it of copies) assert.ok(isZeros(it), `${it.length} bytes`);
+});
+
+test("after it was erased a key does nothing", () => {
+    const bytesOfKey = secret.toBytes();
+    const made = slh.secretKey(SLH_DSA_SHA2_128F, bytesOfKey);
+    made.erase();
+    made.erase();
+    assert.equal(hex(bytesOfKey), hex(secret.toBytes()));
+    const calls = [
+        () => made.toBytes(),
+        () => made.public(),
+        () => made.check(),
+        () => made.sign(letter),
+        () => made.hashSign(SLH_SHA2_256, letter),
+        () => made.hashSignDigest(SLH_SHA2_256, new Uint8Array(32)),
+    ];
+    for (const call of calls) assert.throws(call, Erased);
+    assert.ok(!(new Erased() instanceof Refusal));
+    assert.equal(new Erased().name, "Erased");
+    assert.equal(String(made), "SecretKey(SLH-DSA-SHA2-128f)");
+});
+
+test("a key that is erased while a call looks at its arguments signs nothing", () => {
+    const other = slh.secretKey(SLH_DSA_SHA2_128F, secret.toBytes());
+    class Late extends Uint8Array {
+        get length() {
+            other.erase();
+            return super.length;
+        }
+    }
+    assert.throws(() => other.sign(new Late(6)), Erased);
 });
 
 test("numbers are those of the header", () => {

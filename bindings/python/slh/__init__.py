@@ -15,22 +15,27 @@ says that a call was wrong. An argument of another type is a TypeError.
 
 Each signature has a fresh randomizer from the system, unless one is given or `deterministic=True` asks for none. So two
 signatures of one message differ, and both are valid.
-Calls release the interpreter lock while they compute, so that threads compute at the same time. This module can't
-erase keys: Python keeps and copies bytes as it likes.
+Calls release the interpreter lock while they compute, so that threads compute at the same time.
+
+`erase` clears a secret key, and so does the end of `with slh.SecretKey.generate(set) as secret:`. What this module
+makes of it for a call is cleared when the call returns. Bytes that a caller hands in, and those of `to_bytes`, are the
+caller's: hand in a bytearray, and clear that. Nothing can clear a Python `bytes`.
 """
 
 from __future__ import annotations
 
 import concurrent.futures
+import contextlib
 import ctypes
 import enum
+import errno
 import hmac
 import os
 import pathlib
 import types
 import typing
 
-__all__ = ["Function", "Invalid", "Lengths", "PublicKey", "Refusal", "SecretKey", "Set", "Signer", "version"]
+__all__ = """Erased Fault Function Invalid Lengths PublicKey Refusal SecretKey Set Signer version""".split()
 
 _DONE = 0
 _BAD_LENGTH = 3
@@ -98,34 +103,47 @@ class Invalid(Exception):
     """The signature is not valid, or the root of the secret key is not the one that its seeds give."""
 
 
-def _has_v3() -> bool:
-    """Whether the processor has the level x86-64-v3, which the faster of the two shared objects needs."""
-    try:
-        text = pathlib.Path("/proc/cpuinfo").read_text(encoding="ascii", errors="replace")
-    except OSError:
-        return False
-    flags = next((line.split() for line in text.splitlines() if line.startswith("flags")), [])
-    return {"avx", "avx2", "bmi1", "bmi2", "f16c", "fma", "abm", "movbe"}.issubset(flags)
+class Erased(Exception):
+    """The secret key was erased."""
+
+    def __init__(self) -> None:
+        super().__init__("the secret key was erased")
+
+
+class Fault(Exception):
+    """Two runs of the same work gave different bytes, as by bad memory or a bad processor. Nothing was signed."""
+
+    def __init__(self) -> None:
+        super().__init__("two runs of a job gave different answers")
 
 
 def _load() -> ctypes.CDLL:
-    """Loads the shared object for this processor, which is installed beside this file."""
-    here = pathlib.Path(__file__).resolve().parent
-    best = here / "x86-64-v3" / "libslh.so.0"
-    library = ctypes.CDLL(str(best if best.exists() and _has_v3() else here / "libslh.so.0"))
+    """Loads the shared object beside this file, which runs the best code that it has for the processor."""
+    library = ctypes.CDLL(str(pathlib.Path(__file__).resolve().parent / "libslh.so.0"))
     for name in _NAMES:
         getattr(library, name).restype = ctypes.c_uint32
+    library.slh_erase.restype = None
     return library
 
 
 _library = _load()
+_system = ctypes.CDLL(None, use_errno=True)
+_system.getrandom.restype = ctypes.c_ssize_t
+
+#: Bytes that can be cleared. They do not move.
+_Buffer = ctypes.Array[ctypes.c_char]
 
 
-def _checked_bytes(given: Bytes) -> bytes:
+def _checked_type(given: Bytes) -> Bytes:
     """Bytes for a call. A number in their place would move the arguments behind it."""
     if not isinstance(given, (bytes, bytearray, memoryview)):
         raise TypeError(f"bytes are needed, not {type(given).__name__}")
-    return bytes(given)
+    return given
+
+
+def _checked_bytes(given: Bytes) -> bytes:
+    """Bytes for a call that are no secret: a copy of them can't be cleared."""
+    return bytes(_checked_type(given))
 
 
 def _checked_number(given: int, kind: type[enum.IntEnum]) -> int:
@@ -172,9 +190,42 @@ def _lengths(set: int) -> Lengths:
     return Lengths(*(it.value for it in found))
 
 
-def _random(count: int) -> bytes:
-    """Fresh bytes from the system's generator, once that is ready."""
-    return os.urandom(count)
+def _buffer_of(given: Bytes) -> _Buffer:
+    """A copy of bytes that can be cleared."""
+    whole = _checked_type(given) if memoryview(_checked_type(given)).c_contiguous else bytes(given)
+    return (ctypes.c_char * memoryview(whole).nbytes).from_buffer_copy(whole)
+
+
+def _erase(buffer: _Buffer) -> None:
+    _library.slh_erase(buffer, ctypes.c_size_t(len(buffer)))
+
+
+def _are_same(one: _Buffer, other: _Buffer) -> bool:
+    """Whether both have the same bytes, in a time that does not depend on them."""
+    return hmac.compare_digest(memoryview(one).cast("B"), memoryview(other).cast("B"))
+
+
+@contextlib.contextmanager
+def _cleared(*buffers: _Buffer) -> typing.Iterator[None]:
+    """Clears buffers in the end, whatever happens."""
+    try:
+        yield
+    finally:
+        for it in buffers:
+            _erase(it)
+
+
+def _randomly(count: int) -> _Buffer:
+    """Fresh bytes from the system's generator, once that is ready. Those of os.urandom could not be cleared."""
+    buffer = ctypes.create_string_buffer(count)
+    filled = 0
+    while filled < count:
+        more = _system.getrandom(ctypes.byref(buffer, filled), ctypes.c_size_t(count - filled), 0)
+        number = ctypes.get_errno()
+        if more < 0 and number != errno.EINTR:
+            raise OSError(number, os.strerror(number))
+        filled += max(more, 0)
+    return buffer
 
 
 def _randomizer(n: int, given: Bytes | None, deterministic: bool) -> bytes:
@@ -186,19 +237,18 @@ def _randomizer(n: int, given: Bytes | None, deterministic: bool) -> bytes:
             raise TypeError("a deterministic signature has no randomizer")
         return b""
     if given is None:
-        return _random(n)
+        return os.urandom(n)
     held = _checked_bytes(given)
     if len(held) != n:
         raise Refusal(_BAD_RANDOMIZER_LENGTH)
     return held
 
 
-def _key_bytes(data: Bytes, length: int) -> bytes:
+def _checked_key(data: Bytes, length: int) -> Bytes:
     """The bytes of a key, which has so many."""
-    held = _checked_bytes(data)
-    if len(held) != length:
+    if memoryview(_checked_type(data)).nbytes != length:
         raise Refusal(_BAD_LENGTH)
-    return held
+    return data
 
 
 def version() -> int:
@@ -214,7 +264,7 @@ class PublicKey:
     def __init__(self, set: int, data: Bytes) -> None:
         """Takes the bytes of a public key. Raises Refusal: NoSuchSet; BadLength unless there are 2n of them."""
         length = _lengths(set).public_key
-        self._set, self._bytes = Set(set), _key_bytes(data, length)
+        self._set, self._bytes = Set(set), bytes(_checked_key(data, length))
 
     @property
     def set(self) -> Set:
@@ -263,33 +313,79 @@ class PublicKey:
 
 
 class SecretKey:
-    """A secret key, SK.seed, SK.prf, PK.seed and PK.root: 64, 96 or 128 bytes. They are not printed."""
+    """A secret key, SK.seed, SK.prf, PK.seed and PK.root: 64, 96 or 128 bytes. They are not printed.
 
-    __slots__ = ("_set", "_bytes")
+    After `erase`, and after the end of `with secret:`, each other call raises Erased.
+    """
+
+    __slots__ = ("_set", "_buffer", "_is_erased")
 
     def __init__(self, set: int, data: Bytes) -> None:
         """Takes the bytes of a secret key. Call `check` once on one that comes from elsewhere.
 
-        Raises Refusal: NoSuchSet; BadLength unless there are 4n bytes.
+        The bytes are copied, and stay the caller's. Raises Refusal: NoSuchSet; BadLength unless there are 4n bytes.
         """
         length = _lengths(set).secret_key
-        self._set, self._bytes = Set(set), _key_bytes(data, length)
+        self._set, self._buffer, self._is_erased = Set(set), _buffer_of(_checked_key(data, length)), False
 
     @classmethod
     def generate(cls, set: int) -> SecretKey:
         """Makes a key from random bytes of the system (Algorithm 21). Raises Refusal: NoSuchSet."""
         n = _lengths(set).n
-        return cls.keygen(set, _random(n), _random(n), _random(n))
+        seeds = _randomly(n), _randomly(n), _randomly(n)
+        with _cleared(*seeds):
+            return cls._of_seeds(set, seeds)
 
     @classmethod
     def keygen(cls, set: int, sk_seed: Bytes, sk_prf: Bytes, pk_seed: Bytes) -> SecretKey:
         """Makes the key of three seeds of n bytes each (Algorithm 18). They are as secret as the key.
 
-        Raises Refusal: NoSuchSet, BadSeedLength.
+        They are copied, and stay the caller's. Raises Refusal: NoSuchSet, BadSeedLength.
         """
-        secret = ctypes.create_string_buffer(_lengths(set).secret_key)
-        _done("slh_keygen", set, *(_checked_bytes(it) for it in (sk_seed, sk_prf, pk_seed)), secret)
-        return cls(set, secret.raw)
+        given = [_checked_type(it) for it in (sk_seed, sk_prf, pk_seed)]
+        seeds = [_buffer_of(it) for it in given]
+        with _cleared(*seeds):
+            return cls._of_seeds(set, seeds)
+
+    @classmethod
+    def _of_seeds(cls, set: int, seeds: typing.Iterable[_Buffer]) -> SecretKey:
+        made = ctypes.create_string_buffer(_lengths(set).secret_key)
+        with _cleared(made):
+            _done("slh_keygen", set, *seeds, made)
+            return cls(set, memoryview(made))
+
+    def erase(self) -> None:
+        """Overwrites the bytes of this key with zeros.
+
+        A call that runs in another thread ends under its own copy of them, which it then clears.
+        """
+        self._is_erased = True
+        _erase(self._buffer)
+
+    def __enter__(self) -> SecretKey:
+        if self._is_erased:
+            raise Erased
+        return self
+
+    def __exit__(
+        self,
+        kind: type[BaseException] | None,
+        error: BaseException | None,
+        trace: types.TracebackType | None,
+    ) -> None:
+        self.erase()
+
+    @contextlib.contextmanager
+    def _taken(self) -> typing.Iterator[_Buffer]:
+        """A copy for one call. `erase` marks the key first: a copy that is made before that mark has all bytes."""
+        copy = _buffer_of(memoryview(self._buffer))
+        with _cleared(copy):
+            if self._is_erased:
+                raise Erased
+            yield copy
+
+    def __reduce__(self) -> tuple[type[SecretKey], tuple[Set, bytes]]:
+        return type(self), (self._set, self.to_bytes())
 
     @property
     def set(self) -> Set:
@@ -297,18 +393,21 @@ class SecretKey:
         return self._set
 
     def to_bytes(self) -> bytes:
-        """The 4n bytes of the key."""
-        return self._bytes
+        """The 4n bytes of the key. Nothing clears them: they are the caller's."""
+        with self._taken() as secret:
+            return secret.raw
 
     def public(self) -> PublicKey:
         """The public key: the last 2n bytes."""
         public = ctypes.create_string_buffer(_lengths(self._set).public_key)
-        _done("slh_public", self._set, self._bytes, public)
+        with self._taken() as secret:
+            _done("slh_public", self._set, secret, public)
         return PublicKey(self._set, public.raw)
 
     def check(self) -> None:
         """Raises Invalid unless PK.root is the root that the seeds give. This takes as long as making a key."""
-        _done("slh_check", self._set, self._bytes)
+        with self._taken() as secret:
+            _done("slh_check", self._set, secret)
 
     def sign(
         self,
@@ -370,13 +469,16 @@ class SecretKey:
         given = [_checked_bytes(it) for it in (text, context)]
         opt_rand = _randomizer(lengths.n, randomizer, deterministic)
         signature = ctypes.create_string_buffer(lengths.signature)
-        _done(call, self._set, *function, self._bytes, *given, opt_rand, signature)
+        with self._taken() as secret:
+            _done(call, self._set, *function, secret, *given, opt_rand, signature)
         return signature.raw
 
     def __eq__(self, other: object) -> bool:
+        """Whether both are the same key. One that was erased is none."""
         if not isinstance(other, SecretKey):
             return NotImplemented
-        return self._set == other._set and hmac.compare_digest(self._bytes, other._bytes)
+        is_same = self._set == other._set and _are_same(self._buffer, other._buffer)
+        return is_same and not self._is_erased and not other._is_erased
 
     __hash__ = None  # type: ignore[assignment]
 
@@ -394,14 +496,20 @@ class Signer:
     same randomizer, or with none, it is byte for byte the one that `SecretKey` makes. A secret key that `check` finds
     invalid is refused as AnswersDisagree, where `SecretKey` makes a signature that is not valid. Digests are signed by
     `SecretKey.hash_sign_digest` alone. Any number of threads may sign by one Signer at once.
+
+    With `twice` each job runs two times, and Fault is raised unless both runs gave the same bytes: then nothing is
+    signed. This is for who fears faults, by bad memory or a bad processor (docs/LIBRARY.md, "Faults").
     """
 
-    def __init__(self, workers: int) -> None:
+    def __init__(self, workers: int, *, twice: bool = False) -> None:
         """Keeps up to that many threads, at least 1, until `close`. No more start than a signature has jobs."""
         if workers < 1:
             raise ValueError(f"workers are at least 1, not {workers}")
+        if not isinstance(twice, bool):
+            raise TypeError("twice is True or False")
         self._pool = concurrent.futures.ThreadPoolExecutor(workers, thread_name_prefix="slh")
         self._workers = workers
+        self._runs = 2 if twice else 1
 
     def sign(
         self,
@@ -441,9 +549,10 @@ class Signer:
     ) -> bytes:
         given = [_checked_bytes(it) for it in (message, context)]
         opt_rand = _randomizer(_lengths(secret.set).n, randomizer, deterministic)
-        work = _Work(secret)
-        _done(call, secret.set, *function, work.secret, *given, opt_rand, work.start)
-        return work.done_by(self._pool, self._workers)
+        with secret._taken() as taken:
+            work = _Work(secret.set, taken, self._runs)
+            _done(call, secret.set, *function, taken, *given, opt_rand, work.start)
+            return work.done_by(self._pool, self._workers)
 
     def close(self) -> None:
         """Waits for what is being signed, and ends the threads."""
@@ -462,42 +571,45 @@ class Signer:
 
 
 class _Work:
-    """One signature as jobs."""
+    """One signature as jobs, each of which runs once or twice."""
 
-    def __init__(self, secret: SecretKey) -> None:
-        self.set, self.secret = secret.set, secret.to_bytes()
+    def __init__(self, set: Set, secret: _Buffer, runs: int) -> None:
+        self.set, self.secret = set, secret
         # The levels of XMSS trees, those that docs/BENCHMARKS.md has for four workers, and of FORS trees.
         self.cut = (self.set, {1: 4, 3: 4, 5: 3, 6: 1}.get(self.set, 0), 0)
         jobs, start_len, answers_len = ctypes.c_uint32(), ctypes.c_size_t(), ctypes.c_size_t()
         _done("slh_sign_jobs", *self.cut, jobs, start_len, answers_len)
         self.jobs = jobs.value
         self.start = ctypes.create_string_buffer(start_len.value)
-        self.answers = ctypes.create_string_buffer(answers_len.value)
+        self.answers = [ctypes.create_string_buffer(answers_len.value) for _ in range(runs)]
 
-    def job(self, number: int) -> None:
+    def job(self, number: int, answers: _Buffer) -> None:
         """Writes the answer of a job into its place."""
         at, length = ctypes.c_size_t(), ctypes.c_size_t()
         _done("slh_answer_place", *self.cut, number, at, length)
-        answer = (ctypes.c_char * length.value).from_buffer(self.answers, at.value)
+        answer = (ctypes.c_char * length.value).from_buffer(answers, at.value)
         _done("slh_sign_job", *self.cut, self.secret, self.start, number, answer)
 
-    def work(self, numbers: typing.Iterator[int]) -> None:
+    def work(self, numbers: typing.Iterator[tuple[_Buffer, int]]) -> None:
         """Does jobs while there are numbers, which several threads take."""
-        for number in numbers:
-            self.job(number)
+        for answers, number in numbers:
+            self.job(number, answers)
 
     def done_by(self, pool: concurrent.futures.Executor, workers: int) -> bytes:
-        """Has the jobs done, and joins their answers to the signature. Answers are secret, and are erased."""
+        """Has the jobs done, and joins their answers to the signature. Answers are secret, and are cleared."""
         signature = ctypes.create_string_buffer(_lengths(self.set).signature)
-        numbers = iter(range(self.jobs))
+        numbers = iter([(answers, number) for answers in self.answers for number in range(self.jobs)])
         futures: list[concurrent.futures.Future[None]] = []
-        try:
-            for _ in range(min(workers, self.jobs)):
-                futures.append(pool.submit(self.work, numbers))
-            for it in futures:
-                it.result()
-            _done("slh_sign_join", *self.cut, self.secret, self.start, self.answers, signature)
-        finally:
-            concurrent.futures.wait(futures)
-            ctypes.memset(self.answers, 0, len(self.answers))
+        with _cleared(*self.answers):
+            try:
+                for _ in range(min(workers, self.jobs)):
+                    futures.append(pool.submit(self.work, numbers))
+                for it in futures:
+                    it.result()
+            finally:
+                concurrent.futures.wait(futures)
+            first, *others = self.answers
+            if not all(_are_same(first, it) for it in others):
+                raise Fault
+            _done("slh_sign_join", *self.cut, self.secret, self.start, first, signature)
         return signature.raw

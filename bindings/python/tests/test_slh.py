@@ -5,19 +5,22 @@ python3 -m unittest discover -s bindings/python/tests
 
 from __future__ import annotations
 
+import contextlib
+import copy
 import ctypes
 import hashlib
+import itertools
 import json
 import pathlib
+import pickle
 import re
-import subprocess
 import unittest
+import unittest.mock
 
 import slh
 
 REPOSITORY = pathlib.Path(__file__).resolve().parents[3]
 FAST = slh.Set.SLH_DSA_SHA2_128F
-LOADER = pathlib.Path("/lib64/ld-linux-x86-64.so.2")
 
 
 def vectors() -> list[dict]:
@@ -112,6 +115,54 @@ def signatures(test: dict) -> list[bytes]:
             secret.hash_sign_digest(function, digest_of(test), context, **how),
             signer.hash_sign(secret, function, message, context, **how),
         ]
+
+
+#: Where secrets stand among the arguments of calls: keys, seeds and answers.
+SECRETS = {
+    "slh_keygen": (1, 2, 3, 4),
+    "slh_public": (1,),
+    "slh_check": (1,),
+    "slh_sign": (1,),
+    "slh_hash_sign": (2,),
+    "slh_hash_sign_digest": (2,),
+    "slh_sign_start": (1,),
+    "slh_hash_sign_start": (2,),
+    "slh_sign_job": (3, 6),
+    "slh_sign_join": (3, 5),
+}
+
+
+@contextlib.contextmanager
+def watched(act=None):
+    """Sees each call that this module makes of the library: its name, and the buffers of secrets that it is handed.
+
+    After each call `act` is given its arguments.
+    """
+    seen, call = [], slh._call
+
+    def watching(name, *arguments):
+        result = call(name, *arguments)
+        if act:
+            act(name, arguments)
+        for at in SECRETS.get(name, ()):
+            assert any(arguments[at].raw) or result, f"{name} is given zeros"
+            seen.append((name, arguments[at]))
+        return result
+
+    with unittest.mock.patch.object(slh, "_call", watching):
+        yield seen
+
+
+def faulty(job: int, run: int, bit: int):
+    """Flips a bit of the answer of a job in one of its runs."""
+    runs = itertools.count()
+
+    def act(name, arguments) -> None:
+        if name == "slh_sign_job" and arguments[5] == job and next(runs) == run:
+            answer = memoryview(arguments[6]).cast("B")
+            answer[bit // 8] ^= 1 << bit % 8
+
+    return act
 
 
 class Calls(unittest.TestCase):
@@ -248,6 +299,102 @@ class Calls(unittest.TestCase):
                 self.refused(25, "AnswersDisagree", signer.sign, secret, b"letter")
         self.assertRaises(slh.Invalid, secret.public().verify, b"letter", secret.sign(b"letter"))
 
+    def test_an_erased_key_does_nothing(self) -> None:
+        data = bytearray(self.secret.to_bytes())
+        secret, other, third = (slh.SecretKey(FAST, data) for _ in range(3))
+        self.assertEqual(secret, self.secret)
+        secret.erase()
+        secret.erase()
+        with other as entered:
+            self.assertIs(entered, other)
+            other.check()
+        with self.assertRaises(ZeroDivisionError), third:
+            print(1 / 0)
+        self.assertEqual(data, self.secret.to_bytes())
+        for it in secret, other, third:
+            self.does_nothing(it)
+
+    def does_nothing(self, erased: slh.SecretKey) -> None:
+        function = slh.Function.SLH_SHA2_256
+        with slh.Signer(workers=2) as signer:
+            for call, given in (
+                (erased.to_bytes, ()),
+                (erased.public, ()),
+                (erased.check, ()),
+                (erased.sign, (b"letter",)),
+                (erased.hash_sign, (function, b"letter")),
+                (erased.hash_sign_digest, (function, bytes(32))),
+                (signer.sign, (erased, b"letter")),
+                (signer.hash_sign, (erased, function, b"letter")),
+                (erased.__enter__, ()),
+                (copy.copy, (erased,)),
+                (pickle.dumps, (erased,)),
+            ):
+                with self.assertRaises(slh.Erased) as caught:
+                    call(*given)
+                self.assertNotIsInstance(caught.exception, (slh.Refusal, slh.Invalid, slh.Fault))
+        self.assertFalse(erased == erased or erased == self.secret)
+        self.assertEqual(repr(erased), "<slh.SecretKey SLH_DSA_SHA2_128F>")
+
+    def test_copies_are_erased_by_themselves(self) -> None:
+        for made in copy.copy(self.secret), copy.deepcopy(self.secret), pickle.loads(pickle.dumps(self.secret)):
+            self.assertEqual(made, self.secret)
+            made.erase()
+            self.secret.check()
+
+    def test_a_key_that_is_erased_before_a_call_has_copied_it_signs_nothing(self) -> None:
+        secret = slh.SecretKey(FAST, self.secret.to_bytes())
+        buffer_of = slh._buffer_of
+
+        def late(given):
+            if isinstance(given, memoryview):
+                secret.erase()
+            return buffer_of(given)
+
+        with unittest.mock.patch.object(slh, "_buffer_of", late):
+            self.assertRaises(slh.Erased, secret.sign, b"letter")
+
+    def test_buffers_of_secrets_are_cleared(self) -> None:
+        with watched() as seen:
+            secret = slh.SecretKey.generate(FAST)
+            address, length = ctypes.addressof(secret._buffer), len(secret._buffer)
+            slh.SecretKey.keygen(FAST, b"1" * 16, bytearray(b"2" * 16), memoryview(b"3" * 16))
+            self.refused(10, "BadSeedLength", slh.SecretKey.keygen, FAST, b"1" * 16, b"2" * 16, b"3" * 15)
+            secret.check()
+            secret.public()
+            for sign in secret.sign, slh.Signer(workers=2).sign, slh.Signer(workers=1, twice=True).sign:
+                sign(*[] if sign == secret.sign else [secret], b"letter")
+            secret.hash_sign(slh.Function.SLH_SHA2_256, b"letter")
+            secret.hash_sign_digest(slh.Function.SLH_SHA2_256, bytes(32))
+            slh.Signer(workers=2).hash_sign(secret, slh.Function.SLH_SHA2_256, b"letter")
+        self.assertEqual({name for name, _ in seen}, SECRETS.keys())
+        self.assertEqual([name for name, buffer in seen if any(buffer.raw)], [])
+        self.assertTrue(any(ctypes.string_at(address, length)))
+        secret.erase()
+        self.assertEqual(ctypes.string_at(address, length), bytes(64))
+
+    def test_a_fault_in_one_run_of_a_job_is_found(self) -> None:
+        """One bit of one answer is flipped after the job: in its node, its tag, what follows, and its last byte."""
+        for job, run in itertools.product((0, 21, 22, 54), (0, 1)):
+            for bit in (0, 16 * 8, 32 * 8 + 3, -1):
+                for workers in (1, 3):
+                    with watched(faulty(job, run, bit)) as seen, slh.Signer(workers, twice=True) as signer:
+                        with self.assertRaises(slh.Fault) as caught:
+                            signer.sign(self.secret, b"letter")
+                    self.assertNotIsInstance(caught.exception, (slh.Refusal, slh.Invalid, slh.Erased))
+                    names = [name for name, _ in seen]
+                    self.assertEqual(names.count("slh_sign_job"), 2 * 2 * 55)
+                    self.assertNotIn("slh_sign_join", names)
+                    self.assertFalse(any(any(buffer.raw) for _, buffer in seen))
+
+    def test_without_a_fault_twice_signs_the_same(self) -> None:
+        alone = self.secret.sign(b"letter", deterministic=True)
+        for workers in (1, 3):
+            with slh.Signer(workers, twice=True) as signer:
+                self.assertEqual(signer.sign(self.secret, b"letter", deterministic=True), alone)
+        for wrong in (2, None, "yes"):
+            self.assertRaisesRegex(TypeError, "twice is True or False", slh.Signer, 1, twice=wrong)
+
     def test_secrets_are_not_printed(self) -> None:
         for text in (repr(self.secret), str(self.secret), f"{self.secret}"):
             self.assertEqual(text, "<slh.SecretKey SLH_DSA_SHA2_128F>")
@@ -265,17 +412,8 @@ class Calls(unittest.TestCase):
             numbers = {it: int(number) for it, number in re.findall(r"(\w+) = (\d+)", listed)}
             self.assertEqual(numbers, {it: member.value for it, member in members.__members__.items()})
 
-    def test_the_shared_object_is_that_of_the_processor(self) -> None:
-        package = pathlib.Path(slh.__file__).parent
-        name = "x86-64-v3/libslh.so.0" if slh._has_v3() else "libslh.so.0"
-        self.assertEqual(pathlib.Path(slh._library._name), package / name)
-        self.assertEqual(ctypes.CDLL(str(package / "libslh.so.0")).slh_version(), slh.version())
-
-    @unittest.skipUnless(LOADER.exists(), "this system has another loader")
-    def test_the_level_of_the_processor_is_that_of_the_loader(self) -> None:
-        said = subprocess.run([LOADER, "--help"], capture_output=True, text=True, check=True).stdout
-        self.assertIn("x86-64-v2 (supported", said)
-        self.assertEqual(slh._has_v3(), "x86-64-v3 (supported" in said)
+    def test_the_shared_object_is_the_one_of_the_package(self) -> None:
+        self.assertEqual(pathlib.Path(slh._library._name), pathlib.Path(slh.__file__).parent / "libslh.so.0")
 
 
 if __name__ == "__main__":

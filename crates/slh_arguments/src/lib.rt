@@ -52,7 +52,7 @@ fn root_command<'a>(alloc: Global) -> Result<Command<'a>, AllocError>
 
 const KEYGEN_HELP: &str =
     "The seeds SK.seed, SK.prf and PK.seed are one line of 6n hexadecimal digits: 96 for a 128 set, 144 for a 192, 192 for a 256.
-Example: slh keygen --set SLH-DSA-SHA2-128f < seeds.txt > secret.key";
+Example: openssl rand -hex 48 | slh keygen --set SLH-DSA-SHA2-128f > secret.key";
 
 fn keygen_command<'a>(alloc: Global) -> Result<Command<'a>, AllocError>
     ensures { IfOk result (CommandIs keygen_shape) }
@@ -103,7 +103,8 @@ fn upgrade_command<'a>(alloc: Global) -> Result<Command<'a>, AllocError>
     .arg(required(alloc, "key", "FILE", "A public or secret key file"))
 }
 
-const RANDOM_HELP: &str = "The randomizer, 2n hexadecimal digits [default: deterministic signing]";
+const RANDOM_HELP: &str =
+    "The randomizer, 2n hexadecimal digits: 32 for a 128 set, 48 for a 192, 64 for a 256 [default: deterministic signing]";
 
 fn sign_command<'a>(alloc: Global) -> Result<Command<'a>, AllocError>
     ensures { IfOk result (CommandIs sign_shape) }
@@ -112,7 +113,7 @@ fn sign_command<'a>(alloc: Global) -> Result<Command<'a>, AllocError>
         alloc,
         "sign",
         "Writes the signature of a message",
-        "Example: slh sign --key secret.key --message letter.txt > letter.sig",
+        "Example: slh sign --key secret.key --message letter.txt --random \"$(openssl rand -hex 16)\" > letter.sig",
     );
     let command = message_command(alloc, command, "A secret key file")?;
     let command = with_form(alloc, command)?.arg(optional(alloc, "random", "HEX", RANDOM_HELP))?;
@@ -149,7 +150,8 @@ const STATUS_HELP: &str =
     "Exit status: 0 for done, valid, consistent or all tests passed; 1 for invalid, inconsistent or a failed test; 2 for refused.
 A refusal writes `slh: NUMBER NAME` to standard error; docs/FORMATS.md explains the numbers.";
 
-const ABOUT: &str = "Keys and signatures of SLH-DSA (FIPS 205) with SHA-2";
+/// The version is that of the file `VERSION`.
+const ABOUT: &str = "slh 0.5.0: keys and signatures of SLH-DSA (FIPS 205) with SHA-2";
 
 /// The program with no subcommand so far, what it is for and what its help ends with.
 fn no_command<'a>(alloc: Global, about: &'a str, help: &'a str) -> Result<Command<'a>, AllocError>

@@ -121,13 +121,15 @@ fn key_from_a_generator(rt: HostRuntime) -> Result<(), Fail> {
     Ok(())
 }
 
+// With PK.seed as the randomizer signatures are those of the deterministic variant, of which the digests are.
 #[test]
 fn letters(rt: HostRuntime) -> Result<(), Fail> {
     let sk = key(rt.alloc(), SET, KEY)?;
     let mut sig = room(rt.alloc(), &sk)?;
-    let refused = sign_letter(&sk, &[7; 256], b"\xda", &mut sig).err();
+    let random = sk.pk_seed();
+    let refused = sign_letter(&sk, &[7; 256], b"\xda", random, &mut sig).err();
     assert_eq!(rt; refused.map(|fault| fault.name()), Some("ContextTooLong"));
-    sign_letter(&sk, b"\xf6", b"\xda", &mut sig)?;
+    sign_letter(&sk, b"\xf6", b"\xda", random, &mut sig)?;
     assert_eq!(rt;
         sha256_hex(rt.alloc(), &sig)?.as_str(),
         "0450b6cdd47d6f6245d879c7d6b8cb92517d8f33f3f9bb8f9379287c1d7a6edc"
@@ -136,6 +138,30 @@ fn letters(rt: HostRuntime) -> Result<(), Fail> {
     assert!(rt; is_letter_of(&pk, b"\xf6", b"\xda", &sig));
     assert!(rt; !is_letter_of(&pk, b"", b"\xda", &sig));
     assert!(rt; !is_letter_of(&pk, &[7; 256], b"\xda", &sig));
+    Ok(())
+}
+
+/// The secret key, the randomizer and the SHA-256 of the signature of an empty message under the context fc89fd046fd7ce,
+/// from `vectors/slh-dsa-sha2-128f.json`.
+const RANDOMIZED: (&str, &[u8; 16], &str) = (
+    concat!(
+        "f3c1a9ca44d1f82d3de52aaf58f6b254e1a2dd90db1a31c916e88d1fca3767fe",
+        "f5fc9507745a38cbef416fddeab66a6302ab62deae8362054f0447ca372e1ca2"
+    ),
+    b"\x79\x4b\x81\x0e\xd2\x15\x9d\x66\xc4\x9a\xed\xa2\xeb\x14\xa7\x82",
+    "0a83b591884faaf0a4a7479710298f87290a83acbb570cd5b9062bfb207ba32e",
+);
+
+#[test]
+fn randomized_letter(rt: HostRuntime) -> Result<(), Fail> {
+    let (digits, random, digest) = RANDOMIZED;
+    let sk = key(rt.alloc(), SET, digits)?;
+    let mut sig = room(rt.alloc(), &sk)?;
+    let department = b"\xfc\x89\xfd\x04\x6f\xd7\xce";
+    assert!(rt; random.len() == sk.set().n());
+    sign_letter(&sk, department, b"", random, &mut sig)?;
+    assert_eq!(rt; sha256_hex(rt.alloc(), &sig)?.as_str(), digest);
+    assert!(rt; is_letter_of(&sk.public(), department, b"", &sig));
     Ok(())
 }
 
@@ -239,10 +265,10 @@ fn two_signatures_at_once(rt: HostRuntime) -> Result<(), Fail> {
     let sk = key(rt.alloc(), SET, COUNTING_KEY)?;
     let pk = sk.public();
     let mut of_abc = room(rt.alloc(), &sk)?;
-    sign_letter(&sk, b"", b"abc", &mut of_abc)?;
+    sign_letter(&sk, b"", b"abc", sk.pk_seed(), &mut of_abc)?;
     assert_eq!(rt; sha256_hex(rt.alloc(), &of_abc)?.as_str(), OF_ABC);
     let mut of_empty = room(rt.alloc(), &sk)?;
-    sign_letter(&sk, b"", b"", &mut of_empty)?;
+    sign_letter(&sk, b"", b"", sk.pk_seed(), &mut of_empty)?;
     assert_eq!(rt; sha256_hex(rt.alloc(), &of_empty)?.as_str(), OF_EMPTY);
     let abc = Signed {
         msg: b"abc",

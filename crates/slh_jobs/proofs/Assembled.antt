@@ -3,7 +3,7 @@
 use Rattle.std.proofs.Common.{◌≡◌, ℕ, ◌+◌, ◌-◌, ◌*◌, ◌/◌, ◌%◌, ◌^◌, ◌<◌, ◌≤◌, nat_lt, true, false, List, ◌++◌, take, drop, refl, ap, sym, subst, ◌∙◌, arith, rules}
 use Rattle.std.proofs.lemmas.List.{drop-drop}
 use Rattle.std.proofs.lemmas.Nat.{div-mul-add, mod-mul-add, pow_pos}
-use Rattle.std.proofs.Math.Nat.{mul-le-mul_right, mod-lt, div-eq_of_lt}
+use Rattle.std.proofs.Math.Nat.{mod-lt, div-eq_of_lt}
 use Rattle.slh_params.specs.ParamSet.{params}
 use Rattle.slh_params.specs.declared.param_set.ParamSet.{ParamSet}
 use Rattle.slh_params.proofs.Bounds.{n_high, d_low, h_below_top}
@@ -33,7 +33,7 @@ use Rattle.slh_jobs.specs.Jobs.{params_of, xmss_shape, fors_shape, shape_of, xms
 use Rattle.slh_jobs.specs.Joined.{fors_answers, answers_of_kind, answers_given, signature_given, FitTogether}
 use Rattle.slh_jobs.specs.Starts.{signature_from}
 use Rattle.slh_jobs.specs.declared.levels.Levels.{Levels}
-use Rattle.slh_jobs.proofs.Indices.{xmss_is_shape, fors_is_shape, tree_of_job, leaf_below}
+use Rattle.slh_jobs.proofs.Indices.{xmss_is_shape, fors_is_shape, tree_of_job, number_below, leaf_below}
 use Rattle.slh_jobs.proofs.Right.{AreOfTree, tag-right, rest-right, root-right, auth-right}
 
 -- a test of two numbers
@@ -42,12 +42,6 @@ lt_true a b h = search rules
 
 lt_false : (a b : ℕ) → b ≤ a → nat_lt a b ≡ false
 lt_false a b h = search rules
-
--- the number of the job of a range
-number_below : (l r levels trees : ℕ) → l < trees → r < 2 ^ levels → l * 2 ^ levels + r < trees * 2 ^ levels
-number_below l r levels trees ll lr =
-    let rows : (l + 1) * 2 ^ levels ≤ trees * 2 ^ levels = mul-le-mul_right (2 ^ levels) (let le : l + 1 ≤ trees = omega arith in le) in
-    omega (arith, rows)
 
 -- a job below the number of XMSS jobs
 xmss_answer_at : (c : Levels) (sk : Key) (start bytes : List ℕ) → AreAnswers c sk start bytes → (l r : ℕ) → l < (params_of c).d → r < 2 ^ c.xmss

@@ -43,6 +43,12 @@ range_within s shape r lt =
 pub tree_of_job : (n trees levels : ℕ) → n < trees * 2 ^ levels → n / 2 ^ levels < trees
 tree_of_job n trees levels lt = (div-lt_iff_lt-mul {k = 2 ^ levels} {x = n} {y = trees} (pow_pos levels)).1 lt
 
+-- the number of the range of a tree among those of all trees
+pub number_below : (l r levels trees : ℕ) → l < trees → r < 2 ^ levels → l * 2 ^ levels + r < trees * 2 ^ levels
+number_below l r levels trees ll lr =
+    let rows : (l + 1) * 2 ^ levels ≤ trees * 2 ^ levels = mul-le-mul_right (2 ^ levels) (let le : l + 1 ≤ trees = omega arith in le) in
+    omega (arith, rows)
+
 -- a path is that below the ranges and that above them
 pub path_lengths : (s : Shape) → IsShape s → below s * s.n + s.levels * s.n ≡ s.height * s.n
 path_lengths s shape =

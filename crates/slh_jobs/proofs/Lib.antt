@@ -5,6 +5,8 @@ pub mod Assembled
 pub mod KeyLaw
 pub mod Begun
 pub mod Texts
+pub mod Keys
 pub mod Verified
 pub mod Signed
+pub mod Tagged
 pub mod Cutting

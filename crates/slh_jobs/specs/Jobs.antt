@@ -15,7 +15,7 @@ use Rattle.slh_subtrees.specs.declared.range.JobTree.{JobTree}
 use Rattle.slh_subtrees.specs.declared.range.JobTree.TheVariants.{Xmss, Fors}
 use Rattle.slh_subtrees.specs.declared.range.JobRange.{JobRange}
 use Rattle.slh_jobs.specs.Ranges.{below, answer_len, range_answer}
-use Rattle.slh_jobs.specs.Tags.{OfAnswer, head, tag}
+use Rattle.slh_jobs.specs.Tags.{OfAnswer, head, tag, tag_key}
 use Rattle.slh_jobs.specs.declared.levels.Levels.{Levels}
 use Rattle.slh_jobs.specs.declared.shape.Shape.{Shape}
 
@@ -116,7 +116,7 @@ tag_of c sk start n node =
 -- the HMAC has the key of the tags, and of the text of an answer's tag what stands before the number
 abbrev pub HoldsFront : CategoryHmac → Levels → Key → List ℕ → Type 0
 HoldsFront hmac c sk start =
-    IsKeyed hmac (params_of c) (sk_prf sk ++ sk_seed sk ++ pk_seed (public_of sk))
+    IsKeyed hmac (params_of c) (tag_key (sk_seed sk) (sk_prf sk) (pk_seed (public_of sk)))
     (head 2 (params_of c) ++ start ++ (c.xmss ∷ c.fors ∷ []))
 
 -- what follows the path in the answer of the range of the leaf that signs: what is kept of the chains of the leaf's key,

@@ -10,7 +10,7 @@ use Rattle.slh_subtrees.specs.Trees.{TreeSource, place_of, tree_of, leaf_of}
 use Rattle.slh_subtrees.specs.declared.range.JobTree.{JobTree}
 use Rattle.slh_subtrees.specs.declared.range.JobTree.TheVariants.{Xmss, Fors}
 use Rattle.slh_jobs.specs.Ranges.{below, answer_len, node_given, tag_given, rest_given, upper_given, auth_given}
-use Rattle.slh_jobs.specs.Jobs.{params_of, xmss_shape, fors_shape, shape_of, xmss_jobs, fors_jobs, first_of_kind, r_in, source, tag_of}
+use Rattle.slh_jobs.specs.Jobs.{params_of, xmss_shape, fors_shape, shape_of, xmss_jobs, fors_jobs, first_job, first_of_kind, r_in, source, tag_of}
 use Rattle.slh_jobs.specs.declared.levels.Levels.{Levels}
 use Rattle.slh_jobs.specs.declared.shape.Shape.{Shape}
 
@@ -48,6 +48,14 @@ signature_given c sk start bytes =
 abbrev pub TagsFit : Levels → Key → List ℕ → Shape → List ℕ → ℕ → ℕ → Type 0
 TagsFit c sk start shape bytes first count =
     (n : ℕ) → n < count → tag_of c sk start (first + n) (node_given shape bytes n) ≡ tag_given shape bytes n
+
+-- the nodes of a tree's ranges have the tags of their jobs
+abbrev pub NodesFit : Levels → Key → List ℕ → List ℕ → JobTree → Type 0
+NodesFit c sk start bytes tree =
+    let shape = shape_of c tree in
+    let own = answers_of_kind c bytes tree in
+    let first = first_of_kind c tree in
+    (r : ℕ) → r < 2 ^ shape.levels → tag_of c sk start (first_job c tree + r) (node_given shape own (first + r)) ≡ tag_given shape own (first + r)
 
 -- the root of FORS tree j is that which its secret and its path give
 abbrev pub ForsFits : TreeSource → TreeAnswers → ℕ → Type 0

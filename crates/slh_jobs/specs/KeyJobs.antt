@@ -6,7 +6,7 @@ use Rattle.slh_tree.specs.Tree.{MerkleTree, node, root}
 use Rattle.slh_few.specs.Xmss.{xmss_tree}
 use Rattle.slh_jobs.specs.Ranges.{below, given, node_given, tag_given, upper_given}
 use Rattle.slh_jobs.specs.Jobs.{params_of}
-use Rattle.slh_jobs.specs.Tags.{OfKeyAnswer, head, tag}
+use Rattle.slh_jobs.specs.Tags.{OfKeyAnswer, head, tag, tag_key}
 use Rattle.slh_jobs.specs.declared.levels.Levels.{Levels}
 use Rattle.slh_jobs.specs.declared.shape.Shape.{Shape}
 
@@ -27,7 +27,7 @@ key_tag c sk_seed sk_prf pk_seed n node = tag (params_of c) sk_seed sk_prf pk_se
 
 -- the HMAC has the key of the tags, and of the text of an answer's tag what stands before the number
 abbrev pub HoldsKeyFront : CategoryHmac → Levels → List ℕ → List ℕ → List ℕ → Type 0
-HoldsKeyFront hmac c sk_seed sk_prf pk_seed = IsKeyed hmac (params_of c) (sk_prf ++ sk_seed ++ pk_seed) (head 3 (params_of c) ++ (c.xmss ∷ []))
+HoldsKeyFront hmac c sk_seed sk_prf pk_seed = IsKeyed hmac (params_of c) (tag_key sk_seed sk_prf pk_seed) (head 3 (params_of c) ++ (c.xmss ∷ []))
 
 -- the answer of job n
 abbrev pub key_answer : Levels → List ℕ → List ℕ → List ℕ → ℕ → List ℕ

@@ -14,7 +14,7 @@ pub data Tagged : Type 0 where
 
 -- the number of the encoding: another where the bytes of a start or of an answer mean something else
 abbrev pub encoding : ℕ
-encoding = 1
+encoding = 2
 
 -- the six numbers of the record, a byte each
 abbrev pub six : Params → List ℕ
@@ -30,9 +30,18 @@ text p (OfStart pk_root begun) = head 1 p ++ pk_root ++ begun
 text p (OfAnswer start xmss fors job node) = head 2 p ++ start ++ (xmss ∷ fors ∷ []) ++ to_byte job 4 ++ node
 text p (OfKeyAnswer xmss job node) = head 3 p ++ (xmss ∷ []) ++ to_byte job 4 ++ node
 
--- The tag: Trunc_n(HMAC(SK.prf ‖ SK.seed ‖ PK.seed, text)).
+-- The key of the tags: SK.prf ‖ SK.seed ‖ PK.seed ‖ 1. HMAC fills a key up with zeros, so that a key that ends with a
+-- zero byte has the tags of the key without this byte. This key ends with a byte that is not zero.
+abbrev pub tag_key : List ℕ → List ℕ → List ℕ → List ℕ
+tag_key sk_seed sk_prf pk_seed = sk_prf ++ sk_seed ++ pk_seed ++ (1 ∷ [])
+
+-- The tag of a job's node, by the key and by what stands in the text before the number of the job.
+abbrev pub node_tag : Params → List ℕ → List ℕ → ℕ → List ℕ → List ℕ
+node_tag p key front job node = take p.n (hmac (category_function p) key (front ++ to_byte job 4 ++ node))
+
+-- The tag: Trunc_n(HMAC(SK.prf ‖ SK.seed ‖ PK.seed ‖ 1, text)).
 abbrev pub tag : Params → List ℕ → List ℕ → List ℕ → Tagged → List ℕ
-tag p sk_seed sk_prf pk_seed what = take p.n (hmac (category_function p) (sk_prf ++ sk_seed ++ pk_seed) (text p what))
+tag p sk_seed sk_prf pk_seed what = take p.n (hmac (category_function p) (tag_key sk_seed sk_prf pk_seed) (text p what))
 
 -- R and the digest of a message, and with their tag a start
 abbrev pub begun_len : Params → ℕ

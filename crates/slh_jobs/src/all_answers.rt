@@ -2,23 +2,23 @@
 ghost use Rattle.std.specs.Prelude.{◌≡◌, ◌+◌, ◌*◌, ◌/◌, ◌^◌, ◌<◌, ◌≤◌, ◌↔◌, IsSome, IfSome, length};
 ghost use Rattle.slh_params.specs.ParamSet.{params};
 ghost use Rattle.slh_few.specs.ForsHashes.{AreSeeded};
-ghost use Rattle.slh_subtrees.specs.Jobs.{IsTreeOf, height_of};
-ghost use Rattle.slh_subtrees.specs.SigningTrees.{source_of, leaf_in};
-ghost use Rattle.slh_jobs.specs.Ranges.{below, answer_len, given};
-ghost use Rattle.slh_jobs.specs.Jobs.{xmss_shape, fors_shape, shape_of, xmss_jobs, fors_jobs, first_of_kind, source, rest_len, answers_len};
+ghost use Rattle.slh_subtrees.specs.Jobs.{IsTreeOf};
+ghost use Rattle.slh_subtrees.specs.SigningTrees.{source_of};
+ghost use Rattle.slh_jobs.specs.Ranges.{answer_len};
+ghost use Rattle.slh_jobs.specs.Jobs.{HoldsFront, xmss_shape, fors_shape, shape_of, xmss_jobs, fors_jobs, first_of_kind, source, rest_len, answers_len};
 ghost use Rattle.slh_jobs.specs.Starts.{IsStart};
 ghost use Rattle.slh_jobs.specs.Tags.{start_len};
-ghost use Rattle.slh_jobs.specs.Joined.{fors_answers, answers_of_kind, rest_in, answers_given};
+ghost use Rattle.slh_jobs.specs.Joined.{fors_answers, answers_of_kind, rest_in};
 ghost use Rattle.slh_subtrees.specs.declared.jobs.TheConstants.{MOST_JOBS_OF_A_KIND};
 
 use crate::answer_bytes::AnswerBytes;
 use crate::levels::Levels;
 use crate::signing::Signing;
-use crate::upper_tree::put_auth;
+use crate::tag::keyed_for_answers;
 use slh_core::SecretKey;
-use slh_few::{ForsHashes, SeededForsTree, SeededXmssTree};
-use slh_params::Node;
-use slh_subtrees::{Answers, JobTree};
+use slh_few::ForsHashes;
+use slh_hash::CategoryHmac;
+use slh_subtrees::JobTree;
 
 /// The answers of all jobs of a signature, as they are handed in.
 #[derive(Drop)]
@@ -26,13 +26,15 @@ pub(crate) struct AllAnswers<'a> {
     pub(crate) signing: Signing<'a>,
     pub(crate) xmss: AnswerBytes<'a>,
     pub(crate) fors: AnswerBytes<'a>,
-    hashes: ForsHashes<'a>,
+    pub(crate) hashes: ForsHashes<'a>,
+    pub(crate) keyed: CategoryHmac,
     ghost xmss_cut: { xmss.shape ≡ xmss_shape signing.levels },
     ghost fors_cut: { fors.shape ≡ fors_shape signing.levels },
     ghost rest: { fors.bytes.now ≡ fors_answers signing.levels xmss.bytes.now },
     ghost xmss_there: { xmss_jobs signing.levels * answer_len (xmss_shape signing.levels) ≤ length xmss.bytes.now },
     ghost fors_there: { fors_jobs signing.levels * answer_len (fors_shape signing.levels) ≤ length fors.bytes.now },
     ghost seeded: { ∥ AreSeeded hashes (params signing.trees.seeds.set) signing.trees.seeds.pk_seed.now ∥₁ },
+    ghost holds: { ∥ HoldsFront keyed signing.levels signing.sk.now signing.start.now ∥₁ },
 }
 
 impl<'a> AllAnswers<'a> {
@@ -66,16 +68,18 @@ impl<'a> AllAnswers<'a> {
             bytes: &answers[xmss_len..],
         };
         let hashes = ForsHashes::new(signing.trees.seeds.set, signing.trees.seeds.pk_seed);
+        let keyed = keyed_for_answers(levels, sk, start);
         Some(AllAnswers {
             signing,
             xmss,
             fors,
             hashes,
+            keyed,
         })
     }
 
     /// The answers of the trees of a tree's kind.
-    fn of_kind(&self, tree: JobTree) -> &AnswerBytes<'a>
+    pub(crate) fn of_kind(&self, tree: JobTree) -> &AnswerBytes<'a>
         ensures shape { result.now.shape ≡ shape_of self.now.signing.levels tree }
         ensures bytes { result.now.bytes.now ≡ answers_of_kind self.now.signing.levels self.now.xmss.bytes.now tree }
     {
@@ -86,7 +90,7 @@ impl<'a> AllAnswers<'a> {
     }
 
     /// The number of a tree's first answer among those of the trees of its kind.
-    fn first(&self, tree: JobTree) -> u32
+    pub(crate) fn first(&self, tree: JobTree) -> u32
         requires { IsTreeOf (params self.now.signing.levels.set) tree }
         ensures value { result ≡ first_of_kind self.now.signing.levels tree }
         ensures few { result ≤ MOST_JOBS_OF_A_KIND }
@@ -98,7 +102,7 @@ impl<'a> AllAnswers<'a> {
     }
 
     /// What follows the path in the answer of the range of a tree's signing leaf.
-    fn rest(&self, tree: JobTree) -> &'a [u8]
+    pub(crate) fn rest(&self, tree: JobTree) -> &'a [u8]
         requires { IsTreeOf (params self.now.signing.levels.set) tree }
         ensures value { result.now
             ≡ rest_in self.now.signing.levels (source_of self.now.signing.trees) self.now.xmss.bytes.now tree }
@@ -107,39 +111,5 @@ impl<'a> AllAnswers<'a> {
         let given = self.of_kind(tree);
         let range = self.signing.trees.leaf(tree) >> given.shape.below();
         given.rest((self.first(tree) + range) as usize)
-    }
-}
-
-impl<'a> Answers for AllAnswers<'a> {
-    ghost set = { λ x. x.signing.trees.seeds.set };
-
-    ghost says = { λ x. answers_given x.signing.levels (source_of x.signing.trees) x.xmss.bytes.now };
-
-    fn put_secret(&self, number: u32, out: &mut [u8]) {
-        out.copy_from_slice(self.rest(JobTree::Fors(number)));
-    }
-
-    fn put_path(&self, tree: JobTree, out: &mut [u8]) -> Node {
-        let trees = &self.signing.trees;
-        let seeds = &trees.seeds;
-        let given = self.of_kind(tree);
-        let first = self.first(tree);
-        let leaf = trees.leaf(tree);
-        match tree {
-            JobTree::Xmss(layer) => {
-                let at = trees.layer_place(layer);
-                let xmss = SeededXmssTree::new(self.hashes.joins(), seeds, layer, at.tree);
-                put_auth(&xmss, given, first, leaf, out)
-            }
-            JobTree::Fors(number) => {
-                let (idx_tree, idx_leaf) = (trees.idx_tree, trees.idx_leaf);
-                let fors = SeededForsTree::new(&self.hashes, seeds, idx_tree, idx_leaf, number);
-                put_auth(&fors, given, first, leaf, out)
-            }
-        }
-    }
-
-    fn chains(&self, layer: u8) -> &[u8] {
-        self.rest(JobTree::Xmss(layer))
     }
 }

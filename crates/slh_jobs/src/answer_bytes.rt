@@ -1,10 +1,19 @@
-//! Answers as they are handed in: bytes that nobody has looked at.
-ghost use Rattle.std.specs.Prelude.{◌≡◌, ◌+◌, ◌*◌, ◌<◌, ◌≤◌, ◌^◌, length};
+//! Answers as they are handed in, bytes that nobody has looked at, and their nodes, which are copied out of them and
+//! compared with their tags.
+ghost use Rattle.std.specs.Prelude.{◌≡◌, ◌↔◌, ℕ, List, ◌+◌, ◌*◌, ◌<◌, ◌≤◌, ◌^◌, IsSome, IfSome, length};
+ghost use Rattle.slh_params.specs.Params.{Params};
+ghost use Rattle.slh_hash.specs.Stream.{IsKeyed};
+ghost use Rattle.slh_few.specs.Parts.{end_to_end};
 ghost use Rattle.slh_jobs.specs.Ranges.{IsShape, below, answer_len, given, node_given, tag_given, path_given, rest_given};
+ghost use Rattle.slh_jobs.specs.Tags.{node_tag};
 ghost use Rattle.slh_jobs.specs.declared.shape.TheConstants.{MOST_OWN_LEN};
+ghost use Rattle.slh_subtrees.specs.declared.jobs.TheConstants.{MOST_JOBS_OF_A_KIND};
 
+use crate::jobs::ranges;
 use crate::shape::Shape;
-use slh_params::{Node, node_of};
+use crate::tag::{answer_tag, are_same};
+use slh_hash::CategoryHmac;
+use slh_params::{Node, node_of, put_node};
 
 /// Answers of one shape, put end to end, and whatever bytes follow them.
 #[derive(Clone, Copy)]
@@ -28,7 +37,7 @@ impl<'a> AnswerBytes<'a> {
     }
 
     /// The node of answer `c`.
-    pub(crate) fn node(&self, c: usize) -> Node
+    fn node(&self, c: usize) -> Node
         requires { (c + 1) * answer_len self.now.shape ≤ length self.now.bytes.now }
         ensures value { result.items ≡ node_given self.now.shape self.now.bytes.now c }
         ensures len { length result.items ≡ self.now.shape.n }
@@ -37,7 +46,7 @@ impl<'a> AnswerBytes<'a> {
     }
 
     /// The tag of answer `c`.
-    pub(crate) fn tag(&self, c: usize) -> Node
+    fn tag(&self, c: usize) -> Node
         requires { (c + 1) * answer_len self.now.shape ≤ length self.now.bytes.now }
         ensures { result.items ≡ tag_given self.now.shape self.now.bytes.now c }
     {
@@ -64,4 +73,87 @@ impl<'a> AnswerBytes<'a> {
     {
         &self.answer(c)[2 * self.shape.n..][self.shape.path_len()..]
     }
+}
+
+/// At least the length of the nodes of a tree's ranges: 256 nodes of 32 bytes.
+pub(crate) const MOST_NODES_LEN: usize = 256 * 32;
+
+/// Copies of the nodes of a tree's ranges, whose answers begin with answer `first`. Each copy was compared with the tag
+/// of its job. `judged_nodes` alone makes them, and nothing else hands out the node of an answer: so the node that is
+/// hashed is the one that was compared, even if somebody changes the bytes of the answers meanwhile.
+#[derive(Clone, Copy)]
+pub(crate) struct JudgedNodes<'n, 'a> {
+    pub(crate) given: AnswerBytes<'a>,
+    pub(crate) first: u32,
+    copies: &'n [u8],
+    ghost few: { first ≤ MOST_JOBS_OF_A_KIND },
+    ghost there: { (first + 2 ^ given.shape.levels) * answer_len given.shape ≤ length given.bytes.now },
+    ghost copied: { copies.now
+        ≡ end_to_end (λ r. node_given given.shape given.bytes.now (first + r)) (2 ^ given.shape.levels) },
+}
+
+impl<'n, 'a> JudgedNodes<'n, 'a> {
+    /// The node of a range.
+    pub(crate) fn node(&self, range: u32) -> Node
+        requires { range < 2 ^ self.now.given.shape.levels }
+        ensures value { result.items
+            ≡ node_given self.now.given.shape self.now.given.bytes.now (self.now.first + range) }
+        ensures len { length result.items ≡ self.now.given.shape.n }
+    {
+        let n = self.given.shape.n;
+        let start = range as usize * n;
+        node_of(&self.copies[start..start + n])
+    }
+}
+
+/// The node of answer `c`, where it has the tag of this job.
+fn judged_node(given: &AnswerBytes, c: u32, keyed: &CategoryHmac, job: u32) -> Option<Node>
+    requires { (c + 1) * answer_len given.now.shape ≤ length given.now.bytes.now }
+    ensures tag { (p : Params) (key front : List ℕ) → IsKeyed keyed.now p key front
+        → IsSome result ↔ (node_tag p key front job (node_given given.now.shape given.now.bytes.now c)
+        ≡ tag_given given.now.shape given.now.bytes.now c) }
+    ensures node { IfSome result (λ node. node.items ≡ node_given given.now.shape given.now.bytes.now c) }
+    ensures len { IfSome result (λ node. length node.items ≡ given.now.shape.n) }
+{
+    let node = given.node(c as usize);
+    if are_same(&answer_tag(keyed, job, &node), &given.tag(c as usize)) {
+        Some(node)
+    } else {
+        None
+    }
+}
+
+/// Copies of the nodes of a tree's ranges, whose answers begin with answer `first`, in `copies`; `None` where one has
+/// not its tag. The first of them is that of job `job`.
+pub(crate) fn judged_nodes<'n, 'a>(
+    given: &AnswerBytes<'a>,
+    first: u32,
+    keyed: &CategoryHmac,
+    job: u32,
+    copies: &'n mut [u8],
+) -> Option<JudgedNodes<'n, 'a>>
+    requires shape { IsShape given.now.shape }
+    requires few { first ≤ MOST_JOBS_OF_A_KIND }
+    requires job { job ≤ 2 * MOST_JOBS_OF_A_KIND }
+    requires there { (first + 2 ^ given.now.shape.levels) * answer_len given.now.shape ≤ length given.now.bytes.now }
+    requires copies { length copies.old ≡ 2 ^ given.now.shape.levels * given.now.shape.n }
+    ensures tags { (p : Params) (key front : List ℕ) → IsKeyed keyed.now p key front
+        → IsSome result ↔ ((r : ℕ) → r < 2 ^ given.now.shape.levels
+        → node_tag p key front (job + r) (node_given given.now.shape given.now.bytes.now (first + r))
+        ≡ tag_given given.now.shape given.now.bytes.now (first + r)) }
+    ensures given { IfSome result (λ nodes. nodes.given ≡ given.now) }
+    ensures first { IfSome result (λ nodes. nodes.first ≡ first) }
+{
+    let n = given.shape.n;
+    for r in 0..ranges(given.shape.levels) {
+        let Some(node) = judged_node(given, first + r, keyed, job + r) else {
+            return None;
+        };
+        put_node(copies, r as usize * n, &node);
+    }
+    Some(JudgedNodes {
+        given: *given,
+        first,
+        copies,
+    })
 }

@@ -17,6 +17,7 @@ ghost use Rattle.slh_jobs.specs.declared.fault.JobFault.TheVariants.{BadStart};
 use crate::fault::JobFault;
 use crate::levels::Levels;
 use crate::signing::Signing;
+use crate::start::copy_of_start;
 use crate::tag::{answer_tag, keyed_for_answers};
 use slh_core::SecretKey;
 use slh_few::put_path;
@@ -149,7 +150,8 @@ pub fn sign_job(
     ensures answer { OnOk result (answer.new ≡ answer_of levels.now sk.now start.now job) }
     ensures refused { OnErr result (answer.new ≡ answer.old) }
 {
-    let Some(signing) = Signing::new(levels, sk, start) else {
+    let start = copy_of_start(start);
+    let Some(signing) = Signing::new(levels, sk, start.as_slice()) else {
         return Err(JobFault::BadStart);
     };
     signing.put_answer(job, answer);

@@ -1,5 +1,5 @@
 //! Key generation as jobs.
-ghost use Rattle.std.specs.Prelude.{◌≡◌, ◌↔◌, ℕ, ◌+◌, ◌*◌, ◌^◌, ◌<◌, ◌≤◌, ◌++◌, IsTrue, IsOk, IfOk, Err, length};
+ghost use Rattle.std.specs.Prelude.{◌≡◌, ◌↔◌, ℕ, ◌+◌, ◌*◌, ◌^◌, ◌<◌, ◌≤◌, ◌++◌, IsOk, IsSome, IfSome, IfOk, Err, length};
 ghost use Rattle.slh_params.specs.ParamSet.{params};
 ghost use Rattle.slh_tree.specs.Tree.{node};
 ghost use Rattle.slh_core.specs.Keys.{generated_key, IsGeneratedKey};
@@ -7,12 +7,12 @@ ghost use Rattle.slh_jobs.specs.Ranges.{IsShape, below, answer_len};
 ghost use Rattle.slh_jobs.specs.KeyJobs.{key_shape, key_jobs, key_tree, key_answer, key_root, AreKeyAnswers, AreTagged};
 ghost use Rattle.slh_jobs.specs.declared.fault.JobFault.TheVariants.{BadAnswersLength};
 
-use crate::answer_bytes::AnswerBytes;
+use crate::answer_bytes::{AnswerBytes, MOST_NODES_LEN, judged_nodes};
 use crate::fault::JobFault;
 use crate::jobs::ranges;
 use crate::levels::Levels;
 use crate::shape::Shape;
-use crate::tag::{answer_tag, are_same, keyed_for_key};
+use crate::tag::{answer_tag, keyed_for_key};
 use crate::upper_tree::top_root;
 use slh_core::SecretKey;
 use slh_few::{SeededXmssTree, Seeds, xmss_node};
@@ -88,29 +88,40 @@ pub fn keygen_job(
     second.copy_from_slice(&answer_tag(&keyed, job, &node));
 }
 
-/// Whether each node has its tag.
-fn are_tagged(
+/// The root that the answers give, of n bytes; `None` where a node has not its tag. Each node is read once: the copy
+/// that is compared is hashed.
+fn judged_root(
     levels: &Levels,
     sk_seed: &[u8],
     sk_prf: &[u8],
     pk_seed: &[u8],
     given: &AnswerBytes,
-) -> bool
+) -> Option<Node>
     requires sk_seed { length sk_seed.now ≡ (params levels.now.set).n }
     requires sk_prf { length sk_prf.now ≡ (params levels.now.set).n }
     requires pk_seed { length pk_seed.now ≡ (params levels.now.set).n }
     requires shape { given.now.shape ≡ key_shape levels.now }
     requires there { length given.now.bytes.now ≡ key_jobs levels.now * answer_len (key_shape levels.now) }
-    ensures { IsTrue result ↔ AreTagged levels.now sk_seed.now sk_prf.now pk_seed.now given.now.bytes.now }
+    ensures fit { IsSome result ↔ AreTagged levels.now sk_seed.now sk_prf.now pk_seed.now given.now.bytes.now }
+    ensures root { IfSome result (λ root. root.items
+        ≡ key_root levels.now sk_seed.now pk_seed.now given.now.bytes.now) }
+    ensures len { IfSome result (λ root. length root.items ≡ (params levels.now.set).n) }
 {
+    let set = levels.set;
     let keyed = keyed_for_key(levels, sk_seed, sk_prf, pk_seed);
-    for job in 0..keygen_jobs(levels) {
-        let tag = answer_tag(&keyed, job, &given.node(job as usize));
-        if !are_same(&tag, &given.tag(job as usize)) {
-            return false;
-        }
-    }
-    true
+    let mut copies = [0; MOST_NODES_LEN];
+    let copies = &mut copies[..keygen_jobs(levels) as usize * set.n()];
+    let Some(nodes) = judged_nodes(given, 0, &keyed, 0, copies) else {
+        return None;
+    };
+    let seeds = Seeds {
+        set,
+        sk_seed,
+        pk_seed,
+    };
+    let joins = SeededTreeHash::new(set, pk_seed);
+    let tree = SeededXmssTree::new(&joins, &seeds, set.d() as u8 - 1, 0);
+    Some(top_root(&tree, &nodes))
 }
 
 /// The secret key of three seeds of n bytes each (FIPS 205, Algorithm 18), from the answers of all jobs, put end to end
@@ -152,17 +163,8 @@ pub fn keygen_join(
         shape,
         bytes: answers,
     };
-    if !are_tagged(levels, sk_seed, sk_prf, pk_seed, &given) {
+    let Some(root) = judged_root(levels, sk_seed, sk_prf, pk_seed, &given) else {
         return Err(JobFault::AnswersDisagree);
-    }
-    let set = levels.set;
-    let seeds = Seeds {
-        set,
-        sk_seed,
-        pk_seed,
     };
-    let joins = SeededTreeHash::new(set, pk_seed);
-    let tree = SeededXmssTree::new(&joins, &seeds, set.d() as u8 - 1, 0);
-    let root = top_root(&tree, &given, 0);
-    Ok(SecretKey::from_parts(set, sk_seed, sk_prf, pk_seed, &root))
+    Ok(SecretKey::from_parts(levels.set, sk_seed, sk_prf, pk_seed, &root))
 }

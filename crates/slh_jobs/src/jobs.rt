@@ -68,6 +68,18 @@ impl Levels {
         }
     }
 
+    /// The first job of a tree.
+    pub(crate) fn first_job(&self, tree: JobTree) -> u32
+        requires { IsTreeOf (params self.now.set) tree }
+        ensures value { result ≡ first_job self.now tree }
+        ensures few { result ≤ 2 * MOST_JOBS_OF_A_KIND }
+    {
+        match tree {
+            JobTree::Xmss(_) => self.first_of_kind(tree),
+            JobTree::Fors(_) => self.xmss_jobs() + self.first_of_kind(tree),
+        }
+    }
+
     /// The tree of a job, and the range of it.
     pub(crate) fn tree_and_range(&self, job: u32) -> (JobTree, u32)
         requires { job < jobs self.now }

@@ -1,15 +1,15 @@
 //! The signature from the answers of all jobs.
-ghost use Rattle.std.specs.Prelude.{◌≡◌, ◌↔◌, ℕ, List, ◌+◌, ◌*◌, ◌<◌, ◌≤◌, ◌++◌, IsTrue, IsOk, OnOk, OnErr, Err, length};
+ghost use Rattle.std.specs.Prelude.{◌≡◌, ◌↔◌, ℕ, List, ◌+◌, ◌*◌, ◌<◌, ◌≤◌, ◌++◌, IsTrue, IsOk, OnOk, OnErr, Err, length, take};
 ghost use Rattle.slh_params.specs.Params.{sig_len};
 ghost use Rattle.slh_params.specs.ParamSet.{params};
 ghost use Rattle.slh_few.specs.Fors.{fors_part_len};
 ghost use Rattle.slh_few.specs.Parts.{end_to_end};
 ghost use Rattle.slh_few.specs.Xmss.{xmss_sig_len};
-ghost use Rattle.slh_core.specs.Keys.{public_of, pk_root, IsGeneratedKey};
+ghost use Rattle.slh_core.specs.Keys.{public_of, IsGeneratedKey};
 ghost use Rattle.slh_core.specs.Signatures.{signature_by, IsValid};
 ghost use Rattle.slh_core.specs.declared.randomizer.Randomizer.{Randomizer};
 ghost use Rattle.slh_subtrees.specs.Assembled.{fors_part_by, signed_by, layer_part_by, sig_fors_by, sig_ht_by};
-ghost use Rattle.slh_jobs.specs.AllAnswers.{params_in, source_in, answers_in};
+ghost use Rattle.slh_jobs.specs.AllAnswers.{params_in, source_in, answers_in, path_in, path_len_in};
 ghost use Rattle.slh_jobs.specs.Jobs.{AreAnswers, answers_len, r_in};
 ghost use Rattle.slh_jobs.specs.Joined.{signature_given, AreFitting, FitTogether};
 ghost use Rattle.slh_jobs.specs.Starts.{IsStart, start_by, signature_from};
@@ -20,10 +20,11 @@ use crate::all_answers::AllAnswers;
 use crate::fault::JobFault;
 use crate::jobs::answers_len;
 use crate::levels::Levels;
+use crate::start::copy_of_start;
 use slh_core::SecretKey;
 use slh_core::signing_steps::fors_sig_len;
+use slh_few::{wots_sig_len, xmss_sig_len};
 use slh_params::{Node, node_of};
-use slh_subtrees::{Answers, JobTree, put_layers};
 
 /// At least the length of a FORS signature in any set: 64 trees, of each a secret and 14 nodes of 32 bytes.
 const MOST_FORS_SIG_LEN: usize = 64 * (1 + 14) * 32;
@@ -31,62 +32,96 @@ const MOST_FORS_SIG_LEN: usize = 64 * (1 + 14) * 32;
 /// At least the length of what the layers of any set sign: 65 nodes of 32 bytes.
 const MOST_SIGNED_LEN: usize = 65 * 32;
 
-/// Answers that fit together, with what each layer signs as it was compared, n bytes each. Even if somebody changes the
-/// bytes of the answers meanwhile, each layer signs what was compared.
+/// At least the length of the paths of all layers in any set: 76 nodes of 32 bytes.
+const MOST_PATHS_LEN: usize = 76 * 32;
+
+/// Answers that fit together, with what each layer signs, n bytes each, and the path of each layer's leaf, both as they
+/// were compared. Even if somebody changes the bytes of the answers meanwhile, each layer signs what was compared, and
+/// each path is the one that was compared.
 #[derive(Drop)]
 struct Judged<'j, 'a> {
     answered: &'j AllAnswers<'a>,
     signed: &'j [u8],
+    paths: &'j [u8],
     ghost signed_is: { signed.now
         ≡ end_to_end (signed_by (source_in answered.now) (answers_in answered.now)) (params_in answered.now).d },
     ghost signed_len: { length signed.now ≡ (params_in answered.now).d * (params_in answered.now).n },
-    ghost top: { signed_by (source_in answered.now) (answers_in answered.now) (params_in answered.now).d
-        ≡ pk_root (public_of answered.now.signing.sk.now) },
+    ghost paths_is: { paths.now
+        ≡ end_to_end (path_in answered.now) (params_in answered.now).d },
+    ghost path_lens: { (l : ℕ) → l < (params_in answered.now).d
+        → length (path_in answered.now l) ≡ path_len_in answered.now },
+    ghost paths_len: { length paths.now ≡ (params_in answered.now).d * path_len_in answered.now },
 }
 
 impl<'j, 'a> Judged<'j, 'a> {
-    /// What the layer above signs, the root of a layer's tree; above the top layer PK.root.
-    fn root(&self, layer: u8) -> Node
+    /// What a layer signs.
+    fn signed(&self, layer: u8) -> Node
         requires { layer < (params_in self.now.answered.now).d }
-        ensures value { result.items ≡ (answers_in self.now.answered.now).root (JobTree.Xmss layer) }
+        ensures value { result.items
+            ≡ signed_by (source_in self.now.answered.now) (answers_in self.now.answered.now) layer }
         ensures len { length result.items ≡ (params_in self.now.answered.now).n }
     {
-        let signing = &self.answered.signing;
-        let n = signing.trees.seeds.set.n();
-        let above = layer as usize + 1;
-        if above < signing.trees.seeds.set.d() as usize {
-            node_of(&self.signed[above * n..above * n + n])
-        } else {
-            node_of(signing.sk.pk_root())
+        let n = self.answered.signing.trees.seeds.set.n();
+        let start = layer as usize * n;
+        node_of(&self.signed[start..start + n])
+    }
+
+    /// The path of a layer's leaf.
+    fn path(&self, layer: u8) -> &'j [u8]
+        requires { layer < (params_in self.now.answered.now).d }
+        ensures value { result.now ≡ path_in self.now.answered.now layer }
+        ensures len { length result.now ≡ path_len_in self.now.answered.now }
+    {
+        let set = self.answered.signing.trees.seeds.set;
+        let size = set.hp() as usize * set.n();
+        let start = layer as usize * size;
+        &self.paths[start..start + size]
+    }
+
+    /// Writes what a layer adds to the signature: the WOTS+ signature of what it signs, and the path (FIPS 205,
+    /// Algorithm 10).
+    fn put_layer(&self, layer: u8, out: &mut [u8])
+        requires layer { layer < (params_in self.now.answered.now).d }
+        requires out { length out.old ≡ xmss_sig_len (params_in self.now.answered.now) }
+        ensures { let s = source_in self.now.answered.now in let a = answers_in self.now.answered.now in
+            out.new ≡ layer_part_by s a layer (signed_by s a layer) }
+    {
+        let (wots, auth) = out.split_at_mut(wots_sig_len(self.answered.signing.trees.seeds.set));
+        self.answered.put_wots(layer, &self.signed(layer), wots);
+        auth.copy_from_slice(self.path(layer));
+    }
+
+    /// Writes what `put_layer` writes, from `start` on.
+    fn put_layer_at(&self, layer: u8, out: &mut [u8], start: usize)
+        requires layer { layer < (params_in self.now.answered.now).d }
+        requires out { start + xmss_sig_len (params_in self.now.answered.now) ≤ length out.old }
+        ensures part_len { let s = source_in self.now.answered.now in let a = answers_in self.now.answered.now in
+            length (layer_part_by s a layer (signed_by s a layer)) ≡ xmss_sig_len (params_in self.now.answered.now) }
+        ensures part { let s = source_in self.now.answered.now in let a = answers_in self.now.answered.now in
+            take (start + xmss_sig_len (params_in self.now.answered.now)) out.new
+            ≡ take start out.old ++ layer_part_by s a layer (signed_by s a layer) }
+    {
+        let end = start + xmss_sig_len(self.answered.signing.trees.seeds.set);
+        self.put_layer(layer, &mut out[start..end]);
+    }
+
+    /// Writes the hypertree signature (FIPS 205, Algorithm 12).
+    fn put_layers(&self, out: &mut [u8])
+        requires { length out.old
+            ≡ (params_in self.now.answered.now).d * xmss_sig_len (params_in self.now.answered.now) }
+        ensures { out.new ≡ sig_ht_by (source_in self.now.answered.now) (answers_in self.now.answered.now) }
+    {
+        let set = self.answered.signing.trees.seeds.set;
+        let size = xmss_sig_len(set);
+        for layer in 0..set.d() as u8 {
+            self.put_layer_at(layer, out, layer as usize * size);
         }
-    }
-}
-
-impl<'j, 'a> Answers for Judged<'j, 'a> {
-    ghost set = { λ x. x.answered.now.signing.trees.seeds.set };
-
-    ghost says = { λ x. answers_in x.answered.now };
-
-    fn put_secret(&self, number: u32, out: &mut [u8]) {
-        self.answered.put_secret(number, out);
-    }
-
-    fn put_path(&self, tree: JobTree, out: &mut [u8]) -> Node {
-        let root = self.answered.put_path(tree, out);
-        match tree {
-            JobTree::Xmss(layer) => self.root(layer),
-            JobTree::Fors(_) => root,
-        }
-    }
-
-    fn chains(&self, layer: u8) -> &[u8] {
-        self.answered.chains(layer)
     }
 }
 
 impl<'a> AllAnswers<'a> {
-    /// Writes the signature, from the FORS signature and what the layers sign, as they were judged.
-    fn put_signature(&self, sig_fors: &[u8], signed: &[u8], out: &mut [u8])
+    /// Writes the signature, from the FORS signature, what the layers sign and their paths, as they were judged.
+    fn put_signature(&self, sig_fors: &[u8], signed: &[u8], paths: &[u8], out: &mut [u8])
         requires sig_fors { sig_fors.now ≡ sig_fors_by (source_in self.now) (answers_in self.now) }
         requires fors_len { length sig_fors.now
             ≡ (params_in self.now).k * fors_part_len (params_in self.now) }
@@ -94,8 +129,11 @@ impl<'a> AllAnswers<'a> {
             ≡ end_to_end (signed_by (source_in self.now) (answers_in self.now)) (params_in self.now).d }
         requires signed_len { length signed.now
             ≡ (params_in self.now).d * (params_in self.now).n }
-        requires top { signed_by (source_in self.now) (answers_in self.now) (params_in self.now).d
-            ≡ pk_root (public_of self.now.signing.sk.now) }
+        requires paths { paths.now
+            ≡ end_to_end (path_in self.now) (params_in self.now).d }
+        requires path_lens { (l : ℕ) → l < (params_in self.now).d
+            → length (path_in self.now l) ≡ path_len_in self.now }
+        requires paths_len { length paths.now ≡ (params_in self.now).d * path_len_in self.now }
         requires out { length out.old ≡ sig_len (params_in self.now) }
         ensures { out.new ≡ r_in (params_in self.now) self.now.signing.start.now
             ++ (sig_fors_by (source_in self.now) (answers_in self.now)
@@ -107,12 +145,12 @@ impl<'a> AllAnswers<'a> {
         front.copy_from_slice(&self.signing.start[..n]);
         let (fors, sig_ht) = rest.split_at_mut(fors_sig_len(set));
         fors.copy_from_slice(sig_fors);
-        let pk_fors = node_of(&signed[..n]);
         let judged = Judged {
             answered: self,
             signed,
+            paths,
         };
-        put_layers(&self.signing.trees, &judged, &pk_fors, sig_ht);
+        judged.put_layers(sig_ht);
     }
 
     /// Whether the answers fit together. Where they do, the signature is written, after that verdict.
@@ -134,10 +172,12 @@ impl<'a> AllAnswers<'a> {
         let fors = &mut fors[..fors_sig_len(set)];
         let mut signed = [0; MOST_SIGNED_LEN];
         let signed = &mut signed[..set.d() as usize * set.n()];
-        if !self.judge(fors, signed) {
+        let mut paths = [0; MOST_PATHS_LEN];
+        let paths = &mut paths[..set.d() as usize * (set.hp() as usize * set.n())];
+        if !self.judge(fors, signed, paths) {
             return false;
         }
-        self.put_signature(fors, signed, out);
+        self.put_signature(fors, signed, paths, out);
         true
     }
 }
@@ -180,7 +220,8 @@ pub fn sign_join(
     if answers.len() != answers_len(levels) {
         return Err(JobFault::BadAnswersLength);
     }
-    let Some(answered) = AllAnswers::new(levels, sk, start, answers) else {
+    let start = copy_of_start(start);
+    let Some(answered) = AllAnswers::new(levels, sk, start.as_slice(), answers) else {
         return Err(JobFault::BadStart);
     };
     if answered.join(out) {

@@ -1,93 +1,91 @@
 //! Whether the answers of all jobs fit together.
 ghost use Rattle.std.specs.Prelude.{◌≡◌, ◌↔◌, ℕ, ◌+◌, ◌*◌, ◌<◌, ◌≤◌, ◌++◌, IsTrue, IsSome, IfSome, length, take};
-ghost use Rattle.slh_params.specs.ParamSet.{params};
 ghost use Rattle.slh_few.specs.Fors.{fors_part_len};
+ghost use Rattle.slh_few.specs.KeptChains.{wots_sig_from};
 ghost use Rattle.slh_few.specs.Parts.{end_to_end};
-ghost use Rattle.slh_few.specs.Xmss.{xmss_sig_len};
+ghost use Rattle.slh_few.specs.Xmss.{wots_sig_len, xmss_sig_len};
 ghost use Rattle.slh_core.specs.Keys.{public_of, pk_root};
 ghost use Rattle.slh_subtrees.specs.Assembled.{fors_part_by, signed_by, layer_part_by, sig_fors_by};
-ghost use Rattle.slh_jobs.specs.Ranges.{node_given, tag_given, answer_len};
-ghost use Rattle.slh_jobs.specs.Jobs.{HoldsFront, xmss_shape, fors_shape, xmss_jobs, fors_jobs, tag_of};
-ghost use Rattle.slh_jobs.specs.Joined.{fors_answers, TagsFit, ForsFits, LayerFits, AreFitting};
-ghost use Rattle.slh_jobs.specs.AllAnswers.{params_in, source_in, answers_in};
-ghost use Rattle.slh_subtrees.specs.declared.jobs.TheConstants.{MOST_JOBS_OF_A_KIND};
+ghost use Rattle.slh_subtrees.specs.Jobs.{IsTreeOf, height_of};
+ghost use Rattle.slh_subtrees.specs.Trees.{place_of};
+ghost use Rattle.slh_jobs.specs.Joined.{NodesFit, ForsFits, LayerFits, AreFitting};
+ghost use Rattle.slh_jobs.specs.AllAnswers.{params_in, source_in, answers_in, path_in, path_len_in};
 
 use crate::all_answers::AllAnswers;
-use crate::answer_bytes::AnswerBytes;
-use crate::tag::{answer_tag, are_same, keyed_for_answers};
+use crate::answer_bytes::{MOST_NODES_LEN, judged_nodes};
+use crate::jobs::ranges;
+use crate::tag::are_same;
+use crate::upper_tree::put_auth;
 use slh_few::{
-    MOST_XMSS_SIG_LEN, fors_part_len, fors_root_from_sig, fors_roots, xmss_pk_from_sig,
-    xmss_sig_len,
+    MOST_XMSS_SIG_LEN, SeededForsTree, SeededXmssTree, fors_part_len, fors_root_from_sig,
+    fors_roots, wots_sig_len, wots_sign_kept, xmss_pk_from_sig, xmss_sig_len,
 };
-use slh_hash::CategoryHmac;
 use slh_params::{Node, copy_of, node_of, put_node};
-use slh_subtrees::{JobTree, fors_part, layer_part};
+use slh_subtrees::JobTree;
 
 impl<'a> AllAnswers<'a> {
-    /// Whether the node of an answer has the tag of this job.
-    fn tag_fits(&self, keyed: &CategoryHmac, given: &AnswerBytes, c: u32, job: u32) -> bool
-        requires keyed { HoldsFront keyed.now
-            self.now.signing.levels self.now.signing.sk.now self.now.signing.start.now }
-        requires n { given.now.shape.n ≡ (params self.now.signing.levels.set).n }
-        requires there { (c + 1) * answer_len given.now.shape ≤ length given.now.bytes.now }
-        ensures { IsTrue result
-            ↔ (tag_of self.now.signing.levels self.now.signing.sk.now self.now.signing.start.now job
-            (node_given given.now.shape given.now.bytes.now c) ≡ tag_given given.now.shape given.now.bytes.now c) }
+    /// Writes the path of a tree's signing leaf, and returns the root that the nodes of the tree's ranges give; `None`
+    /// where one of these has not the tag of its job. The nodes are read once: in this one pass they are copied,
+    /// compared and hashed.
+    // The copies take 8 KB, which are not to lie below the hashing of WOTS+ keys on the stack.
+    #[inline(never)]
+    fn put_path(&self, tree: JobTree, out: &mut [u8]) -> Option<Node>
+        requires tree { IsTreeOf (params_in self.now) tree }
+        requires out { length out.old ≡ height_of (params_in self.now) tree * (params_in self.now).n }
+        ensures tags { let t = self.now.signing in
+            IsSome result ↔ NodesFit t.levels t.sk.now t.start.now self.now.xmss.bytes.now tree }
+        ensures path { IsSome result → out.new ≡ (answers_in self.now).path tree }
+        ensures root { IfSome result (λ root. root.items ≡ (answers_in self.now).root tree) }
+        ensures len { IfSome result (λ root. length root.items ≡ (params_in self.now).n) }
     {
-        let tag = answer_tag(keyed, job, &given.node(c as usize));
-        are_same(&tag, &given.tag(c as usize))
-    }
-
-    /// Whether the nodes of the first `count` answers have the tags of the jobs from `first` on.
-    fn tags_fit(&self, keyed: &CategoryHmac, given: &AnswerBytes, count: u32, first: u32) -> bool
-        requires keyed { HoldsFront keyed.now
-            self.now.signing.levels self.now.signing.sk.now self.now.signing.start.now }
-        requires n { given.now.shape.n ≡ (params self.now.signing.levels.set).n }
-        requires there { count * answer_len given.now.shape ≤ length given.now.bytes.now }
-        requires count { count ≤ MOST_JOBS_OF_A_KIND }
-        requires first { first ≤ MOST_JOBS_OF_A_KIND }
-        ensures { let t = self.now.signing in
-            IsTrue result ↔ TagsFit t.levels t.sk.now t.start.now given.now.shape given.now.bytes.now first count }
-    {
-        for c in 0..count {
-            if !self.tag_fits(keyed, given, c, first + c) {
-                return false;
+        let trees = &self.signing.trees;
+        let given = self.of_kind(tree);
+        let first = self.first(tree);
+        let job = self.signing.levels.first_job(tree);
+        let mut copies = [0; MOST_NODES_LEN];
+        let copies = &mut copies[..ranges(given.shape.levels) as usize * given.shape.n];
+        let Some(nodes) = judged_nodes(given, first, &self.keyed, job, copies) else {
+            return None;
+        };
+        let leaf = trees.leaf(tree);
+        Some(match tree {
+            JobTree::Xmss(layer) => {
+                let at = trees.layer_place(layer);
+                let xmss = SeededXmssTree::new(self.hashes.joins(), &trees.seeds, layer, at.tree);
+                put_auth(&xmss, &nodes, leaf, out)
             }
-        }
-        true
-    }
-
-    /// Whether the nodes of the XMSS trees have their tags.
-    fn xmss_tags_fit(&self, keyed: &CategoryHmac) -> bool
-        requires { HoldsFront keyed.now self.now.signing.levels self.now.signing.sk.now self.now.signing.start.now }
-        ensures { let t = self.now.signing in let c = t.levels in
-            IsTrue result ↔ TagsFit c t.sk.now t.start.now (xmss_shape c) self.now.xmss.bytes.now 0 (xmss_jobs c) }
-    {
-        self.tags_fit(keyed, &self.xmss, self.signing.levels.xmss_jobs(), 0)
-    }
-
-    /// Whether the nodes of the FORS trees have their tags.
-    fn fors_tags_fit(&self, keyed: &CategoryHmac) -> bool
-        requires { HoldsFront keyed.now self.now.signing.levels self.now.signing.sk.now self.now.signing.start.now }
-        ensures { let t = self.now.signing in let c = t.levels in let bytes = fors_answers c self.now.xmss.bytes.now in
-            IsTrue result ↔ TagsFit c t.sk.now t.start.now (fors_shape c) bytes (xmss_jobs c) (fors_jobs c) }
-    {
-        let levels = &self.signing.levels;
-        self.tags_fit(keyed, &self.fors, levels.fors_jobs(), levels.xmss_jobs())
+            JobTree::Fors(number) => {
+                let (idx_tree, idx_leaf) = (trees.idx_tree, trees.idx_leaf);
+                let fors = SeededForsTree::new(
+                    &self.hashes,
+                    &trees.seeds,
+                    idx_tree,
+                    idx_leaf,
+                    number,
+                );
+                put_auth(&fors, &nodes, leaf, out)
+            }
+        })
     }
 
     /// Writes what a FORS tree adds to the signature, and returns the root that the tree's ranges give; `None` where
-    /// the secret and the path give another.
+    /// one of their nodes has not its tag, or the secret and the path give another root.
     fn fors_root(&self, number: u32, part: &mut [u8]) -> Option<Node>
         requires tree { number < (params_in self.now).k }
         requires out { length part.old ≡ fors_part_len (params_in self.now) }
-        ensures part { part.new ≡ fors_part_by (answers_in self.now) number }
-        ensures fits { IsSome result ↔ ForsFits (source_in self.now) (answers_in self.now) number }
+        ensures part { IsSome result → part.new ≡ fors_part_by (answers_in self.now) number }
+        ensures fits { let t = self.now.signing in
+            IsSome result ↔ (NodesFit t.levels t.sk.now t.start.now self.now.xmss.bytes.now (JobTree.Fors number)
+            × ForsFits (source_in self.now) (answers_in self.now) number) }
         ensures root { IfSome result (λ root. root.items ≡ (answers_in self.now).root (JobTree.Fors number)) }
         ensures len { IfSome result (λ root. length root.items ≡ (params_in self.now).n) }
     {
         let trees = &self.signing.trees;
-        let root = fors_part(self, trees.seeds.set, number, part);
+        let (secret, auth) = part.split_at_mut(trees.seeds.set.n());
+        secret.copy_from_slice(self.rest(JobTree::Fors(number)));
+        let Some(root) = self.put_path(JobTree::Fors(number), auth) else {
+            return None;
+        };
         let climbed = fors_root_from_sig(
             &trees.public(),
             trees.idx_tree,
@@ -107,11 +105,13 @@ impl<'a> AllAnswers<'a> {
     fn fors_root_at(&self, number: u32, out: &mut [u8], start: usize) -> Option<Node>
         requires tree { number < (params_in self.now).k }
         requires out { start + fors_part_len (params_in self.now) ≤ length out.old }
-        ensures part_len { length (fors_part_by (answers_in self.now) number)
+        ensures part_len { IsSome result → length (fors_part_by (answers_in self.now) number)
             ≡ fors_part_len (params_in self.now) }
-        ensures part { take (start + fors_part_len (params_in self.now)) out.new
+        ensures part { IsSome result → take (start + fors_part_len (params_in self.now)) out.new
             ≡ take start out.old ++ fors_part_by (answers_in self.now) number }
-        ensures fits { IsSome result ↔ ForsFits (source_in self.now) (answers_in self.now) number }
+        ensures fits { let t = self.now.signing in
+            IsSome result ↔ (NodesFit t.levels t.sk.now t.start.now self.now.xmss.bytes.now (JobTree.Fors number)
+            × ForsFits (source_in self.now) (answers_in self.now) number) }
         ensures root { IfSome result (λ root. root.items ≡ (answers_in self.now).root (JobTree.Fors number)) }
         ensures len { IfSome result (λ root. length root.items ≡ (params_in self.now).n) }
     {
@@ -119,13 +119,18 @@ impl<'a> AllAnswers<'a> {
         self.fors_root(number, &mut out[start..end])
     }
 
-    /// Writes the FORS signature, and returns T over the roots that the ranges give; `None` where in some tree the
-    /// secret and the path give another root.
+    /// Writes the FORS signature, and returns T over the roots that the ranges give; `None` where a node has not its
+    /// tag, or in some tree the secret and the path give another root.
     pub(crate) fn judge_fors(&self, sig_fors: &mut [u8]) -> Option<Node>
         requires { length sig_fors.old
             ≡ (params_in self.now).k * fors_part_len (params_in self.now) }
-        ensures fit { IsSome result ↔ ((j : ℕ) → j < (params_in self.now).k
-            → ForsFits (source_in self.now) (answers_in self.now) j) }
+        ensures tags { let t = self.now.signing in IsSome result → (j : ℕ) → j < (params_in self.now).k
+            → NodesFit t.levels t.sk.now t.start.now self.now.xmss.bytes.now (JobTree.Fors j) }
+        ensures fit { IsSome result → (j : ℕ) → j < (params_in self.now).k
+            → ForsFits (source_in self.now) (answers_in self.now) j }
+        ensures some { let t = self.now.signing in ((j : ℕ) → j < (params_in self.now).k
+            → NodesFit t.levels t.sk.now t.start.now self.now.xmss.bytes.now (JobTree.Fors j)
+            × ForsFits (source_in self.now) (answers_in self.now) j) → IsSome result }
         ensures pk_fors { IfSome result (λ key. key.items ≡ signed_by (source_in self.now) (answers_in self.now) 0) }
         ensures len { IfSome result (λ key. length key.items ≡ (params_in self.now).n) }
         ensures parts { IsSome result → (j : ℕ) → j < (params_in self.now).k
@@ -144,22 +149,46 @@ impl<'a> AllAnswers<'a> {
         Some(roots.finish())
     }
 
-    /// The root that the ranges of a layer's tree give, where the layer signs `msg` and its key and path give the same.
-    fn layer_root(&self, layer: u8, msg: &Node) -> Option<Node>
+    /// Writes the WOTS+ signature of `msg` by the key that signs on the layer, from what is kept of its chains.
+    pub(crate) fn put_wots(&self, layer: u8, msg: &Node, out: &mut [u8])
+        requires layer { layer < (params_in self.now).d }
+        requires msg { length msg.now.items ≡ (params_in self.now).n }
+        requires out { length out.old ≡ wots_sig_len (params_in self.now) }
+        ensures { let s = source_in self.now in out.new ≡ wots_sig_from (params_in self.now) s.pk_seed
+            (place_of s layer) ((answers_in self.now).chains layer) msg.now.items }
+    {
+        let trees = &self.signing.trees;
+        let kept = self.rest(JobTree::Xmss(layer));
+        wots_sign_kept(&trees.seeds, trees.layer_place(layer), msg, kept, out);
+    }
+
+    /// Writes the path of the layer's leaf, and returns the root that the ranges of the layer's tree give. `None` where
+    /// one of their nodes has not its tag, or the layer signs `msg` and its key and path give another root.
+    fn layer_root(&self, layer: u8, msg: &Node, path: &mut [u8]) -> Option<Node>
         requires layer { layer < (params_in self.now).d }
         requires msg { msg.now.items ≡ signed_by (source_in self.now) (answers_in self.now) layer }
         requires len { length msg.now.items ≡ (params_in self.now).n }
-        ensures part_len { length (layer_part_by (source_in self.now) (answers_in self.now) layer
+        requires path { length path.old ≡ path_len_in self.now }
+        ensures part_len { IsSome result → length (layer_part_by (source_in self.now) (answers_in self.now) layer
             (signed_by (source_in self.now) (answers_in self.now) layer))
             ≡ xmss_sig_len (params_in self.now) }
-        ensures fits { IsSome result ↔ LayerFits (source_in self.now) (answers_in self.now) layer }
+        ensures path { IsSome result → path.new ≡ path_in self.now layer }
+        ensures fits { let t = self.now.signing in
+            IsSome result ↔ (NodesFit t.levels t.sk.now t.start.now self.now.xmss.bytes.now (JobTree.Xmss layer)
+            × LayerFits (source_in self.now) (answers_in self.now) layer) }
         ensures root { IfSome result (λ root. root.items ≡ (answers_in self.now).root (JobTree.Xmss layer)) }
         ensures len { IfSome result (λ root. length root.items ≡ (params_in self.now).n) }
     {
         let trees = &self.signing.trees;
+        let set = trees.seeds.set;
+        let Some(root) = self.put_path(JobTree::Xmss(layer), path) else {
+            return None;
+        };
         let mut buffer = [0; MOST_XMSS_SIG_LEN];
-        let part = &mut buffer[..xmss_sig_len(trees.seeds.set)];
-        let root = layer_part(trees, self, layer, msg, part);
+        let part = &mut buffer[..xmss_sig_len(set)];
+        let (wots, auth) = part.split_at_mut(wots_sig_len(set));
+        self.put_wots(layer, msg, wots);
+        auth.copy_from_slice(path);
         let signed_root = xmss_pk_from_sig(&trees.public(), trees.layer_place(layer), msg, part);
         if are_same(&signed_root, &root) {
             Some(root)
@@ -168,27 +197,60 @@ impl<'a> AllAnswers<'a> {
         }
     }
 
-    /// Writes what each layer signs, n bytes each. Whether in each layer's tree the root that the ranges give is that
-    /// of the key and the path, and the top tree's is PK.root.
-    pub(crate) fn judge_layers(&self, pk_fors: &Node, signed: &mut [u8]) -> bool
+    /// The same, where the path is written from `start` on.
+    fn layer_root_at(&self, layer: u8, msg: &Node, paths: &mut [u8], start: usize) -> Option<Node>
+        requires layer { layer < (params_in self.now).d }
+        requires msg { msg.now.items ≡ signed_by (source_in self.now) (answers_in self.now) layer }
+        requires len { length msg.now.items ≡ (params_in self.now).n }
+        requires paths { start + path_len_in self.now ≤ length paths.old }
+        ensures part_len { IsSome result → length (layer_part_by (source_in self.now) (answers_in self.now) layer
+            (signed_by (source_in self.now) (answers_in self.now) layer))
+            ≡ xmss_sig_len (params_in self.now) }
+        ensures path_len { IsSome result → length (path_in self.now layer) ≡ path_len_in self.now }
+        ensures path { IsSome result → take (start + path_len_in self.now) paths.new
+            ≡ take start paths.old ++ path_in self.now layer }
+        ensures fits { let t = self.now.signing in
+            IsSome result ↔ (NodesFit t.levels t.sk.now t.start.now self.now.xmss.bytes.now (JobTree.Xmss layer)
+            × LayerFits (source_in self.now) (answers_in self.now) layer) }
+        ensures root { IfSome result (λ root. root.items ≡ (answers_in self.now).root (JobTree.Xmss layer)) }
+        ensures len { IfSome result (λ root. length root.items ≡ (params_in self.now).n) }
+    {
+        let set = self.signing.trees.seeds.set;
+        let end = start + set.hp() as usize * set.n();
+        self.layer_root(layer, msg, &mut paths[start..end])
+    }
+
+    /// Writes what each layer signs, n bytes each, and the path of its leaf. Whether each node has its tag, in each
+    /// layer's tree the root that the ranges give is that of the key and the path, and the top tree's is PK.root.
+    pub(crate) fn judge_layers(&self, pk_fors: &Node, signed: &mut [u8], paths: &mut [u8]) -> bool
         requires pk_fors { pk_fors.now.items ≡ signed_by (source_in self.now) (answers_in self.now) 0 }
         requires len { length pk_fors.now.items ≡ (params_in self.now).n }
         requires signed { length signed.old
             ≡ (params_in self.now).d * (params_in self.now).n }
-        ensures fit { let s = source_in self.now in let a = answers_in self.now in let p = params_in self.now in
-            IsTrue result ↔ (((l : ℕ) → l < p.d → LayerFits s a l)
+        requires paths { length paths.old ≡ (params_in self.now).d * path_len_in self.now }
+        ensures fit { let t = self.now.signing in let s = source_in self.now in let a = answers_in self.now in
+            let p = params_in self.now in IsTrue result
+            ↔ (((l : ℕ) → l < p.d → NodesFit t.levels t.sk.now t.start.now self.now.xmss.bytes.now (JobTree.Xmss l))
+            × ((l : ℕ) → l < p.d → LayerFits s a l)
             × (signed_by s a p.d ≡ pk_root (public_of self.now.signing.sk.now))) }
         ensures signed { IsTrue result → signed.new
             ≡ end_to_end (signed_by (source_in self.now) (answers_in self.now)) (params_in self.now).d }
+        ensures paths { IsTrue result → paths.new
+            ≡ end_to_end (path_in self.now) (params_in self.now).d }
+        ensures path_lens { IsTrue result → (l : ℕ) → l < (params_in self.now).d
+            → length (path_in self.now l) ≡ path_len_in self.now }
         ensures parts { let s = source_in self.now in let a = answers_in self.now in let p = params_in self.now in
             IsTrue result → (l : ℕ) → l < p.d → length (layer_part_by s a l (signed_by s a l)) ≡ xmss_sig_len p }
     {
         let signing = &self.signing;
-        let n = signing.trees.seeds.set.n();
+        let set = signing.trees.seeds.set;
+        let n = set.n();
+        let path_len = set.hp() as usize * n;
         let mut msg = copy_of(pk_fors);
-        for layer in 0..signing.trees.seeds.set.d() as u8 {
+        for layer in 0..set.d() as u8 {
             put_node(signed, layer as usize * n, &msg);
-            let Some(root) = self.layer_root(layer, &msg) else {
+            let start = layer as usize * path_len;
+            let Some(root) = self.layer_root_at(layer, &msg, paths, start) else {
                 return false;
             };
             msg = root;
@@ -196,33 +258,31 @@ impl<'a> AllAnswers<'a> {
         are_same(&msg, &node_of(signing.sk.pk_root()))
     }
 
-    /// Whether the answers fit together. Where they do, the FORS signature and what each layer signs are written.
-    pub(crate) fn judge(&self, sig_fors: &mut [u8], signed: &mut [u8]) -> bool
+    /// Whether the answers fit together. Where they do, the FORS signature, what each layer signs and the path of each
+    /// layer's leaf are written.
+    pub(crate) fn judge(&self, sig_fors: &mut [u8], signed: &mut [u8], paths: &mut [u8]) -> bool
         requires sig_fors { length sig_fors.old
             ≡ (params_in self.now).k * fors_part_len (params_in self.now) }
         requires signed { length signed.old
             ≡ (params_in self.now).d * (params_in self.now).n }
+        requires paths { length paths.old ≡ (params_in self.now).d * path_len_in self.now }
         ensures fit { let t = self.now.signing in
             IsTrue result ↔ AreFitting t.levels (source_in self.now) t.sk.now t.start.now self.now.xmss.bytes.now }
         ensures sig_fors { IsTrue result → sig_fors.new ≡ sig_fors_by (source_in self.now) (answers_in self.now) }
         ensures signed { IsTrue result → signed.new
             ≡ end_to_end (signed_by (source_in self.now) (answers_in self.now)) (params_in self.now).d }
+        ensures paths { IsTrue result → paths.new
+            ≡ end_to_end (path_in self.now) (params_in self.now).d }
+        ensures path_lens { IsTrue result → (l : ℕ) → l < (params_in self.now).d
+            → length (path_in self.now l) ≡ path_len_in self.now }
         ensures fors_parts { IsTrue result → (j : ℕ) → j < (params_in self.now).k
             → length (fors_part_by (answers_in self.now) j) ≡ fors_part_len (params_in self.now) }
         ensures layer_parts { let s = source_in self.now in let a = answers_in self.now in let p = params_in self.now in
             IsTrue result → (l : ℕ) → l < p.d → length (layer_part_by s a l (signed_by s a l)) ≡ xmss_sig_len p }
     {
-        let signing = &self.signing;
-        let keyed = keyed_for_answers(&signing.levels, signing.sk, signing.start);
-        if !self.xmss_tags_fit(&keyed) {
-            return false;
-        }
-        if !self.fors_tags_fit(&keyed) {
-            return false;
-        }
         let Some(pk_fors) = self.judge_fors(sig_fors) else {
             return false;
         };
-        self.judge_layers(&pk_fors, signed)
+        self.judge_layers(&pk_fors, signed, paths)
     }
 }

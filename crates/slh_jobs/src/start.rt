@@ -11,6 +11,7 @@ ghost use Rattle.slh_jobs.specs.Tags.{begun_len, start_len};
 ghost use Rattle.slh_jobs.specs.declared.start.TheConstants.{MOST_START_LEN};
 
 use crate::tag::{are_same, start_tag};
+use arrayvec::ArrayVec;
 use slh_core::signing_steps::{MOST_DIGEST_LEN, randomized_digest};
 use slh_core::{Form, Randomizer, SecretKey, SignFault};
 use slh_params::{ParamSet, node_of};
@@ -32,6 +33,20 @@ fn begun_len(set: ParamSet) -> usize
     ensures small { result ≤ 32 + MOST_DIGEST_LEN }
 {
     set.n() + set.m()
+}
+
+/// A copy of a start.
+pub(crate) type StartCopy = ArrayVec<u8, MOST_START_LEN>;
+
+/// A copy of a start. Who judges a start and goes on with it reads both from one copy, so that nobody can change it in
+/// between.
+pub(crate) fn copy_of_start(start: &[u8]) -> StartCopy
+    requires { length start.now ≤ MOST_START_LEN }
+    ensures { result.items ≡ start.now }
+{
+    let mut copy = StartCopy::new();
+    let _ = copy.try_extend_from_slice(start);
+    copy
 }
 
 /// Whether the bytes end with the tag of those before the tag.

@@ -1,16 +1,16 @@
 //! Tags, by which a start or the node of an answer is found that was made under another key, for another set, message
 //! or job, or changed since.
-ghost use Rattle.std.specs.Prelude.{◌≡◌, ◌↔◌, ℕ, List, [], ◌∷◌, ◌++◌, ◌^◌, ◌<◌, IsTrue, length, take};
-ghost use Rattle.slh_params.specs.Bits.{to_byte};
+ghost use Rattle.std.specs.Prelude.{◌≡◌, ◌↔◌, ℕ, List, [], ◌∷◌, ◌*◌, ◌^◌, ◌<◌, ◌≤◌, IsTrue, length};
 ghost use Rattle.slh_params.specs.Params.{Params};
 ghost use Rattle.slh_params.specs.ParamSet.{params};
+ghost use Rattle.slh_params.specs.declared.param_set.ParamSet.{ParamSet};
 ghost use Rattle.slh_hash.specs.HashFunctions.{category_function};
-ghost use Rattle.slh_hash.specs.Keyed.{hmac};
+ghost use Rattle.slh_hash.specs.Keyed.{key_block};
 ghost use Rattle.slh_hash.specs.Stream.{IsKeyed};
 ghost use Rattle.slh_jobs.specs.Jobs.{HoldsFront};
 ghost use Rattle.slh_jobs.specs.KeyJobs.{HoldsKeyFront};
 ghost use Rattle.slh_jobs.specs.Starts.{start_tag};
-ghost use Rattle.slh_jobs.specs.Tags.{Tagged, IsSized, head, text};
+ghost use Rattle.slh_jobs.specs.Tags.{Tagged, IsSized, head, node_tag, tag_key, text};
 
 use crate::levels::Levels;
 use arrayvec::ArrayVec;
@@ -26,7 +26,10 @@ const ANSWER: u8 = 2;
 const KEY_ANSWER: u8 = 3;
 
 /// The number of the encoding of starts and answers. A version whose number is another refuses them.
-const ENCODING: u8 = 1;
+const ENCODING: u8 = 2;
+
+/// The last byte of the key of the tags. It is not zero, so that no shorter key is this one when HMAC fills it up.
+const KEY_END: u8 = 1;
 
 /// A law: no two different things have one text, where their parts have the lengths that the kind and the record fix.
 pub fn texts_differ()
@@ -34,17 +37,38 @@ pub fn texts_differ()
         → (p ≡ q) × (this ≡ other) }
 {}
 
-/// HMAC under SK.prf ‖ SK.seed ‖ PK.seed, after the kind of what is tagged, the encoding and the numbers of the set.
+/// A law: HMAC fills up no key of at most 3n bytes to the block of a key of the tags, whose seeds have n bytes each. So
+/// no key of PRF_msg, which has n bytes, makes tags.
+pub fn keys_differ()
+    ensures { (set : ParamSet) (sk_seed sk_prf pk_seed other : List ℕ) → let n = (params set).n in
+        length sk_seed ≡ n → length sk_prf ≡ n → length pk_seed ≡ n → length other ≤ 3 * n
+        → let f = category_function (params set) in
+        key_block f (tag_key sk_seed sk_prf pk_seed) ≡ key_block f other → ⊥ }
+{}
+
+/// The key of the tags, SK.prf ‖ SK.seed ‖ PK.seed ‖ 1.
+fn key_of_tags(sk_seed: &[u8], sk_prf: &[u8], pk_seed: &[u8]) -> ArrayVec<u8, 97>
+    requires sk_seed { length sk_seed.now ≤ 32 }
+    requires sk_prf { length sk_prf.now ≤ 32 }
+    requires pk_seed { length pk_seed.now ≤ 32 }
+    ensures { result.items ≡ tag_key sk_seed.now sk_prf.now pk_seed.now }
+{
+    let mut key = ArrayVec::new();
+    let _ = key.try_extend_from_slice(sk_prf);
+    let _ = key.try_extend_from_slice(sk_seed);
+    let _ = key.try_extend_from_slice(pk_seed);
+    let _ = key.try_extend_from_slice(&[KEY_END]);
+    key
+}
+
+/// HMAC under the key of the tags, after the kind of what is tagged, the encoding and the numbers of the set.
 fn keyed_for(set: ParamSet, sk_seed: &[u8], sk_prf: &[u8], pk_seed: &[u8], kind: u8) -> CategoryHmac
     requires sk_seed { length sk_seed.now ≡ (params set).n }
     requires sk_prf { length sk_prf.now ≡ (params set).n }
     requires pk_seed { length pk_seed.now ≡ (params set).n }
-    ensures { IsKeyed result (params set) (sk_prf.now ++ sk_seed.now ++ pk_seed.now) (head kind (params set)) }
+    ensures { IsKeyed result (params set) (tag_key sk_seed.now sk_prf.now pk_seed.now) (head kind (params set)) }
 {
-    let mut key = ArrayVec::<u8, 96>::new();
-    let _ = key.try_extend_from_slice(sk_prf);
-    let _ = key.try_extend_from_slice(sk_seed);
-    let _ = key.try_extend_from_slice(pk_seed);
+    let key = key_of_tags(sk_seed, sk_prf, pk_seed);
     let mut keyed = CategoryHmac::new(set, key.as_slice());
     keyed.update(&[
         kind,
@@ -101,7 +125,7 @@ pub(crate) fn keyed_for_key(
 /// The tag of the node that a job answers, from the HMAC up to the job's number.
 pub(crate) fn answer_tag(keyed: &CategoryHmac, job: u32, node: &Node) -> Node
     ensures value { (p : Params) (key front : List ℕ) → IsKeyed keyed.now p key front
-        → result.items ≡ take p.n (hmac (category_function p) key (front ++ to_byte job 4 ++ node.now.items)) }
+        → result.items ≡ node_tag p key front job node.now.items }
     ensures len { (p : Params) (key front : List ℕ) → IsKeyed keyed.now p key front → length result.items ≡ p.n }
 {
     let mut keyed = keyed.copy();

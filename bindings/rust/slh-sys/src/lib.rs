@@ -11,10 +11,10 @@
 //! argument, and nothing else writes to an argument while the call runs. All else is tested by the calls.
 #![no_std]
 
-use core::ffi::c_char;
+use core::ffi::{c_char, c_void};
 
 /// `slh_version` of the version that these declarations are of.
-pub const SLH_VERSION_NUMBER: u32 = 4_000;
+pub const SLH_VERSION_NUMBER: u32 = 5_000;
 
 /// The number of the set SLH-DSA-SHA2-128s.
 pub const SLH_DSA_SHA2_128S: u32 = 1;
@@ -154,6 +154,8 @@ extern "C" {
     ) -> u32;
     /// Writes the name of a refusal, and zero bytes to the end of `name`.
     pub fn slh_refusal_name(refusal: u32, name: *mut c_char, name_len: usize) -> u32;
+    /// Writes zeros over bytes that are no longer needed, also where the compiler sees that nobody reads them again.
+    pub fn slh_erase(bytes: *mut c_void, n: usize);
     /// Writes how many jobs a signature has, and the lengths of its start and of all answers.
     #[must_use]
     pub fn slh_sign_jobs(
@@ -271,6 +273,10 @@ extern "C" {
     /// The version of the library: 1,000,000 times its first number, 1,000 times its second, and its third.
     #[must_use]
     pub fn slh_version() -> u32;
+    /// For which level of processors the code is that runs: 2, 3 or 4 of x86-64, or 0 where the library has one level
+    /// alone.
+    #[must_use]
+    pub fn slh_level() -> u32;
     /// Verifies a signature of the pure form (Algorithm 24).
     #[must_use]
     pub fn slh_verify(

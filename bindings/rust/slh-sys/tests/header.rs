@@ -23,6 +23,7 @@ fn in_rust(parameter: &str) -> String {
         "uint32_t *" => "*mut u32",
         "size_t *" => "*mut usize",
         "char *" => "*mut c_char",
+        "void *" => "*mut c_void",
         other => panic!("no type {other}"),
     };
     format!("{name}: {kind}")
@@ -40,12 +41,19 @@ fn numbers_are_those_of_the_header() {
 
 #[test]
 fn calls_are_those_of_the_headers() {
-    let calls: Vec<_> = HEADERS.iter().flat_map(|header| header.split("\nuint32_t ").skip(1)).collect();
-    for call in &calls {
+    let after = |kind: &str| HEADERS.iter().flat_map(move |header| header.split(kind).skip(1)).collect::<Vec<_>>();
+    let (numbers, nothing) = (after("\nuint32_t "), after("\nvoid "));
+    let calls: Vec<_> = numbers.iter().map(|it| (*it, true)).chain(nothing.iter().map(|it| (*it, false))).collect();
+    for (call, is_number) in &calls {
         let name = call.split('(').next().expect("a name");
         let found = DECLARATIONS.split(&format!("pub fn {name}(")).nth(1).expect(name);
         let declared = parameters(&format!("({found}"));
         assert_eq!(declared, parameters(call).iter().map(|it| in_rust(it)).collect::<Vec<_>>(), "{name}");
+        let ends = found.split_once(')').is_some_and(|(_, rest)| rest.starts_with(" -> u32;"));
+        assert_eq!(ends, *is_number, "{name} returns a number");
     }
-    assert_eq!(calls.len(), DECLARATIONS.matches("pub fn ").count());
+    let is_listed = |name: &str| calls.iter().any(|(call, _)| call.split('(').next() == Some(name));
+    let declared = DECLARATIONS.split("pub fn ").skip(1).filter_map(|it| it.split('(').next());
+    let others: Vec<_> = declared.filter(|it| !is_listed(it)).collect();
+    assert!(others.is_empty(), "no header has {others:?}");
 }

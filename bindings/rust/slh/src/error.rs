@@ -10,6 +10,9 @@ pub enum Error {
     Refused(Refusal),
     /// The system gave no random bytes.
     RandomFailed(io::Error),
+    /// Two runs of a job gave different answers, as by bad memory or a bad processor, where
+    /// [`twice`](crate::Workers::twice) asked for two. Nothing was signed.
+    Fault,
 }
 
 impl fmt::Display for Error {
@@ -18,6 +21,7 @@ impl fmt::Display for Error {
             Error::Invalid => f.write_str("invalid"),
             Error::Refused(refusal) => refusal.fmt(f),
             Error::RandomFailed(error) => write!(f, "RandomFailed: {error}"),
+            Error::Fault => f.write_str("two runs of a job gave different answers"),
         }
     }
 }

@@ -123,23 +123,25 @@ pub trait Verifier<P: ParameterSet> {
 /// is dropped.
 #[derive(Clone)]
 pub struct SecretKey<P: ParameterSet> {
-    bytes: P::SecretKeyBytes,
+    /// In a box they stay in their place where a key is moved, and leave no copy behind.
+    bytes: Box<P::SecretKeyBytes>,
 }
 
 impl<P: ParameterSet> SecretKey<P> {
     /// Makes a key from random bytes of the system (Algorithm 21). `Error::RandomFailed` where it gives none.
     pub fn generate() -> Result<Self, Error> {
-        let mut seeds = [random_seed::<P>()?, random_seed::<P>()?, random_seed::<P>()?];
-        let key = Self::keygen(&seeds[0], &seeds[1], &seeds[2]);
-        seeds.iter_mut().for_each(|seed| erase(seed.as_mut()));
-        Ok(key)
+        let mut seeds = Seeds::<P>([P::Seed::ZEROS; 3]);
+        for seed in &mut seeds.0 {
+            random::fill(seed.as_mut())?;
+        }
+        Ok(Self::keygen(&seeds.0[0], &seeds.0[1], &seeds.0[2]))
     }
 
     /// Makes the key of three seeds (Algorithm 18), which are as secret as the key.
     pub fn keygen(sk_seed: &P::Seed, sk_prf: &P::Seed, pk_seed: &P::Seed) -> Self {
-        let mut key = Self { bytes: P::SecretKeyBytes::ZEROS };
+        let mut key = Self::zeros();
         let [first, second, third] = [sk_seed.as_ref(), sk_prf.as_ref(), pk_seed.as_ref()];
-        let out = key.bytes.as_mut();
+        let out = (*key.bytes).as_mut();
         // SAFETY: each pointer is that of the slice whose length follows, and the output is borrowed here alone.
         certainly_done(unsafe {
             slh_sys::slh_keygen(
@@ -157,9 +159,17 @@ impl<P: ParameterSet> SecretKey<P> {
         key
     }
 
-    /// The key of these 4n bytes. Call `check` once on one that comes from elsewhere.
-    pub fn from_bytes(bytes: P::SecretKeyBytes) -> Self {
-        SecretKey { bytes }
+    fn zeros() -> Self {
+        SecretKey { bytes: Box::new(P::SecretKeyBytes::ZEROS) }
+    }
+
+    /// The key of these 4n bytes. Call `check` once on one that comes from elsewhere. The caller's array stays as it
+    /// is: `try_from` makes the key of a slice without a copy on the stack.
+    pub fn from_bytes(mut bytes: P::SecretKeyBytes) -> Self {
+        let mut key = Self::zeros();
+        (*key.bytes).as_mut().copy_from_slice(bytes.as_ref());
+        erase(bytes.as_mut());
+        key
     }
 
     /// The 4n bytes of the key.
@@ -169,7 +179,7 @@ impl<P: ParameterSet> SecretKey<P> {
 
     /// The public key: the last 2n bytes.
     pub fn public(&self) -> PublicKey<P> {
-        let (sk, mut bytes) = (self.bytes.as_ref(), P::PublicKeyBytes::ZEROS);
+        let (sk, mut bytes) = (self.as_bytes().as_ref(), P::PublicKeyBytes::ZEROS);
         let pk = bytes.as_mut();
         // SAFETY: each pointer is that of the slice whose length follows, and the output is borrowed here alone.
         certainly_done(unsafe { slh_sys::slh_public(P::NUMBER, sk.as_ptr(), sk.len(), pk.as_mut_ptr(), pk.len()) });
@@ -178,7 +188,7 @@ impl<P: ParameterSet> SecretKey<P> {
 
     /// Whether PK.root is the root that the seeds give: else `Error::Invalid`. This takes as long as making a key.
     pub fn check(&self) -> Result<(), Error> {
-        let sk = self.bytes.as_ref();
+        let sk = self.as_bytes().as_ref();
         // SAFETY: the pointer is that of the slice whose length follows.
         done(unsafe { slh_sys::slh_check(P::NUMBER, sk.as_ptr(), sk.len()) })
     }
@@ -193,7 +203,7 @@ impl<P: ParameterSet> SecretKey<P> {
         options: Options<'_>,
     ) -> Result<Signature<P>, Error> {
         let randomizer = options.randomizer.drawn::<P>()?;
-        let (sk, context, random) = (self.bytes.as_ref(), options.context, slice(&randomizer));
+        let (sk, context, random) = (self.as_bytes().as_ref(), options.context, slice(&randomizer));
         // SAFETY: each pointer is that of the slice whose length follows, and the output is the closure's alone.
         Signature::written(|out| unsafe {
             slh_sys::slh_hash_sign_digest(
@@ -222,7 +232,7 @@ impl<P: ParameterSet> SecretKey<P> {
 impl<P: ParameterSet> Signer<P> for SecretKey<P> {
     fn sign_with(&self, message: &[u8], options: Options<'_>) -> Result<Signature<P>, Error> {
         let randomizer = options.randomizer.drawn::<P>()?;
-        let (sk, context, random) = (self.bytes.as_ref(), options.context, slice(&randomizer));
+        let (sk, context, random) = (self.as_bytes().as_ref(), options.context, slice(&randomizer));
         // SAFETY: as in `hash_sign_digest`.
         Signature::written(|out| unsafe {
             slh_sys::slh_sign(
@@ -243,7 +253,7 @@ impl<P: ParameterSet> Signer<P> for SecretKey<P> {
 
     fn hash_sign(&self, function: Function, message: &[u8], options: Options<'_>) -> Result<Signature<P>, Error> {
         let randomizer = options.randomizer.drawn::<P>()?;
-        let (sk, context, random) = (self.bytes.as_ref(), options.context, slice(&randomizer));
+        let (sk, context, random) = (self.as_bytes().as_ref(), options.context, slice(&randomizer));
         // SAFETY: as in `hash_sign_digest`.
         Signature::written(|out| unsafe {
             slh_sys::slh_hash_sign(
@@ -269,10 +279,13 @@ impl<P: ParameterSet> TryFrom<&[u8]> for SecretKey<P> {
 
     /// The key of these bytes. Refused: `BadLength` unless there are 4n.
     fn try_from(bytes: &[u8]) -> Result<Self, Error> {
-        match P::SecretKeyBytes::try_from(bytes) {
-            Ok(bytes) => Ok(SecretKey { bytes }),
-            Err(_) => Err(Refusal::BAD_LENGTH.into()),
+        let mut key = Self::zeros();
+        let own = (*key.bytes).as_mut();
+        if own.len() != bytes.len() {
+            return Err(Refusal::BAD_LENGTH.into());
         }
+        own.copy_from_slice(bytes);
+        Ok(key)
     }
 }
 
@@ -284,7 +297,16 @@ impl<P: ParameterSet> fmt::Debug for SecretKey<P> {
 
 impl<P: ParameterSet> Drop for SecretKey<P> {
     fn drop(&mut self) {
-        erase(self.bytes.as_mut());
+        erase((*self.bytes).as_mut());
+    }
+}
+
+/// The seeds of a key, which are overwritten when they are dropped.
+struct Seeds<P: ParameterSet>([P::Seed; 3]);
+
+impl<P: ParameterSet> Drop for Seeds<P> {
+    fn drop(&mut self) {
+        self.0.iter_mut().for_each(|seed| erase(seed.as_mut()));
     }
 }
 
@@ -434,5 +456,24 @@ impl<P: ParameterSet> AsRef<[u8]> for Signature<P> {
 impl<P: ParameterSet> fmt::Debug for Signature<P> {
     fn fmt(&self, f: &mut fmt::Formatter<'_>) -> fmt::Result {
         write!(f, "Signature({}, {} bytes)", P::NAME, self.bytes.len())
+    }
+}
+
+#[cfg(test)]
+mod tests {
+    use std::mem::MaybeUninit;
+
+    use super::*;
+    use crate::sets::SlhDsaSha2_128f;
+
+    #[test]
+    fn seeds_are_overwritten_when_they_are_dropped() {
+        let mut place = MaybeUninit::new(Seeds::<SlhDsaSha2_128f>([[7; 16]; 3]));
+        // SAFETY: there are seeds, which nobody uses again. They have no memory but their place, whose bytes are read.
+        let left = unsafe {
+            place.as_mut_ptr().drop_in_place();
+            place.as_ptr().cast::<[u8; 48]>().read()
+        };
+        assert_eq!(left, [0; 48]);
     }
 }

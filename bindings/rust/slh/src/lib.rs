@@ -19,7 +19,8 @@
 //! a signature have their set, and so their length, as their type.
 //!
 //! Each signature has a fresh randomizer from the system, unless [`Options`] say otherwise. Secret keys are not
-//! printed, and are overwritten when they are dropped; what calls leave on the stack is not.
+//! printed. They are overwritten when they are dropped, as are seeds and answers that this crate makes; bytes that a
+//! caller hands in are the caller's. A key that is leaked ([`std::mem::forget`]), or that a process ends with, is not.
 
 mod error;
 mod jobs;

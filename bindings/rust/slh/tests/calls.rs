@@ -117,6 +117,7 @@ fn any_number_of_workers_makes_the_same_signature() {
     let alone = secret.sign_with(b"letter", DETERMINISTIC).unwrap();
     for count in [0, 1, 3, usize::MAX] {
         assert!(secret.workers(count).sign_with(b"letter", DETERMINISTIC).unwrap() == alone);
+        assert!(secret.workers(count).twice().sign_with(b"letter", DETERMINISTIC).unwrap() == alone);
     }
 }
 
@@ -126,7 +127,7 @@ fn secrets_are_not_printed() {
     assert_eq!(format!("{secret:?}"), "SecretKey(SLH-DSA-SHA2-128f)");
     assert_eq!(format!("{secret:#?}"), "SecretKey(SLH-DSA-SHA2-128f)");
     let workers = format!("{:?}", secret.workers(3));
-    assert_eq!(workers, "Workers { secret: SecretKey(SLH-DSA-SHA2-128f), count: 3 }");
+    assert_eq!(workers, "Workers { secret: SecretKey(SLH-DSA-SHA2-128f), count: 3, is_twice: false }");
 }
 
 #[test]

@@ -1,15 +1,15 @@
 -- Right answers have their tags, and give the key's root.
 use Rattle.std.proofs.Common.{◌≡◌, ℕ, List, ◌++◌, rules, ap, sym, subst, ◌∙◌}
-use Rattle.std.specs.Bool.{IsTrue}
+use Rattle.std.specs.Option.{IsSome}
 use Rattle.slh_core.specs.Keys.{Key, IsGeneratedKey}
 use Rattle.slh_core.proofs.Parts.{generated}
 use Rattle.slh_jobs.specs.KeyJobs.{key_root}
 use Rattle.slh_jobs.proofs.KeyLaw.{keys_tagged, key_root-right}
 use Rattle.slh_jobs.proofs.generation.keygen_join.Goals as goal
 
-pub returns-then-not-are_tagged-clause-right : goal.returns-then-not-are_tagged-clause-right
-returns-then-not-are_tagged-clause-right c = λ are len.
-    let fits : IsTrue c.are_tagged.result = c.are_tagged.ensures.1 (keys_tagged c.args.levels.now c.args.sk_seed.now c.args.sk_prf.now c.args.pk_seed.now c.args.answers.now are) in
+pub returns-in_default-clause-right : goal.returns-in_default-clause-right
+returns-in_default-clause-right c = λ are len.
+    let fits : IsSome c.judged_root.result = c.judged_root.ensures.fit.1 (keys_tagged c.args.levels.now c.args.sk_seed.now c.args.sk_prf.now c.args.pk_seed.now c.args.answers.now are) in
     search rules
 
 pub returns-clause-key : goal.returns-clause-key

@@ -8,7 +8,7 @@ use Rattle.slh_tree.specs.Climb.{path_below}
 use Rattle.slh_tree.specs.Cover.{first_leaf, past_leaf}
 use Rattle.slh_tree.proofs.Authentic.{node_width}
 use Rattle.slh_tree.proofs.OneCover.{only_cover}
-use Rattle.slh_jobs.specs.Ranges.{node_given, upper_given}
+use Rattle.slh_jobs.specs.Ranges.{upper_given}
 use Rattle.slh_jobs.specs.UpperTrees.{upper-lawful}
 use Rattle.slh_subtrees.proofs.PathLaw.{Knows, length-known, path-known}
 use Rattle.slh_jobs.proofs.Blocks.{gained-knows}
@@ -30,46 +30,46 @@ bytes_at : (q : Placed) (bytes : List ℕ) (xs : List Placed) (d : Placed) → x
 bytes_at q bytes xs d one is = ap (λ (ys : List Placed). (get_or ys 0 d).node.items) one ∙ is
 
 -- the record knows the path of the range
-knows : (g : Over) (c : After-hash_range-cover g) → Knows (upper_given (g.T.Tree.tree c.args.tree.now) c.args.given.now.shape c.args.given.now.bytes.now c.args.first) c.args.range c.args.given.now.shape.levels c.hash_range-cover.new.rec
+knows : (g : Over) (c : After-hash_range-cover g) → Knows (upper_given (g.T.Tree.tree c.args.tree.now) c.args.nodes.now.given.shape c.args.nodes.now.given.bytes.now c.args.nodes.now.first) c.args.range c.args.nodes.now.given.shape.levels c.hash_range-cover.new.rec
 knows g c =
-    let s = c.args.given.now.shape in
-    gained-knows (upper_given (g.T.Tree.tree c.args.tree.now) s c.args.given.now.bytes.now c.args.first) c.args.range s.levels 0 _ _ _
+    let s = c.args.nodes.now.given.shape in
+    gained-knows (upper_given (g.T.Tree.tree c.args.tree.now) s c.args.nodes.now.given.bytes.now c.args.nodes.now.first) c.args.range s.levels 0 _ _ _
     (from_first c.args.range s.levels c.requires.range) (to_past c.args.range s.levels _ c.requires.range (search rules)) (omega arith)
     c.for_leaf-rec.ensures.height c.for_leaf-rec.ensures.leaf c.hash_range-cover.ensures.gained
 
 pub put_path-requires-clause-nodes : goal.put_path-requires-clause-nodes
 put_path-requires-clause-nodes g c = λ j lt.
-    let s = c.args.given.now.shape in
+    let s = c.args.nodes.now.given.shape in
     let tree = g.T.Tree.tree c.args.tree.now in
-    let top : MerkleTree = upper_given tree s c.args.given.now.bytes.now c.args.first in
-    let law : Lawful top = upper-lawful tree (g.met.T.Tree.lawful c.args.tree.now) s c.args.given.now.bytes.now c.args.first c.requires.n in
+    let top : MerkleTree = upper_given tree s c.args.nodes.now.given.bytes.now c.args.nodes.now.first in
+    let law : Lawful top = upper-lawful tree (g.met.T.Tree.lawful c.args.tree.now) s c.args.nodes.now.given.bytes.now c.args.nodes.now.first c.requires.n in
     length-known top law c.args.range s.levels c.hash_range-cover.new.rec (knows g (goal.at.put_path-requires-clause-nodes g c).After-hash_range-cover) j lt
 
 pub returns-else-levels-eq0-clause-path : goal.returns-else-levels-eq0-clause-path
 returns-else-levels-eq0-clause-path g c =
-    let s = c.args.given.now.shape in
-    let top : MerkleTree = upper_given (g.T.Tree.tree c.args.tree.now) s c.args.given.now.bytes.now c.args.first in
+    let s = c.args.nodes.now.given.shape in
+    let top : MerkleTree = upper_given (g.T.Tree.tree c.args.tree.now) s c.args.nodes.now.given.bytes.now c.args.nodes.now.first in
     c.put_path.ensures ∙ path-known top c.args.range s.levels c.hash_range-cover.new.rec (knows g (goal.at.returns-else-levels-eq0-clause-path g c).After-hash_range-cover)
 
 pub returns-else-levels-eq0-clause-root : goal.returns-else-levels-eq0-clause-root
 returns-else-levels-eq0-clause-root g c =
-    let s = c.args.given.now.shape in
-    let top : MerkleTree = upper_given (g.T.Tree.tree c.args.tree.now) s c.args.given.now.bytes.now c.args.first in
+    let s = c.args.nodes.now.given.shape in
+    let top : MerkleTree = upper_given (g.T.Tree.tree c.args.tree.now) s c.args.nodes.now.given.bytes.now c.args.nodes.now.first in
     let one = only_cover top c.hash_range-cover.result.nodes.items (search rules) in
     c.copy_of.ensures ∙ bytes_at one.0 _ c.deref.result.now c.index-deref-0.result (c.deref.ensures.0 ∙ one.1) one.2
 
 pub returns-else-levels-eq0-clause-len : goal.returns-else-levels-eq0-clause-len
 returns-else-levels-eq0-clause-len g c =
-    let s = c.args.given.now.shape in
+    let s = c.args.nodes.now.given.shape in
     let tree = g.T.Tree.tree c.args.tree.now in
-    let top : MerkleTree = upper_given tree s c.args.given.now.bytes.now c.args.first in
-    let law : Lawful top = upper-lawful tree (g.met.T.Tree.lawful c.args.tree.now) s c.args.given.now.bytes.now c.args.first c.requires.n in
+    let top : MerkleTree = upper_given tree s c.args.nodes.now.given.bytes.now c.args.nodes.now.first in
+    let law : Lawful top = upper-lawful tree (g.met.T.Tree.lawful c.args.tree.now) s c.args.nodes.now.given.bytes.now c.args.nodes.now.first c.requires.n in
     ap length (returns-else-levels-eq0-clause-root g c) ∙ node_width top law s.levels 0
 
 pub returns-then-levels-eq0-clause-path : goal.returns-then-levels-eq0-clause-path
 unfolding path_below
 returns-then-levels-eq0-clause-path g c =
-    let s = c.args.given.now.shape in
+    let s = c.args.nodes.now.given.shape in
     let none : s.levels ≡ 0 = omega arith in
     let short : s.levels * s.n ≡ 0 = ap (λ l. l * s.n) none ∙ omega arith in
     rw none (nil_from_length c.args.out.now (c.requires.out ∙ short))
@@ -77,8 +77,5 @@ returns-then-levels-eq0-clause-path g c =
 pub returns-then-levels-eq0-clause-root : goal.returns-then-levels-eq0-clause-root
 unfolding node
 returns-then-levels-eq0-clause-root g c =
-    let s = c.args.given.now.shape in
-    let bytes = c.args.given.now.bytes.now in
-    let none : s.levels ≡ 0 = omega arith in
-    let first : c.args.first ≡ c.args.first + 0 = omega arith in
-    rw none (c.node.ensures.value ∙ ap (node_given s bytes) first)
+    let none : c.args.nodes.now.given.shape.levels ≡ 0 = omega arith in
+    rw none c.node.ensures.value

@@ -6,7 +6,7 @@ use Rattle.slh_jobs.specs.AllAnswers.{params_in}
 use Rattle.slh_jobs.proofs.all_answers.AllAnswers.fors_root_at.Goals as goal
 
 pub returns-clause-part : goal.returns-clause-part
-returns-clause-part c =
+returns-clause-part c = λ some.
     let own : length c.fors_root.new.part ≡ fors_part_len (params_in c.args.self.now) = search rules in
     take-put_mid c.args.start (c.args.start + c.fors_part_len.result - c.args.start) c.args.out.now c.fors_root.new.part _ (omega (arith, own)) (omega (arith, c.requires.out))
-    ∙ ap (λ ys. take c.args.start c.args.out.now ++ ys) c.fors_root.ensures.part
+    ∙ ap (λ ys. take c.args.start c.args.out.now ++ ys) (c.fors_root.ensures.part some)

@@ -1,5 +1,5 @@
 -- After each tree one root more is absorbed, one part more is written, and the roots so far are the same.
-use Rattle.std.proofs.Common.{◌≡◌, ℕ, ◌+◌, ◌*◌, ◌<◌, ◌++◌, List, length, take, refl, rules, arith, sym, subst, ap, ◌∙◌}
+use Rattle.std.proofs.Common.{◌≡◌, ℕ, ◌+◌, ◌*◌, ◌<◌, ◌++◌, List, length, take, refl, arith, sym, subst, ap, ◌∙◌}
 use Rattle.slh_params.specs.Address.{address}
 use Rattle.slh_hash.specs.Stream.{HasAbsorbed}
 use Rattle.slh_few.specs.Fors.{fors_part_len}
@@ -8,7 +8,7 @@ use Rattle.slh_few.proofs.Ends.{end_to_end-none, end_to_end-more, writes-more, p
 use Rattle.slh_subtrees.specs.Assembled.{fors_part_by}
 use Rattle.slh_subtrees.specs.declared.range.JobTree.TheVariants.{Fors}
 use Rattle.slh_jobs.specs.AllAnswers.{params_in, source_in, answers_in}
-use Rattle.slh_jobs.specs.Joined.{ForsFits}
+use Rattle.slh_jobs.specs.Joined.{NodesFit, ForsFits}
 use Rattle.slh_jobs.proofs.Indices.{below_more}
 use Rattle.slh_jobs.proofs.all_answers.AllAnswers.judge_fors.Goals as goal
 
@@ -26,6 +26,7 @@ loop-j-init c =
       ap (λ k. take k c.args.sig_fors.now) zero ∙ sym (end_to_end-none _),
       λ i lt. absurd (omega (arith, lt)),
       λ i lt. absurd (omega (arith, lt)),
+      λ i lt. absurd (omega (arith, lt)),
     )
 
 pub loop-j-preserved : goal.loop-j-preserved
@@ -40,13 +41,16 @@ loop-j-preserved c =
     let part : ℕ → List ℕ = fors_part_by a in
     let Sized : ℕ → Type 0 = λ i. length (part i) ≡ n in
     let more : end_to_end roots (j + 1) ≡ end_to_end roots j ++ c.in-Some.root.items = end_to_end-more roots j ∙ ap (λ y. end_to_end roots j ++ y) (sym c.in-Some.ensures.root) in
-    let size : length (part j) ≡ n = c.in-Some.ensures.part_len in
-    let put : take (j * n + n) c.fors_root_at.new.out ≡ take (j * n) c.loop-j.sig_fors ++ part j = rw c.fors_part_len-size.ensures.value at c.in-Some.ensures.part in
-    let here : ForsFits s a j = c.in-Some.ensures.fits.0 (search rules) in (
+    let size : length (part j) ≡ n = c.in-Some.ensures.part_len refl in
+    let put : take (j * n + n) c.fors_root_at.new.out ≡ take (j * n) c.loop-j.sig_fors ++ part j = rw c.fors_part_len-size.ensures.value at (c.in-Some.ensures.part refl) in
+    let t = c.args.self.now.signing in
+    let Tagged : ℕ → Type 0 = λ i. NodesFit t.levels t.sk.now t.start.now c.args.self.now.xmss.bytes.now (Fors i) in
+    let here : Tagged j × ForsFits s a j = c.in-Some.ensures.fits.0 refl in (
       subst (λ (xs : List ℕ). HasAbsorbed c.absorb.new.self p s.pk_seed adrs xs) (sym more) (c.absorb.ensures p s.pk_seed adrs (end_to_end roots j) c.loop-j.invariant.0),
       writes-more part j n c.loop-j.sig_fors c.fors_root_at.new.out (part j) refl size c.loop-j.invariant.1 (ap (λ k. take (j * n + k) c.fors_root_at.new.out) size ∙ put),
       below_more Sized j c.loop-j.invariant.2 size,
-      below_more (ForsFits s a) j c.loop-j.invariant.3 here,
+      below_more Tagged j c.loop-j.invariant.3 here.0,
+      below_more (ForsFits s a) j c.loop-j.invariant.4 here.1,
     )
 
 pub returns-clause-sig_fors : goal.returns-clause-sig_fors

@@ -1,5 +1,5 @@
 -- What the loop keeps: the roots that are absorbed, the parts that are written, and that the FORS trees before number j
--- have the roots that their parts give.
+-- have their tags and the roots that their parts give.
 use Rattle.std.proofs.Common.{◌≡◌, ℕ, ◌<◌, ◌*◌, length, take}
 use Rattle.slh_params.specs.Address.{address}
 use Rattle.slh_hash.specs.Stream.{HasAbsorbed}
@@ -8,7 +8,7 @@ use Rattle.slh_few.specs.Parts.{end_to_end}
 use Rattle.slh_subtrees.specs.Assembled.{fors_part_by}
 use Rattle.slh_subtrees.specs.declared.range.JobTree.TheVariants.{Fors}
 use Rattle.slh_jobs.specs.AllAnswers.{params_in, source_in, answers_in}
-use Rattle.slh_jobs.specs.Joined.{ForsFits}
+use Rattle.slh_jobs.specs.Joined.{NodesFit, ForsFits}
 use Rattle.slh_jobs.proofs.all_answers.AllAnswers.judge_fors.Given as goal
 
 abbrev pub invariant-loop-j : goal.invariant-loop-j
@@ -19,4 +19,5 @@ invariant-loop-j l =
     HasAbsorbed l.roots p s.pk_seed (address 0 s.idx_tree 4 s.idx_leaf 0 0) (end_to_end (λ j. a.root (Fors j)) l.j)
     × (take (l.j * fors_part_len p) l.sig_fors ≡ end_to_end (fors_part_by a) l.j)
     × ((i : ℕ) → i < l.j → length (fors_part_by a i) ≡ fors_part_len p)
+    × ((i : ℕ) → i < l.j → NodesFit l.self.signing.levels l.self.signing.sk.now l.self.signing.start.now l.self.xmss.bytes.now (Fors i))
     × ((i : ℕ) → i < l.j → ForsFits s a i)

@@ -1,0 +1,77 @@
+/* What the files of the provider `slh` for OpenSSL share. docs/OPENSSL.md says what it is and how it is used. */
+#ifndef SLH_OPENSSL_PROVIDER_H
+#define SLH_OPENSSL_PROVIDER_H
+
+#include <openssl/core_dispatch.h>
+#include <openssl/core_names.h>
+#include <openssl/err.h>
+#include <openssl/proverr.h>
+#include <openssl/rand.h>
+#include <slh.h>
+#include <stdatomic.h>
+#include <string.h>
+
+enum { MOST_WORKERS = 64, PRIVATE = OSSL_KEYMGMT_SELECT_PRIVATE_KEY, PUBLIC = OSSL_KEYMGMT_SELECT_PUBLIC_KEY };
+
+/* An entry of a table of functions. The compiler tells where a function is of another type than OpenSSL calls. */
+#define ENTRY(NAME, name, function) {OSSL_FUNC_##NAME, (void (*)(void))(1 ? (function) : (OSSL_FUNC_##name##_fn *)0)}
+#define OF_KEYS(NAME, name, function) ENTRY(KEYMGMT_##NAME, keymgmt_##name, function)
+#define OF_SIGNATURES(NAME, name, function) ENTRY(SIGNATURE_##NAME, signature_##name, function)
+
+/* A parameter set: libslh's number of it, by how many levels its XMSS trees are cut into jobs, and lengths in bytes. */
+struct set {
+    uint32_t number, xmss_levels;
+    size_t n, sig_len;
+};
+const struct set *set_of(uint32_t number);
+
+/* A provider's context: where random bytes are drawn, and how signatures are made, by how many threads and whether each
+   job is done two times and its answers compared. 0 workers stand for a configuration that is wrong. */
+struct provider {
+    OSSL_LIB_CTX *libctx;
+    unsigned workers, twice;
+};
+
+/* A key: it has PRIVATE, PUBLIC, both or nothing. sk is SK.seed || SK.prf || PK.seed || PK.root; in a public key the
+   first half is zero. Once a key has something it does not change, so threads may share it. */
+struct key {
+    atomic_uint holders;
+    const struct set *set;
+    int has;
+    uint8_t sk[SLH_MAX_SECRET_KEY];
+};
+void key_free(void *key);
+int key_has(const void *key, int selection);
+static inline size_t sk_len(const struct key *it) { return 4 * it->set->n; }
+static inline size_t pk_len(const struct key *it) { return 2 * it->set->n; }
+static inline const uint8_t *pk(const struct key *it) { return it->sk + pk_len(it); }
+
+/* What a caller chose for signatures under a key. encoding is 1 in the pure form, and 0 in the internal one, for test
+   vectors, whose message is M' as it is. */
+struct signature {
+    OSSL_LIB_CTX *libctx;
+    const struct set *set;
+    struct key *key;
+    unsigned workers, twice, deterministic, encoding;
+    size_t context_len, entropy_len;
+    uint8_t context[SLH_MAX_CONTEXT], entropy[SLH_MAX_N];
+};
+/* Makes a signature of the pure form by its jobs, with the entropy as its randomizer. Unless it returns SLH_DONE it has
+   written nothing: so it is where two answers of one job differ. */
+uint32_t sign_by_jobs(const struct signature *it, const uint8_t *msg, size_t msg_len, uint8_t *sig);
+
+/* fail queues an error and returns 0. The others put a value into a parameter, if the caller asks for it. */
+int fail(int reason, const char *text);
+int put_number(OSSL_PARAM params[], const char *name, size_t value);
+int put_bytes(OSSL_PARAM params[], const char *name, const void *bytes, size_t len);
+
+extern const OSSL_ALGORITHM keymgmts[], signatures[];
+
+/* The algorithms of the six sets, by the names of the default provider, with the tables NAME_1 to NAME_6. */
+#define ALGORITHM(set, oid, table)                                                                                     \
+    {"SLH-DSA-SHA2-" set ":id-slh-dsa-sha2-" set ":2.16.840.1.101.3.4.3." oid, "provider=slh", table, "by libslh"}
+#define ALL_SETS(name)                                                                                                 \
+    {ALGORITHM("128s", "20", name##_1), ALGORITHM("128f", "21", name##_2), ALGORITHM("192s", "22", name##_3),          \
+     ALGORITHM("192f", "23", name##_4), ALGORITHM("256s", "24", name##_5), ALGORITHM("256f", "25", name##_6), {0}}
+
+#endif

@@ -1,0 +1,164 @@
+/* Signing and verifying, as OpenSSL's default provider does it: messages that are handed in whole. */
+#include "provider.h"
+#include <slh_internal.h>
+
+static void *signature_new(struct provider *prov, uint32_t number) {
+    struct signature *it = OPENSSL_zalloc(sizeof *it);
+    if (it == NULL) return NULL;
+    it->libctx = prov->libctx;
+    it->set = set_of(number);
+    it->workers = prov->workers, it->twice = prov->twice, it->encoding = 1;
+    return it;
+}
+
+static void signature_free(void *it) {
+    if (it != NULL) key_free(((struct signature *)it)->key);
+    OPENSSL_clear_free(it, sizeof(struct signature));
+}
+
+static void *signature_dup(void *handed) {
+    struct signature *it = OPENSSL_memdup(handed, sizeof *it);
+    if (it != NULL && it->key != NULL) atomic_fetch_add(&it->key->holders, 1);
+    return it;
+}
+
+static int set_number(const OSSL_PARAM params[], const char *name, unsigned least, unsigned most, unsigned *to) {
+    const OSSL_PARAM *from = OSSL_PARAM_locate_const(params, name);
+    unsigned found = *to;
+    if (from != NULL && (!OSSL_PARAM_get_uint(from, &found) || found < least || found > most))
+        return fail(PROV_R_INVALID_DATA, name);
+    *to = found;
+    return 1;
+}
+
+/* What is refused changes nothing, so that nothing is signed under a part of a context. */
+static int set_bytes(const OSSL_PARAM params[], const char *name, uint8_t *to, size_t least, size_t most, size_t *len) {
+    const OSSL_PARAM *from = OSSL_PARAM_locate_const(params, name);
+    const void *bytes;
+    size_t found;
+    if (from == NULL) return 1;
+    if (!OSSL_PARAM_get_octet_string_ptr(from, &bytes, &found) || found < least || found > most)
+        return fail(PROV_R_INVALID_DATA, name);
+    if (found != 0) memcpy(to, bytes, found);
+    *len = found;
+    return 1;
+}
+
+static int signature_set_params(void *handed, const OSSL_PARAM params[]) {
+    struct signature *it = handed;
+    size_t n = it->set->n;
+    return set_number(params, OSSL_SIGNATURE_PARAM_DETERMINISTIC, 0, 0x7fffffff, &it->deterministic) &&
+           set_number(params, OSSL_SIGNATURE_PARAM_MESSAGE_ENCODING, 0, 1, &it->encoding) &&
+           set_number(params, "workers", 1, MOST_WORKERS, &it->workers) &&
+           set_number(params, "twice", 0, 1, &it->twice) &&
+           set_bytes(params, OSSL_SIGNATURE_PARAM_CONTEXT_STRING, it->context, 0, SLH_MAX_CONTEXT, &it->context_len) &&
+           set_bytes(params, OSSL_SIGNATURE_PARAM_TEST_ENTROPY, it->entropy, n, n, &it->entropy_len);
+}
+
+static const OSSL_PARAM *signature_settable(void *it, void *prov) {
+    static const OSSL_PARAM types[] = {
+        OSSL_PARAM_octet_string(OSSL_SIGNATURE_PARAM_CONTEXT_STRING, NULL, 0),
+        OSSL_PARAM_octet_string(OSSL_SIGNATURE_PARAM_TEST_ENTROPY, NULL, 0),
+        OSSL_PARAM_int(OSSL_SIGNATURE_PARAM_DETERMINISTIC, NULL),
+        OSSL_PARAM_int(OSSL_SIGNATURE_PARAM_MESSAGE_ENCODING, NULL), OSSL_PARAM_uint("workers", NULL),
+        OSSL_PARAM_uint("twice", NULL), OSSL_PARAM_END};
+    return (void)it, (void)prov, types;
+}
+
+/* The AlgorithmIdentifier is a sequence of the object identifier alone: it has no parameters. */
+static int signature_get_params(void *handed, OSSL_PARAM params[]) {
+    const struct signature *it = handed;
+    uint8_t id[] = {0x30, 11, 6, 9, 0x60, 0x86, 0x48, 1, 0x65, 3, 4, 3, (uint8_t)(19 + it->set->number)};
+    return put_bytes(params, OSSL_SIGNATURE_PARAM_ALGORITHM_ID, id, sizeof id);
+}
+
+static const OSSL_PARAM *signature_gettable(void *it, void *prov) {
+    static const OSSL_PARAM types[] = {OSSL_PARAM_octet_string(OSSL_SIGNATURE_PARAM_ALGORITHM_ID, NULL, 0),
+                                       OSSL_PARAM_END};
+    return (void)it, (void)prov, types;
+}
+
+/* Begins to sign or verify, under this key or, without one, that of the call before. SLH-DSA hashes messages
+   itself: no digest may be named. */
+static int init(struct signature *it, const char *digest, struct key *key, const OSSL_PARAM params[], int needed) {
+    if (digest != NULL && *digest != 0) return fail(PROV_R_INVALID_DIGEST, "SLH-DSA takes no digest");
+    if (key == NULL) key = it->key;
+    if (key == NULL) return fail(PROV_R_NO_KEY_SET, "");
+    if (key->set != it->set) return fail(PROV_R_INVALID_KEY, "the key is of another set");
+    if (!key_has(key, needed)) return fail(PROV_R_NOT_A_PRIVATE_KEY, "");
+    if (needed == PRIVATE && it->workers == 0)
+        return fail(PROV_R_INVALID_CONFIG_DATA, "in the configuration workers is 1 to 64, and twice 0 or 1");
+    atomic_fetch_add(&key->holders, 1);
+    key_free(it->key);
+    it->key = key;
+    return signature_set_params(it, params);
+}
+static int digest_sign_init(void *it, const char *digest, void *key, const OSSL_PARAM params[]) {
+    return init(it, digest, key, params, PRIVATE);
+}
+static int digest_verify_init(void *it, const char *digest, void *key, const OSSL_PARAM params[]) {
+    return init(it, digest, key, params, PUBLIC);
+}
+static int sign_init(void *it, void *key, const OSSL_PARAM params[]) { return init(it, NULL, key, params, PRIVATE); }
+static int verify_init(void *it, void *key, const OSSL_PARAM params[]) { return init(it, NULL, key, params, PUBLIC); }
+
+static uint32_t make(const struct signature *it, const uint8_t *msg, size_t msg_len, uint8_t *sig) {
+    uint32_t set = it->set->number;
+    if (it->encoding == 0)
+        return slh_sign_internal(set, it->key->sk, sk_len(it->key), msg, msg_len, it->entropy, it->entropy_len, sig,
+                                 it->set->sig_len);
+    if (it->workers > 1 || it->twice) return sign_by_jobs(it, msg, msg_len, sig);
+    return slh_sign(set, it->key->sk, sk_len(it->key), msg, msg_len, it->context, it->context_len, it->entropy,
+                    it->entropy_len, sig, it->set->sig_len);
+}
+
+/* libslh asks of its caller that an output overlaps no input, and that no length is above PTRDIFF_MAX. */
+static int sign(void *handed, unsigned char *sig, size_t *len, size_t room, const unsigned char *msg, size_t msg_len) {
+    struct signature it = *(struct signature *)handed;
+    size_t n = it.set->n;
+    uintptr_t out = (uintptr_t)sig, in = (uintptr_t)msg;
+    if (!key_has(it.key, PRIVATE)) return fail(PROV_R_NOT_A_PRIVATE_KEY, "");
+    if (sig == NULL) return *len = it.set->sig_len, 1;
+    if (room < it.set->sig_len) return fail(PROV_R_INVALID_SIGNATURE_SIZE, "there is no room for the signature");
+    if (it.encoding == 0 && it.twice) return fail(PROV_R_FAILED_TO_SIGN, "twice is of the pure form alone");
+    if (msg_len > PTRDIFF_MAX || (msg_len != 0 && in < out + it.set->sig_len && out < in + msg_len))
+        return fail(PROV_R_INVALID_DATA, "the message is too long, or overlaps the signature");
+    if (it.entropy_len == 0 && !it.deterministic) {
+        if (RAND_priv_bytes_ex(it.libctx, it.entropy, n, (unsigned)(8 * n)) <= 0) return 0;
+        it.entropy_len = n;
+    }
+    uint32_t result = make(&it, msg, msg_len, sig);
+    OPENSSL_cleanse(it.entropy, sizeof it.entropy);
+    if (result != SLH_DONE) return fail(PROV_R_FAILED_TO_SIGN, "");
+    *len = it.set->sig_len;
+    return 1;
+}
+
+static int verify(void *handed, const unsigned char *sig, size_t len, const unsigned char *msg, size_t msg_len) {
+    const struct signature *it = handed;
+    if (it->key == NULL) return fail(PROV_R_NO_KEY_SET, "");
+    if (it->encoding == 0)
+        return slh_verify_internal(it->set->number, pk(it->key), pk_len(it->key), msg, msg_len, sig, len) == SLH_DONE;
+    return slh_verify(it->set->number, pk(it->key), pk_len(it->key), msg, msg_len, it->context, it->context_len, sig,
+                      len) == SLH_DONE;
+}
+
+/* SIGN_INIT and VERIFY_INIT must not stand here: with them `cms` signs the digest of a message in its place. */
+#define SIGNATURE(number)                                                                                              \
+    static void *signature_new_##number(void *prov, const char *query) {                                               \
+        return (void)query, signature_new(prov, number);                                                               \
+    }                                                                                                                  \
+    static const OSSL_DISPATCH signature_##number[] = {                                                                \
+        OF_SIGNATURES(NEWCTX, newctx, signature_new_##number), OF_SIGNATURES(FREECTX, freectx, signature_free),        \
+        OF_SIGNATURES(DUPCTX, dupctx, signature_dup), OF_SIGNATURES(SIGN, sign, sign),                                 \
+        OF_SIGNATURES(SIGN_MESSAGE_INIT, sign_message_init, sign_init), OF_SIGNATURES(VERIFY, verify, verify),         \
+        OF_SIGNATURES(VERIFY_MESSAGE_INIT, verify_message_init, verify_init),                                          \
+        OF_SIGNATURES(DIGEST_SIGN_INIT, digest_sign_init, digest_sign_init),                                           \
+        OF_SIGNATURES(DIGEST_SIGN, digest_sign, sign), OF_SIGNATURES(DIGEST_VERIFY, digest_verify, verify),            \
+        OF_SIGNATURES(DIGEST_VERIFY_INIT, digest_verify_init, digest_verify_init),                                     \
+        OF_SIGNATURES(SET_CTX_PARAMS, set_ctx_params, signature_set_params),                                           \
+        OF_SIGNATURES(SETTABLE_CTX_PARAMS, settable_ctx_params, signature_settable),                                   \
+        OF_SIGNATURES(GET_CTX_PARAMS, get_ctx_params, signature_get_params),                                           \
+        OF_SIGNATURES(GETTABLE_CTX_PARAMS, gettable_ctx_params, signature_gettable), OSSL_DISPATCH_END};
+SIGNATURE(1) SIGNATURE(2) SIGNATURE(3) SIGNATURE(4) SIGNATURE(5) SIGNATURE(6)
+const OSSL_ALGORITHM signatures[] = ALL_SETS(signature);

@@ -1,0 +1,21 @@
+// A program for tools/packages_memory.py, which says what it does.
+import { once } from "node:events";
+
+import { load, SLH_DSA_SHA2_128F, SLH_SHA2_256 } from "slh";
+
+const slh = await load();
+const message = new TextEncoder().encode("letter");
+const secret = slh.generate(SLH_DSA_SHA2_128F);
+const bytes = secret.toBytes();
+const digits = Array.from(bytes, (byte) => (byte ^ 0x5a).toString(16).padStart(2, "0"));
+bytes.fill(0);
+console.log(digits.join(""));
+await once(process.stdin, "data");
+const publicKey = secret.public();
+const signature = secret.sign(message, { deterministic: true });
+secret.hashSign(SLH_SHA2_256, message);
+secret.hashSignDigest(SLH_SHA2_256, new Uint8Array(32));
+if (!secret.check() || !publicKey.verify(message, signature)) process.exit(1);
+secret.erase();
+console.log("erased");
+await once(process.stdin, "end");

@@ -1,0 +1,66 @@
+#!/usr/bin/env bash
+# Installs the program `slh` and, by tools/library.sh, the library for C: those of the release in dist/ where the
+# sources are those that it was built of and each file has the hash that is listed; else it builds them.
+#
+#   PREFIX/bin/slh                            runs the best build for the processor that it finds at each start
+#   PREFIX/lib/slh/x86-64-v2/slh, -v3/, -v4/  the builds
+#   PREFIX/share/man/man1/slh.1               the man page, and completions for bash and zsh:
+#   PREFIX/share/bash-completion/completions/slh, PREFIX/share/zsh/site-functions/_slh
+#
+# and what tools/library.sh installs. PREFIX can be moved, and shared by machines.
+#
+# usage: tools/install.sh PREFIX
+#
+# SLH_BUILD=1 and what is done without rt are as tools/library.sh says. Man page and completions are made of the
+# program's own help texts, by python3: where there is none, they are left out, and it is told. The status is 0 where all
+# else is installed. Where a file is damaged or missing, and can't be built, it is 2, and nothing is installed.
+set -euo pipefail
+here=$(cd "$(dirname "${BASH_SOURCE[0]}")/.." && pwd)
+source "$here/tools/released.sh"
+levels=(x86-64-v2 x86-64-v3 x86-64-v4)
+if [ $# != 1 ] || [[ $1 = -* ]]; then
+    echo "usage: tools/install.sh PREFIX" >&2
+    exit 2
+fi
+umask 022
+work=$(mktemp -d)
+trap 'rm -rf "$work"' EXIT
+
+if takes_release "${levels[@]/%//slh}"; then
+    made=$here/dist version=$(release_says version)
+else
+    command -v rt >/dev/null || {
+        echo "install.sh: there is nothing to install: rt is not on the path to build it" >&2
+        exit 2
+    }
+    (cd "$here/crates/slh" && rt check) >&2
+    made=$work/made version=$(cat "$here/VERSION")
+    for level in "${levels[@]}"; do
+        "$here/tools/program.sh" "$level" "$made/$level/slh"
+    done
+fi
+
+# What the program says of itself, as the man page or completions: KIND FILE.
+texts() {
+    mkdir -p "$(dirname "$work/share/$2")"
+    "$here/packages/debian/from_help.py" "$made/x86-64-v2/slh" "$version" "$1" >"$work/share/$2"
+}
+
+if command -v python3 >/dev/null; then
+    texts man man/man1/slh.1
+    texts bash bash-completion/completions/slh
+    texts zsh zsh/site-functions/_slh
+else
+    echo "install.sh: python3 is not on the path: there are no man page and no completions" >&2
+fi
+
+"$here/tools/library.sh" "$1"
+prefix=$(cd "$1" && pwd)
+for level in "${levels[@]}"; do
+    install -D -m 755 "$made/$level/slh" "$prefix/lib/slh/$level/slh"
+done
+for file in man/man1/slh.1 bash-completion/completions/slh zsh/site-functions/_slh; do
+    [ ! -f "$work/share/$file" ] || install -D -m 644 "$work/share/$file" "$prefix/share/$file"
+done
+sed 's|@FOLDER@|lib/slh|' "$here/packages/slh.sh" >"$work/slh"
+install -D -m 755 "$work/slh" "$prefix/bin/slh"

@@ -1,0 +1,251 @@
+#!/usr/bin/env python3
+"""Compares the sizes of files and the bytes of stack that docs/LIBRARY.md and README.md tell with those of libraries,
+or writes them there.
+
+usage: tools/numbers.py --check|--write TARGET=FOLDER ..
+
+TARGET is one of tools/target.sh, and FOLDER what tools/library.sh has installed for it, or the target's folder of
+dist/. The rows for files of lib/ and include/ are those of x86-64, or of x86-64-v2 where that is what is installed.
+What needs a target that is not given, or an emulator or processor that is not there, is neither compared nor written,
+and that is told. It compiles and runs tools/library_stack.c, by CC or cc, or AARCH64_CC and qemu-aarch64.
+
+A size may be off by 2 %, or by what rounding to KB, 1,000 bytes, takes. Stack is written rounded up to hundreds: a call
+may take no more than is written, and at most 2 % less, since a thread may be given what is written. The last line has
+the counts.
+"""
+import os
+import pathlib
+import re
+import shutil
+import subprocess
+import sys
+import tempfile
+
+HERE = pathlib.Path(__file__).resolve().parent.parent
+OFF = 0.02
+LEVELS = {"x86-64-v2": "ssse3", "x86-64-v3": "avx2", "x86-64-v4": "avx512bw"}
+CALLS = {"verify_digest": "hash_verify_digest"}
+CALL = "slh_verify((uint32_t)c, (void *)v, 32, (void *)v, 1, 0, 0, (void *)v, 17088)"
+
+# A number as it is written, whether what is written is good for what was measured, and what to write of it.
+KINDS = {
+    "KB": (lambda said, found: said == round(found / 1000) or abs(1000 * said - found) <= OFF * found,
+           lambda found: str(round(found / 1000))),
+    "bytes": (lambda said, found: abs(said - found) <= OFF * found, lambda found: f"{found:,}"),
+    "stack": (lambda said, found: found <= said <= (1 + OFF) * found, lambda found: f"{-(-found // 100) * 100:,}"),
+    "thousands": (lambda said, found: said == round(found, -3) or abs(said - found) <= OFF * found,
+                  lambda found: f"{round(found, -3):,}"),
+}
+
+NUMBER = r"([\d,]+)"
+FILES = r"^\| (`(?:lib|include)/[^|]*)\|[^|\n]*\|([^|\n]*)\|$"
+OTHERS = [  # what stands before and between numbers, where N is one, and what they are
+    (r"`libslh\.a` \(N KB\), `libslh_verify\.a` \(N KB\)", ["aarch64 libslh.a", "aarch64 libslh_verify.a"]),
+    (r"`lib/slh\.wasm` \(N KB\)", ["wasm64 slh.wasm"]),
+]
+IN_README = [(r"\(N KB; N KB\s+for\s+verifying\s+alone\)", ["lib/libslh.a", "lib/libslh_verify.a"])]
+SPREAD = r"`slh_keygen`\s+by\s+N,\s+`slh_sign`\s+by\s+N\s+and\s+`slh_sign_job`\s+by\s+N"
+TARGETS = ["x86-64", *LEVELS, "aarch64", "wasm64"]
+
+
+def run(*command, **more):
+    return subprocess.run([str(it) for it in command], check=True, capture_output=True, text=True, **more).stdout
+
+
+def compiler(target):
+    """The compiler of a target, what runs its programs, and how they are linked so that they run."""
+    if target == "aarch64":
+        emulator = shutil.which("qemu-aarch64") or shutil.which("qemu-aarch64-static")
+        return os.environ.get("AARCH64_CC", "aarch64-linux-gnu-gcc"), [emulator] if emulator else None, ["-static"]
+    has_level = LEVELS[target] in pathlib.Path("/proc/cpuinfo").read_text().split()
+    return os.environ.get("CC", "cc"), [] if has_level else None, []
+
+
+def code_of(size, file):
+    """The bytes of code and constants of all of a file, as `size` tells them."""
+    return sum(int(line.split()[0]) for line in run(size, file).splitlines()[1:])
+
+
+def stack_of(target, library, work):
+    """The most bytes of stack of each call over the six sets, and how much they differ."""
+    cc, runs, how = compiler(target)
+    if runs is None or not shutil.which(cc):
+        return {}
+    program = work / "stack"
+    run(cc, "-std=c99", *how, "-I", HERE / "include", "-o", program, HERE / "tools/library_stack.c", library,
+        "-pthread", "-Wl,-z,now", f"-Wl,-rpath,{library.parent}")
+    names, *rows = [line.split() for line in run(*runs, program).splitlines()[:-1]]
+    columns = zip(*[[int(it) for it in row[1:]] for row in rows])
+    return {f"slh_{CALLS.get(name, name)}": (max(it), max(it) - min(it)) for name, it in zip(names[1:], columns)}
+
+
+def growth(target, library, work):
+    """How much a program grows when slh_verify is called, linked without what is not called."""
+    sizes = []
+    for name, call in (("none", "0"), ("one", CALL)):
+        (work / f"{name}.c").write_text(
+            f"#include <slh_verify.h>\nint main(int c, char **v) {{ (void)c; (void)v; return (int){call}; }}\n")
+        run(compiler(target)[0], "-O2", "-I", HERE / "include", work / f"{name}.c", library, "-Wl,--gc-sections",
+            "-o", work / name)
+        sizes.append(code_of("size", work / name))
+    return sizes[1] - sizes[0]
+
+
+def put_stack(facts, target, library, work):
+    for name, (most, spread) in stack_of(target, library, work).items():
+        facts[f"{target} stack of {name}"] = most
+        facts[f"{target} spread of {name}"] = spread
+
+
+def libraries(target, lib):
+    """The libraries of a folder that run one level alone, by that level's target."""
+    is_alone = target in (*LEVELS, "aarch64") and not (lib / "libslh-v2.a").is_file()
+    found = {target: lib / "libslh.a"} if is_alone else {}
+    for level in LEVELS:
+        file = lib / f"libslh-{level[-2:]}.a"
+        if file.is_file():
+            found[level] = file
+    return found
+
+
+def facts_of(target, folder, work):
+    """What is measured of a target, by name."""
+    lib, facts = folder / "lib" if (folder / "lib").is_dir() else folder, {}
+    level = "x86-64-v2" if target == "x86-64" else target  # libslh_verify.a of what is installed is for this level
+    for file in sorted(it for it in folder.rglob("*") if it.is_file() and not it.is_symlink()):
+        names = [f"{level} {file.name}"] if file.parent == lib else []
+        if target in ("x86-64", "x86-64-v2"):
+            names.append(str(file.relative_to(folder)))
+        for name in names:
+            facts[name] = file.stat().st_size
+            if file.suffix == ".a":
+                facts[f"code of {name}"] = code_of("size", file)
+    if f"{level} libslh_verify.a" in facts and shutil.which(compiler(level)[0]):
+        facts[f"{level} growth"] = growth(level, lib / "libslh_verify.a", work)
+    if target == "x86-64":
+        facts |= {f"growth by {it.name}": growth(level, it, work) for it in lib.glob("libslh*.a")}
+    for one, file in libraries(level, lib).items():
+        put_stack(facts, one, file, work)
+    return facts
+
+
+def measure(pairs):
+    facts = {}
+    with tempfile.TemporaryDirectory() as work:
+        for target, folder in pairs:
+            facts |= facts_of(target, folder, pathlib.Path(work))
+    levels = [it for it in LEVELS if f"{it} stack of slh_sign" in facts]
+    if {"x86-64-v2", "x86-64-v3"} <= set(levels):
+        for name in [it.split(" of ")[1] for it in facts if it.startswith("x86-64-v2 stack of")]:
+            facts[f"stack of {name}"] = max(facts[f"{it} stack of {name}"] for it in levels)
+            facts[f"spread of {name}"] = max(facts[f"{it} spread of {name}"] for it in levels)
+    return facts
+
+
+class Page:
+    """A page whose numbers are compared, or written."""
+
+    def __init__(self, name, facts, is_written):
+        self.path, self.name, self.facts, self.is_written = HERE / name, name, facts, is_written
+        self.text, self.passed, self.failed, self.spans = self.path.read_text(), 0, 0, []
+
+    def tell(self, what, is_good):
+        self.passed, self.failed = self.passed + is_good, self.failed + (not is_good)
+        print(f"{self.name}: {what}: {'yes' if is_good else 'no'}")
+
+    def number(self, span, kind, key):
+        """Compares the number that stands at a span with a fact."""
+        if key not in self.facts:
+            print(f"{self.name}: {key}: not measured")
+            return
+        said, found = int(self.text[slice(*span)].replace(",", "")), self.facts[key]
+        is_good, written = KINDS[kind]
+        self.spans.append((span, written(found)))
+        self.tell(f"{key}: {said:,} {kind}, measured {found:,}", self.is_written or is_good(said, found))
+
+    def row(self, pattern, kinds, keys, is_needed=True):
+        """Compares the numbers of a row, each of which stands as N in its pattern."""
+        found = re.search(pattern.replace("N", NUMBER), self.text)
+        if found is None:
+            if is_needed:
+                self.tell(f"there is a row for {', '.join(keys)}", False)
+            return
+        for group, (kind, key) in enumerate(zip(kinds, keys), 1):
+            self.number(found.span(group), kind, key)
+
+    def file_rows(self):
+        """The rows that begin with files: the size of each, and where one stands alone, maybe that of its code."""
+        rows = list(re.finditer(FILES, self.text, re.M))
+        self.tell("there are rows for files", bool(rows))
+        for row in rows:
+            keys = re.findall(r"`((?:lib|include)/[\w./-]*\w)`", row[1])
+            cells = list(re.finditer(NUMBER + " KB", row[2]))
+            if "of which" in row[2] and len(keys) == 1:
+                keys.append(f"code of {keys[0]}")
+            if len(keys) != len(cells):
+                self.tell(f"each file has a size: {row[1].strip()}", False)
+                continue
+            for key, cell in zip(keys, cells):
+                self.number([row.start(2) + it for it in cell.span(1)], "KB", key)
+
+    def stack_table(self):
+        """The table whose head names calls, and which has one row of numbers."""
+        table = re.search(r"^\|( `slh_\w+` \|)+\n\|[-|]+\n(\|[^\n]*)\n", self.text, re.M)
+        if table is None:
+            self.tell("there is a table of stack", False)
+            return
+        names = re.findall(r"`(slh_\w+)`", table[0].splitlines()[0])
+        cells = list(re.finditer(NUMBER, table[2]))
+        self.tell("each call of the table of stack has a number", len(names) == len(cells) > 0)
+        for name, cell in zip(names, cells):
+            self.number([table.start(2) + it for it in cell.span()], "stack", f"stack of {name}")
+
+    def sizes_are_known(self):
+        """Each size in KB of this page is one of those that were found."""
+        known = [span[1] for span, _ in self.spans]
+        others = [it[0] for it in re.finditer(r"[\d,]+ KB", self.text) if it.start() + len(it[0]) - 3 not in known]
+        self.tell(f"no size is unknown to {pathlib.Path(__file__).name} ({', '.join(others)})", not others)
+
+    def write(self):
+        for (start, end), number in sorted(self.spans, reverse=True, key=lambda it: it[0][0]):
+            self.text = self.text[:start] + number + self.text[end:]
+        self.path.write_text(self.text)
+
+
+def library_page(page):
+    page.file_rows()
+    for pattern, keys in OTHERS:
+        page.row(pattern, ["KB"] * len(keys), keys)
+    for target in (*LEVELS, "aarch64"):
+        page.row(rf"\| {target} \| N \| N \| N \| N \|", ["bytes", "bytes", "stack", "stack"],
+                 [f"code of {target} libslh_verify.a", f"{target} growth", f"{target} stack of slh_verify",
+                  f"{target} stack of slh_hash_verify_digest"], is_needed=target != "x86-64-v4")
+    archives = ["libslh.a", *(f"libslh-{level[-2:]}.a" for level in LEVELS)]
+    page.row(r"\| all \| N \| N \| N \| N \|", ["bytes"] * 4, [f"code of lib/{it}" for it in archives])
+    page.row(r"\| `slh_verify` alone \| N \| N \| N \| N \|", ["bytes"] * 4, [f"growth by {it}" for it in archives])
+    page.stack_table()
+    page.row(SPREAD, ["thousands"] * 3, [f"spread of {it}" for it in ("slh_keygen", "slh_sign", "slh_sign_job")])
+
+
+def main(how, *pairs):
+    pairs = [it.split("=", 1) for it in pairs]
+    if how not in ("--check", "--write") or not pairs or any(len(it) != 2 or it[0] not in TARGETS for it in pairs):
+        sys.exit(__doc__)
+    facts = measure([(target, pathlib.Path(folder).resolve()) for target, folder in pairs])
+    library = Page("docs/LIBRARY.md", facts, how == "--write")
+    library_page(library)
+    readme = Page("README.md", facts, how == "--write")
+    for pattern, keys in IN_README:
+        readme.row(pattern, ["KB"] * len(keys), keys, is_needed=False)
+    if "lib/libslh.a" in facts:
+        readme.sizes_are_known()
+    if how == "--write":
+        library.write()
+        readme.write()
+    passed, failed = library.passed + readme.passed, library.failed + readme.failed
+    print(f"{passed} passed, {failed} failed")
+    return 1 if failed or not passed else 0
+
+
+if __name__ == "__main__":
+    sys.exit(main(*sys.argv[1:]) if len(sys.argv) > 1 else __doc__)
