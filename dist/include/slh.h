@@ -11,6 +11,8 @@
  *                                     to have one signature computed by threads or processes of your own
  *   slh_keygen_jobs, slh_keygen_job, slh_keygen_join
  *                                     the same for a key
+ *   slh_erase                         to overwrite seeds, keys and answers in buffers of your own
+ *   slh_level                         to ask for which level of processors the code is that runs
  *   slh_lengths, slh_refusal_name, slh_version
  *                                     lengths by a set's number, the name of a refusal, the library's version
  *
@@ -30,8 +32,13 @@
  *
  * All else is tested: any number may stand for a set, a pre-hash function or a refusal, and any length is taken.
  *
- * No call allocates memory or keeps anything between calls. Any number of threads may be in any of the calls at once.
- * Nothing is claimed of the time that a call takes, or of what it leaves on the stack.
+ * No call allocates memory or keeps anything of its arguments. Any number of threads may be in any of the calls at
+ * once. Nothing is claimed of the time that a call takes.
+ *
+ * A call that takes a secret key, seeds or answers clears before it returns what it left in the stack below its caller
+ * and in the registers that a call need not keep. This is tested (docs/LIBRARY.md, "What a call leaves"). Left to the
+ * caller are buffers of his own (slh_erase), what the frame of a signal, swap or a core dump keeps, and the stack of the
+ * module for WebAssembly.
  *
  *
  * Arguments stand in this order, as far as a call has them:
@@ -44,8 +51,9 @@
  * The seeds are SK.seed, SK.prf and PK.seed, in this order. A digest stands in place of the message.
  *
  *
- * Each call but slh_version returns SLH_DONE (0), SLH_INVALID (30, only slh_check and the verify calls), or a refusal's
- * number. What is not valid is judged in this order, and the number of the first is returned:
+ * Each call but slh_version, slh_level and slh_erase returns SLH_DONE (0), SLH_INVALID (30, only slh_check and the
+ * verify calls), or a refusal's number. What is not valid is judged in this order, and the number of the first is
+ * returned:
  *
  *   SLH_NO_SUCH_SET            the number is not a set's
  *   SLH_NO_SUCH_FUNCTION       the number is not a pre-hash function's
@@ -169,6 +177,21 @@ SLH_API
 uint32_t slh_refusal_name(uint32_t refusal, char *name, size_t name_len);
 
 /*
+ * To overwrite what is secret in a buffer of your own once it is no longer needed, as seeds, keys and answers: writes
+ * zeros into n bytes. A compiler can't leave it out, as it may leave out a memset before the end of a function.
+ */
+SLH_API
+void slh_erase(void *bytes, size_t n);
+
+/*
+ * To ask which code runs: 2, 3 or 4 for that of the level x86-64-v2, x86-64-v3 or x86-64-v4, the best that processor
+ * and system have. 0 where the library has one level alone: on ARM, and in libslh-v2.a, libslh-v3.a and libslh-v4.a.
+ * All give the same bytes.
+ */
+SLH_MUST_USE SLH_API
+uint32_t slh_level(void);
+
+/*
  * One signature, or one key, by threads of your own.
  *
  * Each XMSS tree of a signature is cut into 2^xmss_levels ranges of its leaves, and each FORS tree into 2^fors_levels.
@@ -193,11 +216,11 @@ uint32_t slh_refusal_name(uint32_t refusal, char *name, size_t name_len);
  *   compared in every tree before anything is written, and the roots that were compared are those that are signed.
  * - The root of the top tree is PK.root.
  *
- * A tag is HMAC with the hash function of the set (FIPS 205, section 11.2) under SK.prf || SK.seed || PK.seed, cut to n
- * bytes. Its text has the number of the encoding, those of the set and, for a start, PK.root, R and the digest; for a
- * node the start, the levels and the job. No two different things have one text. So a start or an answer that was made
- * under another key or set, of another R or digest, or for another cutting or job has another tag, unless two values of
- * HMAC are the same.
+ * A tag is HMAC with the hash function of the set (FIPS 205, section 11.2) under SK.prf || SK.seed || PK.seed || 1, cut
+ * to n bytes. Its text has the number of the encoding, those of the set and, for a start, PK.root, R and the digest;
+ * for a node the start (in signing), the levels, the job and the node. No two different things have one text. So a
+ * start or an answer that was made under another key or set, of another R or digest, or for another cutting or job has
+ * another tag, unless two values of HMAC are the same.
  * That none are is not proved: tests try it.
  *
  * Bytes of an answer that the signature doesn't need are not looked at.
@@ -211,8 +234,8 @@ uint32_t slh_refusal_name(uint32_t refusal, char *name, size_t name_len);
  *
  * A job tags its node itself: one that is computed wrongly inside a job, by bad memory or a bad processor, is tagged as
  * a right one is. Of 300 random bit flips inside jobs, 227 gave a signature that is wrong but valid: it verifies, and a
- * one-time key has signed a wrong value. It is so with slh_sign, too, and with any library that computes each node
- * once. Verifying before release finds few of them.
+ * one-time key has signed a wrong value. The same holds for slh_sign, and for any library that computes each node once.
+ * Verifying before release finds few of them.
  *
  * Who fears faults runs each job twice, on different processors, and compares the bytes of the two answers before
  * joining: docs/LIBRARY.md shows it. To try again after a fault in the deterministic variant is the worst case: the

@@ -14,7 +14,8 @@
  * the number is 0 the pointer may be null. All else is tested: any number may stand for a set or a function, any length
  * is taken, and the bytes may be any.
  *
- * No call allocates memory or keeps anything between calls. Any number of threads may be in any of the calls at once.
+ * No call allocates memory or keeps anything of its arguments. Any number of threads may be in any of the calls at
+ * once.
  *
  * lib/libslh_verify.a has the calls of this header alone, for firmware. slh.h has these and all others.
  */
@@ -26,10 +27,10 @@
 
 /* The version of this header: three numbers, the number that slh_version returns of the same version, and the text. */
 #define SLH_VERSION_MAJOR 0
-#define SLH_VERSION_MINOR 4
+#define SLH_VERSION_MINOR 5
 #define SLH_VERSION_PATCH 0
 #define SLH_VERSION_NUMBER (1000000 * SLH_VERSION_MAJOR + 1000 * SLH_VERSION_MINOR + SLH_VERSION_PATCH)
-#define SLH_VERSION "0.4.0"
+#define SLH_VERSION "0.5.0"
 
 /* Stands before each call whose result has to be looked at. A compiler that can warns where that is not done. */
 #if defined(__cplusplus) && __cplusplus >= 201703L
