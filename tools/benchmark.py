@@ -6,7 +6,9 @@ It builds the program slh_bench for x86-64-v2, x86-64-v3 and x86-64-v4, or for t
 over the OpenSSL there. In each turn each program has its runs of each task, one program after the other, so that all
 meet each state of the machine. A row has the least time of one run in milliseconds, by program, and its ratio to
 OpenSSL's. Afterwards it prints what one compression of sha2 takes.
-Needs `rt`. Usage: tools/benchmark.py [--turns N] [SET ..]
+It stands on what `rt ci`, or `rt check` in crates/slh_bench, has built.
+
+usage: tools/benchmark.py [--turns N] [SET ..]
        tools/benchmark.py --workers [SET ..]
 
 The folder has include/ and lib64/ or lib/, of version 3.5 or later; CC is the C compiler, or cc, and LDFLAGS has more
@@ -22,14 +24,12 @@ import argparse
 import itertools
 import os
 import shlex
-import shutil
 import subprocess
 import tempfile
 
 PREFIX = "SLH-DSA-SHA2-"
 SETS = [f"{PREFIX}{size}{kind}" for size in (128, 192, 256) for kind in "sf"]
 ROOT = os.path.dirname(os.path.dirname(os.path.abspath(__file__)))
-FOLDER = os.path.join(ROOT, "crates", "slh_bench")
 LEVELS = ["x86-64-v2", "x86-64-v3", "x86-64-v4"]
 OPENSSL = "OpenSSL"
 TURNS = 10
@@ -49,15 +49,10 @@ def levels():
 
 
 def built(level, folder):
-    """The program slh_bench for a level of processors, or for what `rt` builds by default."""
+    """The program slh_bench for a level of processors."""
     program = os.path.join(folder, f"slh_bench-{level}")
-    quiet = dict(cwd=FOLDER, check=True, stdout=subprocess.DEVNULL, stderr=subprocess.DEVNULL)
-    if level == "x86-64-v4":  # rt knows no such level
-        subprocess.run(["rt", "check"], **quiet)
-        subprocess.run([os.path.join(ROOT, "tools", "program.sh"), level, program, "slh_bench"], **quiet)
-        return program
-    subprocess.run(["rt", "run", *([f"--cpu={level}"] if level else [])], **quiet)
-    shutil.copy(os.path.join(FOLDER, "out", "slh_bench"), program)
+    words = [os.path.join(ROOT, "tools", "program.sh"), level, program, "slh_bench"]
+    subprocess.run(words, check=True, stdout=subprocess.DEVNULL, stderr=subprocess.DEVNULL)
     return program
 
 
@@ -151,7 +146,7 @@ def print_by_workers(program, parameter_set):
 def print_workers(sets):
     """Prints the table of several workers."""
     with tempfile.TemporaryDirectory() as folder:
-        program = built(os.environ.get("SLH_CPU"), folder)
+        program = built(os.environ.get("SLH_CPU", LEVELS[0]), folder)
         heads = " | ".join(f"{w} workers, ms (speed-up)" for w in WORKERS)
         print(f"| set | task | {heads} | share of independent |")
         print("|---|---|" + "---|" * (len(WORKERS) + 1))

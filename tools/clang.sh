@@ -1,26 +1,50 @@
 #!/bin/sh
-# Stands in for the kit's clang where `rattle build` compiles a proved module for processors that it has no name for: it
-# changes one word of the command line, and runs the kit's clang. `tools/kit.py toolchain` makes the folder for
-# --toolchain, in which this is bin/clang and kit/clang is the kit's.
+# Stands in for the kit's clang where `rattle build` compiles a proved module for a target: it changes two numbers of
+# the module and at most one word of the command line, and runs the kit's clang. `tools/kit.py toolchain` makes the
+# folder for --toolchain, in which this is bin/clang, kit/clang is the kit's, and the files lanes and word have:
 #
-#   for x86-64     -march=x86-64-v4 in place of -march=x86-64: AVX-512 F, BW, CD, DQ and VL
-#   for wasm64     -msimd128 behind -mcpu=lime1: vectors of 128 bits
+#   lanes   what crates/slh_width answers: two numbers of its enum Width, in place of Eight. No contract tells them
+#   word    -march=x86-64-v4 in place of -march=x86-64: AVX-512 F, BW, CD, DQ and VL
+#           -msimd128 behind -mcpu=lime1: WebAssembly's vectors of 128 bits
+#           or nothing
 #
 # The module names x86-64-v3 for its functions, and no features: so they have those of the command line. A command line
-# without the word is refused, so that nothing is compiled for another processor than the caller says. rattle clears the
-# environment, which is not read here.
+# or a module that has not what is to be changed is refused, so that nothing is compiled for another target than the
+# caller says. rattle clears the environment, which is not read here.
 set -eu
-found=no
-for word in "$@"; do # the words as they were: each is taken from the front, and put behind the last
+PATH=/usr/bin:/bin
+here=${0%/*}/..
+read -r word <"$here/word"
+refuse() {
+    echo "tools/clang.sh: $1" >&2
+    exit 2
+}
+
+# The words as they were, but for one: each is taken from the front, and put behind the last.
+found=no module= written=no target=
+for it in "$@"; do
     shift
-    case $word in
-    -march=x86-64) set -- "$@" -march=x86-64-v4 && found=yes ;;
-    -mcpu=lime1) set -- "$@" "$word" -msimd128 && found=yes ;;
-    *) set -- "$@" "$word" ;;
+    case $word$it in
+    -march=x86-64-v4-march=x86-64) set -- "$@" "$word" && found=yes ;;
+    -msimd128-mcpu=lime1) set -- "$@" "$it" "$word" && found=yes ;;
+    *module.bc) module=$it && set -- "$@" "$it.ll" ;;
+    *rewritten.ll) written=yes && set -- "$@" "$it" ;;
+    *--target=*) target=$it && set -- "$@" "$it" ;;
+    *) set -- "$@" "$it" ;;
     esac
 done
-if [ "$found" = no ]; then
-    echo "tools/clang.sh: neither -march=x86-64 nor -mcpu=lime1 is on the command line" >&2
-    exit 2
-fi
-exec "${0%/*}/../kit/clang" "$@"
+[ -z "$word" ] || [ $found = yes ] || refuse "no word on the command line that stands before $word or in its place"
+# For ARM rattle has the module compiled to text, changes that, and calls again: there the numbers are written already.
+[ $written = no ] || exec "$here/kit/clang" "$@"
+[ -n "$module" ] || refuse "no module is on the command line"
+
+# The module as text, in which the body of slh_width::build_widths stores Eight, which is 2, twice.
+"$here/kit/clang" --no-default-config $target -x ir "$module" -S -emit-llvm -O3 -Xclang -disable-llvm-passes -o "$module.as-proved"
+read -r short long <"$here/lanes"
+sed "/^define .*@\"slh_width::build_widths\"() /,/^}/ {
+    s/^  store i8 2, ptr %r1, align 1\$/  store i8 $short, ptr %r1, align 1/
+    s/^  store i8 2, ptr %r2, align 1\$/  store i8 $long, ptr %r2, align 1/
+}" "$module.as-proved" >"$module.ll"
+[ "$(sed -n '/^define .*@"slh_width::build_widths"() /,/^}/p' "$module.as-proved" | grep -c '^  store i8 2, ptr %r[12], ')" = 2 ] ||
+    refuse "slh_width::build_widths is not in the module, or not as it was"
+exec "$here/kit/clang" "$@"

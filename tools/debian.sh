@@ -174,6 +174,7 @@ make_slh_openssl() {
     install -D -m 644 "$prefix/lib/ossl-modules/slh.so" "$root/$lib/ossl-modules/slh.so"
     strip --strip-unneeded "$root/$lib/ossl-modules/slh.so"
     gzip -9n <"$here/docs/OPENSSL.md" | write usr/share/doc/slh-openssl/OPENSSL.md.gz
+    write usr/share/doc/slh-openssl/ca.cnf <"$here/examples/ca.cnf"
     build slh-openssl
 }
 

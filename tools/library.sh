@@ -11,11 +11,12 @@
 #   PREFIX/lib/libslh.so.0          libslh.a as a shared object, and libslh.so, a link to it for linkers
 #   PREFIX/lib/pkgconfig/slh.pc, slh_verify.pc     for pkg-config, with the version of the file VERSION
 #   PREFIX/lib/cmake/slh/           for find_package(slh) of CMake, with the same version
+#   PREFIX/src/slh.c, slh_verify.c  for --target portable: all calls, and those of slh_verify.h, as C for any machine
 #
 # usage: tools/library.sh [--after-ci | --dist DIST] [--target TARGET] PREFIX
 #
-# TARGET is x86-64, as without it, or aarch64 or wasm64. The archives for one level and shared objects are for x86-64
-# alone; of wasm64 there is PREFIX/lib/slh.wasm alone.
+# TARGET is x86-64, as without it, or aarch64, wasm64 or portable. The archives for one level and shared objects are for
+# x86-64 alone; of wasm64 there is PREFIX/lib/slh.wasm alone, of portable the headers, PREFIX/src and what CMake reads.
 #
 # DIST is a release, a folder as tools/release.sh writes it: what it has is installed, whatever the sources are.
 # SLH_BUILD=1 takes none of dist/. Where rt is not on the path, so that nothing can be built, the release is installed
@@ -49,6 +50,7 @@ case "$target" in
 x86-64) files=(x86-64/{libslh.a,libslh.so.0} x86-64-v{2,3,4}/libslh.a x86-64-v2/libslh_verify.a) ;;
 aarch64) files=(aarch64/{libslh.a,libslh_verify.a}) ;;
 wasm64) files=(wasm64/slh.wasm) ;;
+portable) files=(portable/{slh.c,slh_verify.c}) ;;
 *)
     echo "library.sh: no target $target" >&2
     exit 2
@@ -95,13 +97,16 @@ cmake_files() {
         >"$prefix/lib/cmake/slh/slh-config-version.cmake"
 }
 
-install -d "$1/lib"
+install -d "$1"
 prefix=$(cd "$1" && pwd)
+[ "$target" = wasm64 ] || install -D -m 644 -t "$prefix/include" "${headers[@]/#/$made/}"
 if [ "$target" = wasm64 ]; then
-    install -m 644 "$made/wasm64/slh.wasm" "$prefix/lib/"
+    install -D -m 644 -t "$prefix/lib" "$made/wasm64/slh.wasm"
+elif [ "$target" = portable ]; then
+    install -D -m 644 -t "$prefix/src" "${files[@]/#/$made/}"
+    cmake_files
 else
-    install -d "$prefix/include" "$prefix/lib/pkgconfig"
-    install -m 644 "${headers[@]/#/$made/}" "$prefix/include/"
+    install -d "$prefix/lib/pkgconfig"
     for file in "${files[@]}"; do
         name=$(basename "$file")
         case "$file" in

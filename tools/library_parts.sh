@@ -1,6 +1,6 @@
 # What the tests of the library for C on this machine and on others and those of packages share. tools/library_tests.sh,
-# tools/targets_tests.sh and tools/packages_tests.sh read it with `source`, after tools/counts.sh, with the folders
-# `here` and `work`.
+# tools/targets_tests.sh, tools/portable_tests.sh and tools/packages_tests.sh read it with `source`, after
+# tools/counts.sh, with the folders `here` and `work`.
 strict=(-Wall -Wextra -Werror -pedantic)
 
 # Whether all of these commands are there. Says of a TARGET which is not.

@@ -355,6 +355,9 @@ static void names(void) {
         {SLH_BAD_ANSWERS_LENGTH, "BadAnswersLength"},       {SLH_ANSWERS_DISAGREE, "AnswersDisagree"},
         {SLH_NO_SUCH_JOB, "NoSuchJob"},                     {SLH_BAD_START_LENGTH, "BadStartLength"},
         {SLH_BAD_START, "BadStart"},
+#ifdef SLH_PORTABLE
+        {SLH_NO_MEMORY, "NoMemory"},
+#endif
     };
     size_t found = 0;
     for (uint32_t number = 0; number < 300; number++) {

@@ -149,16 +149,20 @@ sweep "sign" -v 2400 9000 41 yes sign --key key --message message $many
 sweep "sign" -v 9000 120000 1511 yes sign --key key --message message $many
 # shellcheck disable=SC2086
 sweep "sign" -v 44600 44640 2 no sign --key key --message message $many
-# A message is verified in room for none of it, in either form.
+# A message is verified in room for none of it, in either form, and signed so in the pre-hash form.
 truncate -s 100M long_message
-for prehash in "" "--prehash SHA2-256"; do
-    verifying="verify --key public --message long_message --signature signature $prehash"
+while read -r words; do
     # shellcheck disable=SC2086
-    want $verifying
+    want $words
     # shellcheck disable=SC2086
-    came=$(under -v 9000 $verifying 2>/dev/null)
-    tell "a message of 100 MB under ulimit -v 9000: $verifying: $came" "$([ "$came" = right ] && echo yes || echo no)"
-done
+    came=$(under -v 9000 $words 2>/dev/null)
+    tell "a message of 100 MB under ulimit -v 9000: $words: $came" "$([ "$came" = right ] && echo yes || echo no)"
+done <<END
+verify --key public --message long_message --signature signature
+verify --key public --message long_message --signature signature --prehash SHA2-256
+sign --key key --message long_message --prehash SHA2-256
+sign --key key --message long_message --prehash SHA2-512 --context 00ff --workers 4 --xmss-levels 1
+END
 want vectors --file deep.json
 sweep "a deep vector file" -s 24 240 12 yes vectors --file deep.json
 sweep "a deep vector file" -v 2400 3600 6 yes vectors --file deep.json

@@ -1,6 +1,6 @@
 #!/usr/bin/env python3
-"""Compares the sizes of files and the bytes of stack that docs/LIBRARY.md and README.md tell with those of libraries,
-or writes them there.
+"""Compares the sizes of files and the bytes of stack that README.md and the pages of docs/ on the library for C tell
+with those of libraries, or writes them there.
 
 usage: tools/numbers.py --check|--write TARGET=FOLDER ..
 
@@ -45,7 +45,9 @@ OTHERS = [  # what stands before and between numbers, where N is one, and what t
 ]
 IN_README = [(r"\(N KB; N KB\s+for\s+verifying\s+alone\)", ["lib/libslh.a", "lib/libslh_verify.a"])]
 SPREAD = r"`slh_keygen`\s+by\s+N,\s+`slh_sign`\s+by\s+N\s+and\s+`slh_sign_job`\s+by\s+N"
-TARGETS = ["x86-64", *LEVELS, "aarch64", "wasm64"]
+TARGETS = ["x86-64", *LEVELS, "aarch64", "wasm64", "portable"]
+PORTABLE = ["slh.c", "slh_verify.c"]
+BOARD = ["flash", "stack", "memory"]
 
 
 def run(*command, **more):
@@ -108,8 +110,21 @@ def libraries(target, lib):
     return found
 
 
+def portable_facts(folder):
+    """The sizes of the portable C, and what tools/board.sh measures on the emulated board."""
+    files = {name: next(folder.rglob(name)) for name in PORTABLE}
+    facts = {f"portable {name}": file.stat().st_size for name, file in files.items()}
+    if all(map(shutil.which, ("arm-none-eabi-gcc", "qemu-system-arm"))):
+        headers = folder / "include" if (folder / "include").is_dir() else HERE / "include"
+        said = run(HERE / "tools/board.sh", headers, files["slh_verify.c"])
+        facts |= {f"board {name}": int(number) for name, number in re.findall(r"^(\w+): (\d+)$", said, re.M)}
+    return facts
+
+
 def facts_of(target, folder, work):
     """What is measured of a target, by name."""
+    if target == "portable":
+        return portable_facts(folder)
     lib, facts = folder / "lib" if (folder / "lib").is_dir() else folder, {}
     level = "x86-64-v2" if target == "x86-64" else target  # libslh_verify.a of what is installed is for this level
     for file in sorted(it for it in folder.rglob("*") if it.is_file() and not it.is_symlink()):
@@ -214,12 +229,11 @@ class Page:
 
 def library_page(page):
     page.file_rows()
+
+
+def machines_page(page):
     for pattern, keys in OTHERS:
         page.row(pattern, ["KB"] * len(keys), keys)
-    for target in (*LEVELS, "aarch64"):
-        page.row(rf"\| {target} \| N \| N \| N \| N \|", ["bytes", "bytes", "stack", "stack"],
-                 [f"code of {target} libslh_verify.a", f"{target} growth", f"{target} stack of slh_verify",
-                  f"{target} stack of slh_hash_verify_digest"], is_needed=target != "x86-64-v4")
     archives = ["libslh.a", *(f"libslh-{level[-2:]}.a" for level in LEVELS)]
     page.row(r"\| all \| N \| N \| N \| N \|", ["bytes"] * 4, [f"code of lib/{it}" for it in archives])
     page.row(r"\| `slh_verify` alone \| N \| N \| N \| N \|", ["bytes"] * 4, [f"growth by {it}" for it in archives])
@@ -227,22 +241,39 @@ def library_page(page):
     page.row(SPREAD, ["thousands"] * 3, [f"spread of {it}" for it in ("slh_keygen", "slh_sign", "slh_sign_job")])
 
 
+def firmware_page(page):
+    for target in (*LEVELS, "aarch64"):
+        page.row(rf"\| {target} \| N \| N \| N \| N \|", ["bytes", "bytes", "stack", "stack"],
+                 [f"code of {target} libslh_verify.a", f"{target} growth", f"{target} stack of slh_verify",
+                  f"{target} stack of slh_hash_verify_digest"], is_needed=target != "x86-64-v4")
+    page.row(r"`slh\.c` \(N KB\), `slh_verify\.c` \(N KB\)", ["KB"] * 2, [f"portable {it}" for it in PORTABLE])
+    for name in BOARD:
+        page.row(rf"\n\| {name}\b[^|\n]*\| N bytes", ["stack" if name == "stack" else "bytes"], [f"board {name}"])
+
+
+def readme_page(page):
+    for pattern, keys in IN_README:
+        page.row(pattern, ["KB"] * len(keys), keys, is_needed=False)
+    if "lib/libslh.a" in page.facts:
+        page.sizes_are_known()
+
+
+PAGES = {"docs/LIBRARY.md": library_page, "docs/MACHINES.md": machines_page, "docs/FIRMWARE.md": firmware_page,
+         "README.md": readme_page}
+
+
 def main(how, *pairs):
     pairs = [it.split("=", 1) for it in pairs]
     if how not in ("--check", "--write") or not pairs or any(len(it) != 2 or it[0] not in TARGETS for it in pairs):
         sys.exit(__doc__)
     facts = measure([(target, pathlib.Path(folder).resolve()) for target, folder in pairs])
-    library = Page("docs/LIBRARY.md", facts, how == "--write")
-    library_page(library)
-    readme = Page("README.md", facts, how == "--write")
-    for pattern, keys in IN_README:
-        readme.row(pattern, ["KB"] * len(keys), keys, is_needed=False)
-    if "lib/libslh.a" in facts:
-        readme.sizes_are_known()
-    if how == "--write":
-        library.write()
-        readme.write()
-    passed, failed = library.passed + readme.passed, library.failed + readme.failed
+    passed = failed = 0
+    for name, compare in PAGES.items():
+        page = Page(name, facts, how == "--write")
+        compare(page)
+        if how == "--write":
+            page.write()
+        passed, failed = passed + page.passed, failed + page.failed
     print(f"{passed} passed, {failed} failed")
     return 1 if failed or not passed else 0
 

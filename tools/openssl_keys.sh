@@ -1,6 +1,6 @@
 #!/usr/bin/env bash
 # Holds the program `slh` against the command `openssl` of version 3.5 or later, over keys that go from one to the other
-# by the lines of docs/LIBRARY.md, "Keys to and from OpenSSL". For each of the six sets: a key that OpenSSL made is
+# by the lines of docs/OPENSSL.md, "Keys to and from OpenSSL". For each of the six sets: a key that OpenSSL made is
 # consistent and has the public key that OpenSSL says, and comes back as the same PEM; a key that `slh` made is one to
 # OpenSSL, with the public key that `slh` says; in both directions a deterministic signature is the same bytes by both,
 # a randomized one is valid, and a signature of another message is not. It also runs the commands of docs/QUESTIONS.md
@@ -24,9 +24,9 @@ source "$here/tools/library_parts.sh"
 openssl=${OPENSSL:-$(PATH=$PATH:/usr/local/bin command -v openssl-3.5 || echo openssl)}
 
 # What stands in DER before the 4n bytes of a private key and before the 2n bytes of a public key, from the table of
-# docs/LIBRARY.md.
+# docs/OPENSSL.md.
 prefixes() {
-    sed -n '/^## Keys to and from OpenSSL/,/^## /p' "$here/docs/LIBRARY.md" |
+    sed -n '/^## Keys to and from OpenSSL/,/^## /p' "$here/docs/OPENSSL.md" |
         awk -F'[|` ]+' -v set="$1" '$2 == set { print $3, $4 }'
 }
 

@@ -3,14 +3,15 @@
 # libraries that `rt ci`, or `rt check` in its crate, has built: nobody looks whether a source has changed since. The
 # kit's own linker makes it, with the kit's own files of the C library.
 #
-# usage: tools/program.sh LEVEL FILE [CRATE]      LEVEL is x86-64-v2, x86-64-v3 or x86-64-v4
+# usage: tools/program.sh LEVEL FILE [CRATE [LANES]]      LEVEL is x86-64-v2, x86-64-v3 or x86-64-v4; LANES is a name of
+#                                                         tools/kit.py, in place of the level's own
 #
 # rattle knows no x86-64-v4: it makes the module for x86-64-v3, which tools/clang.sh has compiled for x86-64-v4. That
 # program looks for x86-64-v3 alone when it starts: who runs it has to look for the rest.
 set -euo pipefail
 here=$(cd "$(dirname "${BASH_SOURCE[0]}")/.." && pwd)
-if [ $# -lt 2 ] || [ $# -gt 3 ] || [[ $1 != x86-64-v[234] ]]; then
-    echo "usage: tools/program.sh LEVEL FILE [CRATE]" >&2
+if [ $# -lt 2 ] || [ $# -gt 4 ] || [[ $1 != x86-64-v[234] ]]; then
+    echo "usage: tools/program.sh LEVEL FILE [CRATE [LANES]]" >&2
     exit 2
 fi
 crate=${3:-slh}
@@ -18,12 +19,10 @@ work=$(mktemp -d)
 trap 'rm -rf "$work"' EXIT
 kit() { "$here/tools/kit.py" path "$1"; }
 
-level=$1 toolchain=()
-if [ "$1" = x86-64-v4 ]; then
-    level=x86-64-v3 toolchain=("$work/toolchain")
-    "$here/tools/kit.py" toolchain "${toolchain[0]}"
-fi
-mapfile -t build < <("$here/tools/kit.py" build "$crate" ${toolchain[@]+"${toolchain[@]}"})
+level=$1 toolchain=$work/toolchain
+[ "$1" != x86-64-v4 ] || level=x86-64-v3
+"$here/tools/kit.py" toolchain "$toolchain" "$1" "${4:-$1}"
+mapfile -t build < <("$here/tools/kit.py" build "$crate" "$toolchain")
 mkdir -p "$here/crates/$crate/out/incremental"
 (cd "$here/crates/$crate" && "${build[@]}" --incremental out/incremental --jobs "$(nproc)" --cpu "$level" \
     -o "$work/slh.o") >&2

@@ -297,7 +297,8 @@ is_chosen_by_configuration() {
 # Named first, it needs no query. Named behind the default provider, and without one, it is never called.
 is_chosen_by_order() {
     local added=()
-    block_of "Three ways to choose it" 3 >"$work/order.cnf" &&
+    block_of "Three ways to choose it" 2 | sed '/alg_section/d; /^\[algorithms/d; /^default_properties/d; /^default = /d
+        s/^slh = .*/&\ndefault = default_section/' >"$work/order.cnf" &&
         signs_known 1 env OPENSSL_CONF="$work/order.cnf" "$openssl" || return
     added=(-provider-path "$modules" -provider slh -provider default)
     signs_known 1 "$openssl" || return
@@ -338,12 +339,12 @@ configuration_is_checked() {
 # The lines of the issuing CA as they stand; what they made is judged by an unchanged OpenSSL.
 issues_as_the_page_says() {
     block_of "Three ways to choose it" 2 >"$work/slh.cnf" && rm -rf "$work/page" && mkdir "$work/page" &&
-        block_of "An issuing CA in ten lines" 1 >"$work/page/ca.cnf" && : >"$work/calls" &&
+        cp "$here/examples/ca.cnf" "$work/page/ca.cnf" && : >"$work/calls" &&
         echo "Dear reader," >"$work/page/letter.txt" &&
-        LD_PRELOAD="$work/calls.so" SLH_CALLS="$work/calls" run_lines "$(block_of "An issuing CA in ten lines" 2)" &&
+        LD_PRELOAD="$work/calls.so" SLH_CALLS="$work/calls" run_lines "$(block_of "An issuing CA in ten lines" 1)" &&
         [ "$(counted keys) $(counted signatures)" = "2 5" ] || return
     : >"$work/calls"
-    LD_PRELOAD="$work/calls.so" SLH_CALLS="$work/calls" run_lines "$(block_of "An issuing CA in ten lines" 3)" &&
+    LD_PRELOAD="$work/calls.so" SLH_CALLS="$work/calls" run_lines "$(block_of "An issuing CA in ten lines" 2)" &&
         [ "$(counted verdicts)" = 0 ] && cmp "$work/page/letter.txt" "$work/page/read.txt"
 }
 

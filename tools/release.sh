@@ -5,9 +5,10 @@
 #   dist/x86-64-v2/, -v3/, -v4/   the program slh, libslh.a and libslh_verify.a
 #   dist/aarch64/                 libslh.a and libslh_verify.a
 #   dist/wasm64/                  slh.wasm
+#   dist/portable/                slh.c and slh_verify.c
 #   dist/include/                 the headers
 #   dist/BUILD                    the version, the hash of the sources (tools/sources.sh), the kit, and the hashes of
-#                                 what compiles: its files, and tools/clang.sh, for x86-64-v4 and wasm64
+#                                 what compiles: its files, tools/clang.sh, for x86-64-v4 and wasm64, and wasm2c
 #   dist/SHA256SUMS               the hashes of all these files
 #
 # usage: tools/release.sh [--after-ci] VERSION     VERSION is that of the file VERSION, and nothing is uncommitted
@@ -42,6 +43,7 @@ kit_lines() {
         echo "$file $(sha256sum <"$("$here/tools/kit.py" path "$file")" | cut -d ' ' -f 1)"
     done
     echo "tools/clang.sh $(sha256sum <"$here/tools/clang.sh" | cut -d ' ' -f 1)"
+    echo "wabt/wasm2c $(sha256sum <"$("$here/tools/portable.py" wasm2c)" | cut -d ' ' -f 1)"
 }
 
 # Builds all into a folder.
@@ -51,7 +53,7 @@ build() {
         (cd "$here/crates/slh" && rt check) >&2
         (cd "$here/crates/slh_c" && rt check) >&2
     fi
-    for target in x86-64 aarch64 wasm64; do
+    for target in x86-64 aarch64 wasm64 portable; do
         "$here/tools/target.sh" "$target" "$1"
     done
     for level in x86-64-v2 x86-64-v3 x86-64-v4; do
@@ -86,7 +88,7 @@ write() {
 write_numbers() {
     local folder targets=()
     "$here/tools/library.sh" "$work/prefix" >&2
-    for folder in "$here"/dist/*-v? "$here"/dist/{aarch64,wasm64}; do
+    for folder in "$here"/dist/*-v? "$here"/dist/{aarch64,wasm64,portable}; do
         targets+=("${folder##*/}=$folder")
     done
     "$here/tools/numbers.py" --write "x86-64=$work/prefix" "${targets[@]}" >&2

@@ -42,7 +42,8 @@ stubbed() {
     without_rt=$stub:/usr/bin:/bin bare "$@"
 }
 
-# README's commands as they stand there, and those of LIBRARY, whose C programs then sign a file and verify an image.
+# README's commands as they stand there, and those of LIBRARY and FIRMWARE, whose C programs then sign a file and
+# verify an image.
 signs_and_links() {
     cat <<'END'
 set -e
@@ -106,8 +107,8 @@ signs_in_another_root() {
 }
 
 # The scripts that the test command runs over a release.
-scripts=(commands.py library_tests.sh targets_tests.sh packages_tests.sh release_tests.sh provider_tests.sh vectors.sh
-    interchange.py streams.sh each_growth.sh limits.sh debian_tests.sh web_tests.py archive_tests.py openssl_keys.sh)
+scripts=(commands.py library_tests.sh targets_tests.sh portable_tests.sh packages_tests.sh release_tests.sh
+    provider_tests.sh vectors.sh interchange.py streams.sh each_growth.sh limits.sh debian_tests.sh web_tests.py archive_tests.py openssl_keys.sh)
 
 # The test command, briefly, as somebody runs it in a clone who has no kit: nothing fails, and each script was run.
 tests_in_another_root() {
@@ -158,9 +159,9 @@ test_command_names_what_is_skipped() {
     local it
     copy_anew && stub_scripts 0 "4 passed, 0 failed" && echo '// changed' >>"$copy/crates/slh_core/src/lib.rt" || return
     bare tools/test.sh && head -n 1 "$work/out" | grep 'the sources are NOT those that it was built of' || return
-    tail -n 1 "$work/out" | grep '^[1-9][0-9]* passed, 0 failed, 6 skipped$' || return
-    diff <(tail -n 7 "$work/out" | head -n 6) <(printf 'tools/%s: SKIPPED, since the sources are not those of dist/\n' \
-        commands.py library_tests.sh targets_tests.sh packages_tests.sh release_tests.sh provider_tests.sh) || return
+    tail -n 1 "$work/out" | grep '^[1-9][0-9]* passed, 0 failed, 7 skipped$' || return
+    diff <(tail -n 8 "$work/out" | head -n 7) <(printf 'tools/%s: SKIPPED, since the sources are not those of dist/\n' \
+        commands.py {library,targets,portable,packages,release,provider}_tests.sh) || return
     [ "$(grep -c -e --dist "$copy/called")" = 9 ] && ! grep -e commands -e library -e packages "$copy/called"
 }
 
@@ -246,6 +247,7 @@ other_targets_are_installed() {
     copy_anew
     bare tools/library.sh --target aarch64 arm && cmp "$copy/arm/lib/libslh.a" "$work/made/aarch64/libslh.a" &&
         bare tools/library.sh --target wasm64 wasm && cmp "$copy/wasm/lib/slh.wasm" "$work/made/wasm64/slh.wasm" &&
+        bare tools/library.sh --target portable c && cmp "$copy/c/src/slh.c" "$work/made/portable/slh.c" &&
         refuses "library.sh: no target mips" tools/library.sh --target mips it
 }
 

@@ -11,8 +11,9 @@
 #   tools/archive_tests.py    dask.distributed
 #   tools/web_tests.py        Chromium, and rsvg-convert, which draws a picture as pixels
 #   tools/openssl_keys.sh     OpenSSL 3.5 of Debian 13 in FOLDER/openssl-3.5, with headers: the command is `openssl-3.5`
-#   for C programs            valgrind, clang, compilers for 32-bit ARM, RISC-V, s390x, Windows and boards without a
-#                             system, emulators of them, and wine
+#   tools/portable_tests.sh   clang, compilers for 32-bit ARM, RISC-V, s390x, Windows and boards without a system,
+#                             emulators of them, and wine
+#   for C programs            valgrind
 #   for WebAssembly as C      wasm2c of WABT 1.0.36 of Debian 13 in FOLDER/wabt: the command is `wasm2c-1.0.36`
 #
 # FOLDER is /usr/local/lib without it. The commands are links or scripts in /usr/local/bin. Rust and CMake are not

@@ -1,7 +1,7 @@
 #!/usr/bin/env bash
 # Prints the SHA-256 of all that the program and the library for C are made of: the crates `slh`, `slh_c` and those below
 # them, with their lines of crates.txt, their sources, definitions and proofs, and without tests; the C round the
-# exports, and the headers; HANDLES and VERSION; and the scripts that build. It needs no kit.
+# exports and that of the portable C, and the headers; HANDLES and VERSION; and the scripts that build. It needs no kit.
 #
 # usage: tools/sources.sh
 set -euo pipefail
@@ -28,7 +28,8 @@ mapfile -t crates < <(lines | sed 's/[: ].*//')
 {
     lines
     {
-        find HANDLES VERSION exports include tools/{clang.sh,kit.py,program.sh,target.sh} -type f -print0
+        find HANDLES VERSION exports include portable tools/{clang.sh,kit.py,portable.py,program.sh,target.sh} \
+            -type f -print0
         find "${crates[@]/#/crates/}" -path '*/out' -prune -o -path '*/tests/*' -o -name 'tests.*' \
             -o \( -path '*/src/*' -o -path '*/specs/*' -o -path '*/proofs/*' \) -type f -print0
     } | sort -z | xargs -0 sha256sum

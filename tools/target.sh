@@ -9,12 +9,17 @@
 #   x86-64-v2, x86-64-v3, x86-64-v4   libslh.a and libslh_verify.a for processors of this level
 #   aarch64                           libslh.a and libslh_verify.a: ELF for 64-bit ARM
 #   wasm64                            slh.wasm: a WebAssembly module with a 64-bit memory and vectors of 128 bits
+#   portable                          slh.c and slh_verify.c: such a module with one lane and no vectors as C, written
+#                                     by tools/portable.py
 #
-# rattle knows no x86-64-v4, and no vectors of WebAssembly: tools/clang.sh has its module compiled for these.
+# rattle knows no x86-64-v4, and no vectors of WebAssembly: tools/clang.sh has its module compiled for these. And it
+# writes into the module how many lanes a vector of the target has, which the proved code asks crates/slh_width: what is
+# proved holds for each answer (docs/DECISIONS.md). tools/kit.py has the numbers.
 #
 # libslh.a is the proved object with the C of exports/ round it: exports.c says what that does. libslh_verify.a has the
-# calls of include/slh_verify.h alone, cut out of the proved object. The kit's own compiler, linker and archiver make
-# all of it, so that no file of this machine is in the result.
+# calls of include/slh_verify.h alone, cut out of the proved object, and for x86-64-v2 and aarch64, where it is for
+# firmware, out of one with one lane, which is smaller. The kit's own compiler, linker and archiver make all of it, so
+# that no file of this machine is in the result.
 set -euo pipefail
 here=$(cd "$(dirname "${BASH_SOURCE[0]}")/.." && pwd)
 verify_calls=(slh_verify slh_hash_verify slh_hash_verify_digest slh_version)
@@ -25,7 +30,7 @@ fi
 case "$1" in
 x86-64 | x86-64-v[234]) triple=x86_64-unknown-linux-gnu ;;
 aarch64) triple=aarch64-unknown-linux-gnu ;;
-wasm64) triple=wasm64-unknown-unknown ;;
+wasm64 | portable) triple=wasm64-unknown-unknown ;;
 *)
     echo "tools/target.sh: no target $1" >&2
     exit 2
@@ -40,29 +45,32 @@ kit() { "$here/tools/kit.py" path "$1"; }
 linker=$(kit toolchain/bin/ld.lld) archiver=$(kit toolchain/bin/llvm-ar) llvm=$(kit toolchain/bin/clang)
 objcopy() { (exec -a llvm-objcopy "$llvm" "$@"); }
 
-# Compiles the proved exports for a TARGET to an archive FILE.
+# Compiles the proved exports for a TARGET to an archive FILE, with the lanes of LANES, a name of tools/kit.py.
 proved_archive() {
-    local target=$1 file=$2 toolchain=() cpu=() build
-    case "$target" in
-    x86-64-v4 | wasm64)
-        toolchain=("$work/toolchain")
-        "$here/tools/kit.py" toolchain "${toolchain[0]}"
-        ;;
-    esac
+    local target=$1 lanes=$2 file=$3 toolchain=$work/toolchain-$1-$2 cpu=() build
     case "$target" in
     x86-64-v4) cpu=(--cpu x86-64-v3) ;;
     x86-64-*) cpu=(--cpu "$target") ;;
     esac
-    mapfile -t build < <("$here/tools/kit.py" build slh_c ${toolchain[@]+"${toolchain[@]}"})
+    "$here/tools/kit.py" toolchain "$toolchain" "$target" "$lanes"
+    mapfile -t build < <("$here/tools/kit.py" build slh_c "$toolchain")
     mkdir -p "$here/crates/slh_c/out/incremental"
     (cd "$here/crates/slh_c" && "${build[@]}" --incremental out/incremental --jobs "$(nproc)" --target "$triple" \
         ${cpu[@]+"${cpu[@]}"} -o "$file") >&2
 }
 
-# Makes the proved object of a TARGET: $work/TARGET.o.
+# Links the proved exports for a TARGET, with the lanes of LANES, to a WebAssembly module FILE.
+proved_module() {
+    proved_archive "$1" "$2" "$work/libslh.a"
+    mkdir -p "$(dirname "$3")"
+    "$(kit bin/rattle-link)" --target "$triple" --toolchain "$(kit toolchain)" -o "$3" "$work/libslh.a" >&2
+}
+
+# Makes the proved object of a TARGET with the lanes of LANES: $work/NAME.o.
 proved_object() {
-    proved_archive "$1" "$work/$1.a"
-    (cd "$work" && "$archiver" x "$1.a" && mv slh_c.o "$1.o")
+    local target=$1 lanes=$2 name=$3
+    proved_archive "$target" "$lanes" "$work/$name.a"
+    (cd "$work" && "$archiver" x "$name.a" && mv slh_c.o "$name.o")
 }
 
 # Compiles a file of exports/ to an object of FOLDER, with these words for the compiler. Paths are relative, so that
@@ -107,15 +115,19 @@ archive() {
     "$archiver" rcsD "$folder/$1" "$2"
 }
 
-# Makes the libraries of a TARGET that has one level, of its proved object.
+# Makes the libraries of a TARGET that has one level.
 one_level() {
-    local target=$1
+    local target=$1 verify=$1
+    proved_object "$target" "$target" "$target"
     mkdir "$work/$target"
     rename_in "$target" SECRET proved "$work/$target"
     put_exports_round "$target" "$work/$target" -DSLH_DEPTHS="\"depths/$target.h\""
+    case "$target" in
+    x86-64-v2 | aarch64) verify=$target-firmware && proved_object "$target" 1 "$verify" ;;
+    esac
     # The linker keeps what these calls reach, and so drops the other calls.
     "$linker" -r --gc-sections --discard-all "${verify_calls[@]/#/--undefined=}" -o "$work/slh_verify.o" \
-        "$work/$target.o"
+        "$work/$verify.o"
     archive "$target/libslh_verify.a" "$work/slh_verify.o"
 }
 
@@ -123,7 +135,6 @@ all_levels() {
     local level
     mkdir "$work/x86-64"
     for level in v2 v3 v4; do
-        proved_object "x86-64-$level"
         one_level "x86-64-$level"
         rename_in "x86-64-$level" 'SECRET|OPEN' "$level" "$work/x86-64"
     done
@@ -135,14 +146,10 @@ all_levels() {
 
 case "$1" in
 x86-64) all_levels ;;
-wasm64)
-    proved_archive wasm64 "$work/libslh.a"
-    mkdir -p "$folder/wasm64"
-    "$(kit bin/rattle-link)" --target "$triple" --toolchain "$(kit toolchain)" -o "$folder/wasm64/slh.wasm" \
-        "$work/libslh.a" >&2
+wasm64) proved_module wasm64 wasm64 "$folder/wasm64/slh.wasm" ;;
+portable)
+    proved_module 1 1 "$work/slh.wasm"
+    "$here/tools/portable.py" "$work/slh.wasm" "$folder/portable"
     ;;
-*)
-    proved_object "$1"
-    one_level "$1"
-    ;;
+*) one_level "$1" ;;
 esac

@@ -3,10 +3,10 @@
 # more wrong bodies, whether docs/CONTRACTS.md is what the sources say, the library against the tables of known values,
 # and then the program that `rt ci` has built, over tables of command lines, over the vectors of other implementations,
 # over pipes and broken streams, with each growth of memory refused, and with little stack and address space; and the
-# library for C, on this machine and under emulators of others, and as a release hands it out, with the packages that
-# are made of it. The last line has the counts of all, and the status is 0 where nothing failed. Before it stand the
-# processor minutes of each part, and what was skipped; a part that took more than docs/CONTRIBUTING.md grants it is
-# told, and is no failure.
+# library for C, on this machine, under emulators of others and as portable C, and as a release hands it out, with the
+# packages that are made of it. The last line has the counts of all, and the status is 0 where nothing failed. Before it
+# stand the processor minutes of each part, and what was skipped; a part that took more than docs/CONTRIBUTING.md grants
+# it is told, and is no failure.
 #
 # usage: tools/test.sh                     all of it, where rt is on the path; else as with --release
 #        tools/test.sh --release [--few]   all scripts over the release in dist/, which needs no rt; --few: a few tests
@@ -74,11 +74,11 @@ tell_release() {
 # new calls are missing there, and what changed differs.
 test_release() {
     local it others
-    local scripts=(commands.py library_tests.sh targets_tests.sh packages_tests.sh release_tests.sh provider_tests.sh
-        vectors.sh interchange.py streams.sh each_growth.sh limits.sh debian_tests.sh web_tests.py archive_tests.py
-        openssl_keys.sh)
+    local scripts=(commands.py library_tests.sh targets_tests.sh portable_tests.sh packages_tests.sh release_tests.sh
+        provider_tests.sh vectors.sh interchange.py streams.sh each_growth.sh limits.sh debian_tests.sh web_tests.py
+        archive_tests.py openssl_keys.sh)
     for it in "${scripts[@]}"; do
-        if [ $same = no ] && [[ " ${scripts[*]:0:6} " == *" $it "* ]]; then
+        if [ $same = no ] && [[ " ${scripts[*]:0:7} " == *" $it "* ]]; then
             skip "tools/$it" "the sources are not those of dist/"
             names+=("tools/$it: SKIPPED, since the sources are not those of dist/")
         else
@@ -115,6 +115,7 @@ if [[ $* == --release* ]]; then
     test_release "${@:2}"
 else
     [ $# != 0 ] || part tools/tables.sh
+    [ $# != 0 ] || part tools/widths_tests.sh
     part tools/commands.py
     part tools/vectors.sh
     part tools/interchange.py
@@ -123,6 +124,7 @@ else
     part tools/limits.sh
     [ $# != 0 ] || part tools/library_tests.sh --after-ci
     [ $# != 0 ] || part tools/targets_tests.sh
+    [ $# != 0 ] || part tools/portable_tests.sh
     [ $# != 0 ] || part tools/release_tests.sh
 fi
 seconds

@@ -4,6 +4,7 @@
 #   slh::slh      all calls, as an archive
 #   slh::shared   all calls, as a shared object, where one is installed
 #   slh::verify   the calls of slh_verify.h alone, as an archive, for firmware
+#   slh::portable all calls as portable C, which is compiled with the program, where tools/library.sh has put that
 cmake_minimum_required(VERSION 3.13)
 
 get_filename_component(_slh_lib "${CMAKE_CURRENT_LIST_DIR}/../.." REALPATH)
@@ -32,6 +33,14 @@ if(TARGET slh::shared)
     set_target_properties(slh::shared PROPERTIES IMPORTED_SONAME libslh.so.0)
 endif()
 
+set(_slh_source "${_slh_lib}/../src/slh.c")
+if(EXISTS "${_slh_source}" AND NOT TARGET slh::portable)
+    add_library(slh_portable STATIC EXCLUDE_FROM_ALL "${_slh_source}")
+    target_include_directories(slh_portable PUBLIC "${_slh_include}")
+    set_target_properties(slh_portable PROPERTIES C_STANDARD 11 POSITION_INDEPENDENT_CODE ON)
+    add_library(slh::portable ALIAS slh_portable)
+endif()
+
 # A component is a target's name: find_package(slh COMPONENTS shared).
 set(slh_FOUND TRUE)
 foreach(_slh_name IN LISTS slh_FIND_COMPONENTS)
@@ -46,5 +55,6 @@ foreach(_slh_name IN LISTS slh_FIND_COMPONENTS)
     endif()
 endforeach()
 unset(_slh_name)
+unset(_slh_source)
 unset(_slh_include)
 unset(_slh_lib)

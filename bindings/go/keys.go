@@ -29,7 +29,7 @@ type Options struct {
 	Workers int
 	// Twice has each job of a signature done two times, by the workers or, without them, by one goroutine. Where the
 	// answers differ nothing is signed: ErrFault. A digest is signed two times, and the signatures are compared. This
-	// is for who fears faults, by bad memory or a bad processor (docs/LIBRARY.md, "Faults"). Verifying does not look at
+	// is for who fears faults, by bad memory or a bad processor (docs/JOBS.md, "Faults"). Verifying does not look at
 	// it.
 	Twice bool
 }

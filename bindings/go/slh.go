@@ -18,10 +18,10 @@
 // call returns. Slices that a caller hands in, and those of SecretKey.Bytes, are the caller's.
 //
 // The compiler and the linker have to find libslh.a: CGO_CFLAGS=-IPREFIX/include and CGO_LDFLAGS=-LPREFIX/lib, where
-// PREFIX is the absolute path of the folder that tools/library.sh has installed into.
+// PREFIX is the absolute path of the folder that tools/library.sh has installed into. With the tag portable the compiler
+// takes the portable C of tools/library.sh --target portable: CGO_CFLAGS="-IPREFIX/include -IPREFIX/src".
 package slh
 
-// #cgo LDFLAGS: -l:libslh.a
 // #include "library.h"
 import "C"
 

@@ -4,7 +4,8 @@
     SLH_PREFIX=PREFIX python3 bindings/python/build_wheel.py FOLDER
 
 PREFIX is the absolute path of a folder that tools/library.sh has installed into. The same files give the same wheel,
-bit for bit.
+bit for bit. Where there is no shared object, as `tools/library.sh --target portable` leaves it, one is made of the
+portable C, by the compiler that CC names, or cc: the wheel is then for this kind of machine.
 """
 
 from __future__ import annotations
@@ -14,7 +15,10 @@ import hashlib
 import os
 import pathlib
 import re
+import subprocess
 import sys
+import sysconfig
+import tempfile
 import zipfile
 
 HERE = pathlib.Path(__file__).resolve().parent
@@ -60,15 +64,36 @@ def installed_version(prefix: pathlib.Path) -> str:
     return wanted
 
 
-def contents(prefix: pathlib.Path, version: str) -> dict[str, bytes]:
+def compiled(prefix: pathlib.Path) -> bytes:
+    """The portable C as a shared object."""
+    source = prefix / "src" / "slh.c"
+    if not source.is_file():
+        sys.exit(f"build_wheel.py: there is neither lib/libslh.so.0 nor src/slh.c in {prefix}")
+    with tempfile.TemporaryDirectory() as folder:
+        file = pathlib.Path(folder) / "libslh.so.0"
+        words = [os.environ.get("CC", "cc"), "-std=c11", "-O2", "-shared"]
+        words += [] if os.name == "nt" else ["-fPIC"]
+        subprocess.run([*words, "-I", prefix / "include", source, "-o", file], check=True, stdout=sys.stderr)
+        return file.read_bytes()
+
+
+def shared_object(prefix: pathlib.Path) -> tuple[bytes, str]:
+    """The shared object, and the tag of the machines that it is for."""
+    installed = prefix / "lib" / "libslh.so.0"
+    if installed.is_file():
+        return installed.read_bytes(), TAG
+    return compiled(prefix), "py3-none-" + re.sub(r"[-.]", "_", sysconfig.get_platform())
+
+
+def contents(library: bytes, tag: str, version: str) -> dict[str, bytes]:
     """What stands in the wheel, but for its list of files."""
     info = f"slh-{version}.dist-info"
     files = {f"slh/{name}": (HERE / "slh" / name).read_bytes() for name in ("__init__.py", "py.typed")}
-    files["slh/libslh.so.0"] = (prefix / "lib" / "libslh.so.0").read_bytes()
+    files["slh/libslh.so.0"] = library
     for name in ("LICENSE-APACHE", "LICENSE-MIT"):
         files[f"{info}/{name}"] = (REPOSITORY / name).read_bytes()
     files[f"{info}/METADATA"] = METADATA.format(version=version).encode()
-    files[f"{info}/WHEEL"] = WHEEL.format(tag=TAG).encode()
+    files[f"{info}/WHEEL"] = WHEEL.format(tag=tag).encode()
     return files
 
 
@@ -89,10 +114,11 @@ def build_wheel(
     """Writes the wheel into a folder, and returns its name."""
     prefix = installed_prefix()
     version = installed_version(prefix)
-    files = contents(prefix, version)
+    library, tag = shared_object(prefix)
+    files = contents(library, tag, version)
     path = f"slh-{version}.dist-info/RECORD"
     files[path] = record(path, files)
-    name = f"slh-{version}-{TAG}.whl"
+    name = f"slh-{version}-{tag}.whl"
     with zipfile.ZipFile(pathlib.Path(wheel_directory) / name, "w", zipfile.ZIP_DEFLATED) as wheel:
         for file, data in files.items():
             entry = zipfile.ZipInfo(file, date_time=(1980, 1, 1, 0, 0, 0))

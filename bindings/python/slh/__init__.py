@@ -492,13 +492,13 @@ class Signer:
         with slh.Signer(workers=4) as signer:
             signature = signer.sign(secret, message)
 
-    A signature is cut into jobs (docs/LIBRARY.md, "Signing with threads of your own"), which the workers do. With the
+    A signature is cut into jobs (docs/JOBS.md, "Signing with threads of your own"), which the workers do. With the
     same randomizer, or with none, it is byte for byte the one that `SecretKey` makes. A secret key that `check` finds
     invalid is refused as AnswersDisagree, where `SecretKey` makes a signature that is not valid. Digests are signed by
     `SecretKey.hash_sign_digest` alone. Any number of threads may sign by one Signer at once.
 
     With `twice` each job runs two times, and Fault is raised unless both runs gave the same bytes: then nothing is
-    signed. This is for who fears faults, by bad memory or a bad processor (docs/LIBRARY.md, "Faults").
+    signed. This is for who fears faults, by bad memory or a bad processor (docs/JOBS.md, "Faults").
     """
 
     def __init__(self, workers: int, *, twice: bool = False) -> None:

@@ -45,7 +45,7 @@ impl Form {
         match self {
             Form::Pure => FormattedMessage::of_message(msg, ctx),
             Form::PreHash(function) => {
-                FormattedMessage::of_digest(pre_hash_digest(msg, function), ctx)
+                FormattedMessage::of_digest(&pre_hash_digest(msg, function), ctx)
             }
         }
     }

@@ -26,7 +26,7 @@ pub(crate) fn pure_head(ctx: &[u8]) -> Option<[u8; 2]>
     head_of(0, ctx)
 }
 
-/// M' under a context of at most 255 bytes. Neither message nor context is copied.
+/// M' under a context of at most 255 bytes. Neither message nor context is copied; a digest is.
 #[derive(Drop)]
 pub struct FormattedMessage<'a> {
     head: [u8; 2],
@@ -58,13 +58,13 @@ impl<'a> FormattedMessage<'a> {
     /// M' in the pre-hash form, of a digest: 1 and the length of the context, the context, the function's object
     /// identifier and the digest (Algorithm 23). `None` for a context of over 255 bytes.
     #[tactic(auto, unfolding(crate::specs::Messages::bytes_of))]
-    pub(crate) fn of_digest(digest: MessageDigest, ctx: &'a [u8]) -> Option<FormattedMessage<'a>>
+    pub fn of_digest(digest: &MessageDigest, ctx: &'a [u8]) -> Option<FormattedMessage<'a>>
         ensures accepted { IsSome result ↔ (length ctx.now ≤ 255) }
         ensures bytes { IfSome result (λ message. bytes_of message
-            ≡ pre_hash_message ctx.now digest.function digest.bytes) }
+            ≡ pre_hash_message ctx.now digest.now.function digest.now.bytes) }
     {
         let head = head_of(1, ctx)?;
-        let content = Content::Digest(digest.function().oid(), digest);
+        let content = Content::Digest(digest.function().oid(), digest.copy());
         Some(FormattedMessage { head, ctx, content })
     }
 

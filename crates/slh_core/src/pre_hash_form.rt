@@ -39,7 +39,7 @@ pub fn hash_sign_digest(
     ensures authentic { OnOk result (IsGeneratedKey sk.now
         → IsValid (public_of sk.now) (pre_hash_message ctx.now digest.now.function digest.now.bytes) out.new) }
 {
-    let Some(message) = FormattedMessage::of_digest(digest.copy(), ctx) else {
+    let Some(message) = FormattedMessage::of_digest(digest, ctx) else {
         return Err(SignFault::ContextTooLong);
     };
     sign_internal(&message.parts(), sk, randomizer, out);
@@ -84,7 +84,7 @@ pub fn hash_verify_digest(digest: &MessageDigest, ctx: &[u8], sig: &[u8], pk: &P
     ensures { IsTrue result ↔ ((length ctx.now ≤ 255)
         × IsValid pk.now (pre_hash_message ctx.now digest.now.function digest.now.bytes) sig.now) }
 {
-    match FormattedMessage::of_digest(digest.copy(), ctx) {
+    match FormattedMessage::of_digest(digest, ctx) {
         Some(message) => verify_internal(&message.parts(), sig, pk),
         None => false,
     }

@@ -1,17 +1,19 @@
 -- Eight keys beside one another: the one among them, and that T over the ends of their chains is what they are.
-use Rattle.std.proofs.Common.{◌≡◌, ℕ, ◌+◌, ◌-◌, ◌%◌, ◌^◌, ◌<◌, List, length, slice_index_or, ap, subst, sym, ◌∙◌, arith}
+use Rattle.std.proofs.Common.{◌≡◌, ℕ, ◌+◌, ◌-◌, ◌%◌, ◌^◌, ◌<◌, List, [], ◌++◌, length, slice_index_or, ap, ap₂, subst, sym, ◌∙◌, arith}
 use Rattle.arrayvec.specs.ArrayVec.{ArrayVec}
 use Rattle.slh_params.specs.Address.{Address, WOTS_PK}
 use Rattle.slh_params.specs.Params.{Params, len}
 use Rattle.slh_params.specs.ParamSet.{params}
 use Rattle.slh_params.specs.declared.param_set.ParamSet.{ParamSet}
 use Rattle.slh_hash.specs.Hash.{T}
-use Rattle.slh_few.specs.KeyStreams.{HasAbsorbedKey}
+use Rattle.slh_lanes.specs.Lanes.{value_at}
+use Rattle.slh_few.specs.KeyStreams.{AreEnds, HasAbsorbedKey, HaveAbsorbedEnds}
 use Rattle.slh_few.specs.Parts.{end_to_end}
 use Rattle.slh_few.specs.Wots.{wots_address, whole_chain, wots_pk}
 use Rattle.slh_few.specs.Xmss.{AreKeysFrom, place}
 use Rattle.slh_few.specs.declared.key_lanes.KeyStreams.{KeyStreams}
 use Rattle.slh_few.specs.declared.place.Place.{Place}
+use Rattle.slh_few.proofs.Ends.{end_to_end-more, end_to_end-none}
 use Rattle.slh_few.proofs.WotsLaw.{ends_few}
 
 -- a place, counted from the first of its eight
@@ -36,3 +38,44 @@ finished_keys s sk pk at streams keys k all eight values absorbed = λ j d below
     let key = place at.layer at.tree (at.pair + j) in
     let few = subst (λ (k : ℕ). length (end_to_end (whole_chain p sk pk key) k) < 2 ^ 28) (sym all) (ends_few s sk pk key) in
     values p pk _ _ j d lane (absorbed j lane) few ∙ ap (λ (k : ℕ). T p pk (wots_address key WOTS_PK 0 0) (end_to_end (whole_chain p sk pk key) k)) all
+
+-- before any end
+pub absorbed_none : (p : Params) (sk pk : List ℕ) (at : Place) (streams : KeyStreams) (k : ℕ) → k ≡ 0
+    → ((j : ℕ) → j < 8 → HasAbsorbedKey streams j p pk (wots_address (place at.layer at.tree (at.pair + j)) WOTS_PK 0 0) [])
+    → HaveAbsorbedEnds p sk pk at k streams
+absorbed_none p sk pk at streams k is held = λ j lane.
+    let key = place at.layer at.tree (at.pair + j) in
+    let f = whole_chain p sk pk key in
+    let a : Address = wots_address key WOTS_PK 0 0 in
+    subst (λ m. HasAbsorbedKey streams j p pk a m) (sym (ap (end_to_end f) is ∙ end_to_end-none f)) (held j lane)
+
+-- the ends of one chain more
+pub absorbed_more : (p : Params) (sk pk : List ℕ) (at : Place) (old new : KeyStreams) (x : List (List ℕ)) (n k next : ℕ) → p.n ≡ n → next ≡ k + 1
+    → ((p : Params) (pk : List ℕ) (a : Address) (m : List ℕ) (j : ℕ) → j < 8 → p.n ≡ n
+    → HasAbsorbedKey old j p pk a m → HasAbsorbedKey new j p pk a (m ++ value_at x j n))
+    → AreEnds p sk pk at k x → HaveAbsorbedEnds p sk pk at k old → HaveAbsorbedEnds p sk pk at next new
+absorbed_more p sk pk at old new x n k next same is absorb ends held = λ j lane.
+    let key = place at.layer at.tree (at.pair + j) in
+    let f = whole_chain p sk pk key in
+    let a : Address = wots_address key WOTS_PK 0 0 in
+    let end : value_at x j n ≡ f k = ap (value_at x j) (sym same) ∙ ends j lane in
+    let more : end_to_end f next ≡ end_to_end f k ++ value_at x j n =
+    ap (end_to_end f) is ∙ end_to_end-more f k ∙ ap (λ e. end_to_end f k ++ e) (sym end) in
+    subst (λ m. HasAbsorbedKey new j p pk a m) (sym more) (absorb p pk a (end_to_end f k) j lane same (held j lane))
+
+-- the ends of two chains more
+pub absorbed_two : (p : Params) (sk pk : List ℕ) (at : Place) (old new : KeyStreams) (x y : List (List ℕ)) (n k next : ℕ) → p.n ≡ n → next ≡ k + 2
+    → ((p : Params) (pk : List ℕ) (a : Address) (m : List ℕ) (j : ℕ) → j < 8 → p.n ≡ n
+    → HasAbsorbedKey old j p pk a m → HasAbsorbedKey new j p pk a ((m ++ value_at x j n) ++ value_at y j n))
+    → AreEnds p sk pk at k x → AreEnds p sk pk at (k + 1) y → HaveAbsorbedEnds p sk pk at k old → HaveAbsorbedEnds p sk pk at next new
+absorbed_two p sk pk at old new x y n k next same is absorb x_ends y_ends held = λ j lane.
+    let key = place at.layer at.tree (at.pair + j) in
+    let f = whole_chain p sk pk key in
+    let a : Address = wots_address key WOTS_PK 0 0 in
+    let x_end : value_at x j n ≡ f k = ap (value_at x j) (sym same) ∙ x_ends j lane in
+    let y_end : value_at y j n ≡ f (k + 1) = ap (value_at y j) (sym same) ∙ y_ends j lane in
+    let two : next ≡ k + 1 + 1 = omega (arith, is) in
+    let more : end_to_end f next ≡ (end_to_end f k ++ value_at x j n) ++ value_at y j n =
+    ap (end_to_end f) two ∙ end_to_end-more f (k + 1)
+    ∙ ap₂ (λ (d e : List ℕ). d ++ e) (end_to_end-more f k ∙ ap (λ e. end_to_end f k ++ e) (sym x_end)) (sym y_end) in
+    subst (λ m. HasAbsorbedKey new j p pk a m) (sym more) (absorb p pk a (end_to_end f k) j lane same (held j lane))

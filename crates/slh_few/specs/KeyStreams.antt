@@ -1,10 +1,15 @@
--- T of eight keys, in lanes or one after the other: ours.
-use Rattle.std.specs.Prelude.{ℕ, List, slice_index_or}
-use Rattle.slh_params.specs.Address.{Address}
+-- The ends of the chains of eight keys in lanes, and T of these keys, in lanes or one after the other: ours.
+use Rattle.std.specs.Prelude.{◌≡◌, ℕ, ◌+◌, ◌<◌, List, slice_index_or}
+use Rattle.slh_params.specs.Address.{Address, WOTS_PK}
 use Rattle.slh_params.specs.Params.{Params}
 use Rattle.slh_hash.specs.Stream.{HasAbsorbed}
 use Rattle.slh_hash.specs.declared.t_stream.TStream.{TStream}
+use Rattle.slh_lanes.specs.Lanes.{value_at}
 use Rattle.slh_lanes.specs.LaneStreams.{HasAbsorbedAt}
+use Rattle.slh_few.specs.Parts.{end_to_end}
+use Rattle.slh_few.specs.Wots.{wots_address, whole_chain}
+use Rattle.slh_few.specs.Xmss.{place}
+use Rattle.slh_few.specs.declared.place.Place.{Place}
 use Rattle.slh_few.specs.declared.key_lanes.KeyStreams.{KeyStreams}
 use Rattle.slh_few.specs.declared.key_lanes.KeyStreams.TheVariants.{Lanes, Alone}
 
@@ -12,3 +17,14 @@ use Rattle.slh_few.specs.declared.key_lanes.KeyStreams.TheVariants.{Lanes, Alone
 abbrev pub HasAbsorbedKey : KeyStreams → ℕ → Params → List ℕ → Address → List ℕ → Type 0
 HasAbsorbedKey (Lanes s) j p pk_seed adrs x = HasAbsorbedAt s j p pk_seed adrs x
 HasAbsorbedKey (Alone ss) j p pk_seed adrs x = (d : TStream) → HasAbsorbed (slice_index_or ss j d) p pk_seed adrs x
+
+-- the lanes hold the ends of chain c of the eight keys from this place on
+abbrev pub AreEnds : Params → List ℕ → List ℕ → Place → ℕ → List (List ℕ) → Type 0
+AreEnds p sk_seed pk_seed at c ends =
+    (j : ℕ) → j < 8 → value_at ends j p.n ≡ whole_chain p sk_seed pk_seed (place at.layer at.tree (at.pair + j)) c
+
+-- T of each of these keys has absorbed the ends of its first k chains
+abbrev pub HaveAbsorbedEnds : Params → List ℕ → List ℕ → Place → ℕ → KeyStreams → Type 0
+HaveAbsorbedEnds p sk_seed pk_seed at k streams =
+    (j : ℕ) → j < 8 → HasAbsorbedKey streams j p pk_seed (wots_address (place at.layer at.tree (at.pair + j)) WOTS_PK 0 0)
+    (end_to_end (whole_chain p sk_seed pk_seed (place at.layer at.tree (at.pair + j))) k)

@@ -19,11 +19,12 @@ ghost use Rattle.slh_few.specs.Xmss.{AreKeysFrom, place};
 use crate::kept_chains::{kept_count, put_value, spacing};
 use crate::nodes::{first_nodes, put_part};
 use crate::place::{Place, Seeds};
+use crate::two_chains::{two_chain_ends, two_chain_ends_keeping, two_chain_ends_signing};
 use crate::wots::{wots_adrs, wots_pk};
 use crate::wots_digits::digits_of;
 use slh_hash::{SeededTreeHash, TStream};
 use slh_lanes::{
-    LaneAdrs, LaneNodes, LaneStream, SeededLanes, SeededTreeLanes, adrs_lanes, consecutive,
+    LaneAdrs, LaneNodes, LaneStream, SeededLanes, SeededTreeLanes, Words, adrs_lanes, consecutive,
     lane_node, set_pairs,
 };
 use slh_params::{AdrsType, Node};
@@ -38,7 +39,7 @@ enum KeyStreams {
 }
 
 /// The addresses of chain `c` of eight keys, of which the first is at this place.
-fn key_adrs(at: Place, kind: AdrsType, c: u32) -> LaneAdrs
+pub(crate) fn key_adrs(at: Place, kind: AdrsType, c: u32) -> LaneAdrs
     requires { at.pair + 8 ≤ 2 ^ 32 }
     ensures { (j : ℕ) → j < 8
         → HasAddress result j (wots_address (place at.layer at.tree (at.pair + j)) (type_number kind) c 0) }
@@ -147,6 +148,17 @@ fn absorb_lanes(streams: &mut KeyStreams, nodes: &LaneNodes, n: usize)
     }
 }
 
+/// Adds to each key's T the value of n bytes in its lane of `x`, and then that in its lane of `y`.
+fn absorb_two(streams: &mut KeyStreams, x: &LaneNodes, y: &LaneNodes, n: usize)
+    requires { n ≤ 32 }
+    ensures { (p : Params) (pk_seed : List ℕ) (a : Address) (m : List ℕ) (j : ℕ) → j < 8 → p.n ≡ n
+        → HasAbsorbedKey streams.old j p pk_seed a m
+        → HasAbsorbedKey streams.new j p pk_seed a ((m ++ value_at x.now j n) ++ value_at y.now j n) }
+{
+    absorb_lanes(streams, x, n);
+    absorb_lanes(streams, y, n);
+}
+
 /// T of what each of eight absorbed.
 fn finished_alone(streams: [TStream; 8]) -> Leaves
     ensures len { length result.items ≡ 8 }
@@ -180,7 +192,8 @@ fn finished(streams: KeyStreams) -> Leaves
     }
 }
 
-/// The public keys at eight places, of which this is the first: n bytes each (Algorithm 6).
+/// The public keys at eight places, of which this is the first: n bytes each (Algorithm 6). Two chains of each are run
+/// at once.
 fn eight_pks(seeds: &Seeds, at: Place) -> Leaves
     requires { at.pair + 8 ≤ 2 ^ 32 }
     ensures len { length result.items ≡ 8 }
@@ -188,8 +201,15 @@ fn eight_pks(seeds: &Seeds, at: Place) -> Leaves
 {
     let lanes = SeededLanes::new(seeds.set, seeds.pk_seed);
     let mut streams = key_streams(seeds, at);
-    for c in 0..seeds.set.len() as u32 {
-        let ends = chain_ends(&lanes, seeds, at, c);
+    let mut x = [Words::splat(0); 8];
+    let mut y = x;
+    let len = seeds.set.len() as u32;
+    for pair in 0..len / 2 {
+        two_chain_ends(&lanes, seeds, at, 2 * pair, &mut x, &mut y);
+        absorb_two(&mut streams, &x, &y, seeds.set.n());
+    }
+    if len % 2 == 1 {
+        let ends = chain_ends(&lanes, seeds, at, len - 1);
         absorb_lanes(&mut streams, &ends, seeds.set.n());
     }
     finished(streams)
@@ -242,8 +262,8 @@ pub(crate) fn first_of_eight(at: Place) -> Place
 /// Writes the signature of a message of n bytes by the key at this place, len * n bytes (Algorithm 7), and gives the
 /// public keys of the eight places from `first_of_eight` on, n bytes each (Algorithm 6).
 ///
-/// The chains of all eight keys are run to the message's digits, where the signature's values are, and then to their
-/// ends. So the lanes take the same steps, and no chain is computed twice.
+/// Two chains of each of the eight keys are run at once, to the message's digits, where the signature's values are, and
+/// then to their ends. So the lanes take the same steps, and no chain is computed twice.
 pub(crate) fn sign_among_eight(seeds: &Seeds, at: Place, msg: &Node, out: &mut [u8]) -> Leaves
     requires msg { length msg.now.items ≡ (params seeds.now.set).n }
     requires out { length out.old ≡ len (params seeds.now.set) * (params seeds.now.set).n }
@@ -259,8 +279,21 @@ pub(crate) fn sign_among_eight(seeds: &Seeds, at: Place, msg: &Node, out: &mut [
     let digits = digits_of(seeds.set, msg);
     let lanes = SeededLanes::new(seeds.set, seeds.pk_seed);
     let mut streams = key_streams(seeds, first);
-    for c in 0..seeds.set.len() as u32 {
-        let ends = chain_ends_signing(&lanes, seeds, first, c, digits[c as usize], lane, out);
+    let mut x = [Words::splat(0); 8];
+    let mut y = x;
+    let len = seeds.set.len() as u32;
+    for pair in 0..len / 2 {
+        let c = 2 * pair;
+        let x_steps = digits[c as usize];
+        let y_steps = digits[c as usize + 1];
+        two_chain_ends_signing(
+            &lanes, seeds, first, lane, c, x_steps, y_steps, &mut x, &mut y, out,
+        );
+        absorb_two(&mut streams, &x, &y, seeds.set.n());
+    }
+    if len % 2 == 1 {
+        let last = len - 1;
+        let ends = chain_ends_signing(&lanes, seeds, first, last, digits[last as usize], lane, out);
         absorb_lanes(&mut streams, &ends, seeds.set.n());
     }
     finished(streams)
@@ -307,7 +340,8 @@ fn chain_ends_keeping(
 /// The public keys of the eight places from `first_of_eight` on, n bytes each (Algorithm 6). Into `kept` it writes what
 /// `wots_pk_keeping` keeps of the key at this place.
 ///
-/// The chains of all eight keys are run from one kept value to the next, since the lanes take the same steps.
+/// Two chains of each of the eight keys are run at once, from one kept value to the next, since the lanes take the same
+/// steps.
 pub(crate) fn eight_pks_keeping(seeds: &Seeds, at: Place, kept: &mut [u8]) -> Leaves
     requires { length kept.old ≡ chains_len (params seeds.now.set) }
     ensures len { length result.items ≡ 8 }
@@ -321,8 +355,15 @@ pub(crate) fn eight_pks_keeping(seeds: &Seeds, at: Place, kept: &mut [u8]) -> Le
     let lane = (at.pair % 8) as usize;
     let lanes = SeededLanes::new(seeds.set, seeds.pk_seed);
     let mut streams = key_streams(seeds, first);
-    for c in 0..seeds.set.len() as u32 {
-        let ends = chain_ends_keeping(&lanes, seeds, first, c, lane, kept);
+    let mut x = [Words::splat(0); 8];
+    let mut y = x;
+    let len = seeds.set.len() as u32;
+    for pair in 0..len / 2 {
+        two_chain_ends_keeping(&lanes, seeds, first, 2 * pair, lane, &mut x, &mut y, kept);
+        absorb_two(&mut streams, &x, &y, seeds.set.n());
+    }
+    if len % 2 == 1 {
+        let ends = chain_ends_keeping(&lanes, seeds, first, len - 1, lane, kept);
         absorb_lanes(&mut streams, &ends, seeds.set.n());
     }
     finished(streams)

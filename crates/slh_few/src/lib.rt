@@ -19,6 +19,7 @@ mod nodes;
 mod path_bytes;
 mod place;
 mod ranges;
+mod two_chains;
 mod wots;
 mod wots_digits;
 mod xmss;

@@ -1,5 +1,6 @@
 pub mod Lanes8
 mod ChMaj
+mod NLanes
 mod WordLanes
 mod LongWordLanes
 pub mod Columns

@@ -1,9 +1,8 @@
 -- How a hash value of SHA-512 and a block's words follow a message as it grows by a word.
-use Rattle.std.proofs.Common.{◌≡◌, ℕ, zero, suc, ◌+◌, ◌-◌, ◌*◌, ◌/◌, ◌%◌, ◌^◌, ◌<◌, ◌≤◌, List, [], ◌∷◌, ◌++◌, length, slice_index, set, take, drop, replicate, arith, sym, subst, ap, ap₂, ◌∙◌, add-one, w32, length-append, append_assoc}
+use Rattle.std.proofs.Common.{◌≡◌, ℕ, zero, suc, ◌+◌, ◌-◌, ◌*◌, ◌/◌, ◌%◌, ◌^◌, ◌<◌, List, [], ◌∷◌, ◌++◌, length, slice_index, take, replicate, arith, sym, subst, ap, ap₂, ◌∙◌, add-one, w32, length-append, append_assoc}
 use Rattle.std.specs.Int.{to_be_bytes, w128}
-use Rattle.std.proofs.lemmas.List.{get_or-set_same, length-replicate, length-set, replicate-append-replicate}
-use Rattle.std.proofs.Math.Seq.{take-append-add}
-use Rattle.sha2.specs.Sha256.{digest_bytes, word_at}
+use Rattle.std.proofs.lemmas.List.{length-replicate, replicate-append-replicate}
+use Rattle.sha2.specs.Sha256.{word_at}
 use Rattle.sha2.specs.Sha512.{IsAbsorbed, final_hash, hash_after, padded_message, padding, word_at as long_word_at}
 use Rattle.sha2.proofs.Absorbing512.{hash_after-append}
 use Rattle.slh_lanes.specs.Block.{halves}

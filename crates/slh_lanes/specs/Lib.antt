@@ -1,5 +1,6 @@
 pub mod Columns
 pub mod Block
+pub mod Room
 pub mod LongBlock
 pub mod Lanes
 pub mod TreeLanes

@@ -4,10 +4,14 @@
 
 mod block;
 mod bytes;
+mod eight_blocks;
 mod lane_adrs;
 mod lane_nodes;
 mod lane_stream;
+mod lanes;
 mod long_block;
+mod long_eight_blocks;
+mod long_lanes;
 mod long_stream;
 mod long_words;
 mod seeded_lanes;
@@ -15,8 +19,10 @@ mod seeded_tree_lanes;
 mod sha256_lanes;
 mod sha512_lanes;
 mod short_stream;
+mod sixteen_blocks;
 mod words;
 
+pub use eight_blocks::compress;
 pub use lane_adrs::{LaneAdrs, adrs_lanes, set_chains, set_hashes, set_pairs};
 pub use lane_nodes::{
     LaneNodes, even_lanes, lane_node, node_lanes, odd_lanes, pick_nodes, set_lane,
@@ -24,5 +30,4 @@ pub use lane_nodes::{
 pub use lane_stream::LaneStream;
 pub use seeded_lanes::SeededLanes;
 pub use seeded_tree_lanes::SeededTreeLanes;
-pub use sha256_lanes::compress;
 pub use words::{Words, consecutive, half, parity};

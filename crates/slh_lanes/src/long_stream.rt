@@ -11,8 +11,8 @@ ghost use Rattle.slh_lanes.specs.Streams.{HoldsLongAt, half_on, long_vectors, ve
 
 use crate::lane_adrs::LaneAdrs;
 use crate::lane_nodes::LaneNodes;
+use crate::long_eight_blocks::compress;
 use crate::long_words::{LongVector, LongWords, joined_halves};
-use crate::sha512_lanes::compress;
 use crate::short_stream::address_words;
 use crate::words::{Vector, Words, high, low, tell_words};
 

@@ -13,9 +13,10 @@ ghost use Rattle.slh_lanes.specs.Steps.{steps};
 
 use crate::block::{first_lane, initial, second_block, splat_all};
 use crate::bytes::load_all;
+use crate::eight_blocks::{compress, compress_each};
 use crate::lane_adrs::{LaneAdrs, lane_compressed, set_hashes};
 use crate::lane_nodes::{LaneNodes, lane_node, node_lanes, pick_nodes, set_lane, two_short};
-use crate::sha256_lanes::compress;
+use crate::sixteen_blocks::compress_two;
 use crate::words::{Words, add, most};
 use sha2::{Digest, Sha256};
 use slh_params::ParamSet;
@@ -70,6 +71,33 @@ impl<'a> SeededLanes<'a> {
         }
     }
 
+    /// PRF in each lane of two groups at once: into `x` it writes the secrets at the addresses `x_adrs`, and into `y`
+    /// those at `y_adrs`.
+    pub fn prf_two(
+        &self,
+        sk_seed: &[u8],
+        x_adrs: &LaneAdrs,
+        y_adrs: &LaneAdrs,
+        x: &mut LaneNodes,
+        y: &mut LaneNodes,
+    )
+        ensures x { (p : Params) (pk_seed : List ℕ) → IsSeededLanes self.now p pk_seed
+            → (j : ℕ) → j < 8 → (a : Address) → HasAddress x_adrs.now j a
+            → value_at x.new j p.n ≡ PRF p pk_seed sk_seed.now a }
+        ensures y { (p : Params) (pk_seed : List ℕ) → IsSeededLanes self.now p pk_seed
+            → (j : ℕ) → j < 8 → (a : Address) → HasAddress y_adrs.now j a
+            → value_at y.new j p.n ≡ PRF p pk_seed sk_seed.now a }
+    {
+        if self.pk_seed.len() == self.set.n() && sk_seed.len() == self.set.n() {
+            *x = node_lanes(sk_seed);
+            *y = *x;
+            self.digests_two(x_adrs, y_adrs, x, y, self.set.n());
+        } else {
+            *x = self.prf_alone(sk_seed, x_adrs);
+            *y = self.prf_alone(sk_seed, y_adrs);
+        }
+    }
+
     /// H (section 11.2) of two nodes of 16 bytes in each lane, the hash of both at its address. Of other nodes, or
     /// where PK.seed has another length, nothing is said.
     pub fn h(&self, adrs: &LaneAdrs, left: &LaneNodes, right: &LaneNodes) -> LaneNodes
@@ -96,6 +124,35 @@ impl<'a> SeededLanes<'a> {
         nodes
     }
 
+    /// Runs the chains of two groups of eight on, each from its value after `from` steps by `count` steps: those in `x` at
+    /// the addresses `x_adrs`, and those in `y` at `y_adrs`.
+    pub fn chains_two(
+        &self,
+        x_adrs: &LaneAdrs,
+        y_adrs: &LaneAdrs,
+        x: &mut LaneNodes,
+        y: &mut LaneNodes,
+        from: u32,
+        count: u32,
+    )
+        requires { from + count ≤ 2 ^ 32 }
+        ensures x { (p : Params) (pk_seed : List ℕ) → IsSeededLanes self.now p pk_seed
+            → (j : ℕ) → j < 8 → (a : Address) → HasAddress x_adrs.now j a
+            → value_at x.new j p.n ≡ steps p pk_seed a (value_at x.old j p.n) from count }
+        ensures y { (p : Params) (pk_seed : List ℕ) → IsSeededLanes self.now p pk_seed
+            → (j : ℕ) → j < 8 → (a : Address) → HasAddress y_adrs.now j a
+            → value_at y.new j p.n ≡ steps p pk_seed a (value_at y.old j p.n) from count }
+    {
+        for step in 0..count {
+            let number = Words::splat(from + step);
+            let mut x_here = *x_adrs;
+            let mut y_here = *y_adrs;
+            set_hashes(&mut x_here, number);
+            set_hashes(&mut y_here, number);
+            self.f_two(&x_here, &y_here, x, y);
+        }
+    }
+
     /// Runs eight chains on, that of each lane from its own step and by its own number of steps. A lane that has ended
     /// keeps its value.
     pub fn chains_each(
@@ -116,10 +173,26 @@ impl<'a> SeededLanes<'a> {
             let number = Words::splat(step);
             let mut here = *adrs;
             set_hashes(&mut here, add(from, number));
-            let next = self.f(&here, &nodes);
+            let next = self.f_each(&here, &nodes, step, counts);
             nodes = pick_nodes(number, counts, &next, &nodes);
         }
         nodes
+    }
+
+    /// F in each lane that has a step left, whose number in `counts` is above `step`. Of other lanes nothing is said.
+    fn f_each(&self, adrs: &LaneAdrs, x: &LaneNodes, step: u32, counts: Words) -> LaneNodes
+        ensures { (p : Params) (pk_seed : List ℕ) → IsSeededLanes self.now p pk_seed
+            → (j : ℕ) → j < 8 → step < slice_index counts j → (a : Address) → HasAddress adrs.now j a
+            → value_at result j p.n ≡ F p pk_seed a (value_at x.now j p.n) }
+    {
+        let n = self.set.n();
+        if self.pk_seed.len() == n {
+            let mut state = splat_all(&self.state);
+            compress_each(&mut state, &second_block(n, adrs, x), step, counts);
+            state
+        } else {
+            self.f_alone(adrs, x)
+        }
     }
 
     /// In each lane the first n bytes of the digest of PK.seed, zeros, the address and the value of `len` bytes.
@@ -132,6 +205,48 @@ impl<'a> SeededLanes<'a> {
         let mut state = splat_all(&self.state);
         compress(&mut state, &second_block(len, adrs, x));
         state
+    }
+
+    /// F in each lane of two groups at once: of the values in `x` at the addresses `x_adrs`, and of those in `y` at
+    /// `y_adrs`.
+    fn f_two(&self, x_adrs: &LaneAdrs, y_adrs: &LaneAdrs, x: &mut LaneNodes, y: &mut LaneNodes)
+        ensures x { (p : Params) (pk_seed : List ℕ) → IsSeededLanes self.now p pk_seed
+            → (j : ℕ) → j < 8 → (a : Address) → HasAddress x_adrs.now j a
+            → value_at x.new j p.n ≡ F p pk_seed a (value_at x.old j p.n) }
+        ensures y { (p : Params) (pk_seed : List ℕ) → IsSeededLanes self.now p pk_seed
+            → (j : ℕ) → j < 8 → (a : Address) → HasAddress y_adrs.now j a
+            → value_at y.new j p.n ≡ F p pk_seed a (value_at y.old j p.n) }
+    {
+        if self.pk_seed.len() == self.set.n() {
+            self.digests_two(x_adrs, y_adrs, x, y, self.set.n());
+        } else {
+            *x = self.f_alone(x_adrs, x);
+            *y = self.f_alone(y_adrs, y);
+        }
+    }
+
+    /// In each lane of two groups what `digests` gives, of the values in `x` and of those in `y`.
+    fn digests_two(
+        &self,
+        x_adrs: &LaneAdrs,
+        y_adrs: &LaneAdrs,
+        x: &mut LaneNodes,
+        y: &mut LaneNodes,
+        len: usize,
+    )
+        requires { (len ≡ 16) ⊎ (len ≡ 24) ⊎ (len ≡ 32) }
+        ensures x { (p : Params) (pk_seed : List ℕ) → IsSeededLanes self.now p pk_seed → length pk_seed ≡ p.n
+            → (j : ℕ) → j < 8 → (a : Address) → HasAddress x_adrs.now j a
+            → value_at x.new j p.n ≡ tweaked_hash SHA_256 p pk_seed a (value_at x.old j len) }
+        ensures y { (p : Params) (pk_seed : List ℕ) → IsSeededLanes self.now p pk_seed → length pk_seed ≡ p.n
+            → (j : ℕ) → j < 8 → (a : Address) → HasAddress y_adrs.now j a
+            → value_at y.new j p.n ≡ tweaked_hash SHA_256 p pk_seed a (value_at y.old j len) }
+    {
+        let x_block = second_block(len, x_adrs, x);
+        let y_block = second_block(len, y_adrs, y);
+        *x = splat_all(&self.state);
+        *y = *x;
+        compress_two(x, y, &x_block, &y_block);
     }
 
     /// F in one lane after the other, for a PK.seed of another length than n.

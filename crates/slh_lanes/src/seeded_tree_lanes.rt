@@ -13,9 +13,9 @@ use crate::bytes::load_all_long;
 use crate::lane_adrs::LaneAdrs;
 use crate::lane_nodes::LaneNodes;
 use crate::long_block::{first_lane, initial, second_block, splat_all, truncated};
+use crate::long_eight_blocks::compress;
 use crate::long_words::LongWords;
 use crate::seeded_lanes::SeededLanes;
-use crate::sha512_lanes::compress;
 use slh_params::ParamSet;
 
 /// H of eight pairs of nodes under one PK.seed: in eight lanes SHA-256, or where n is 24 or 32 SHA-512, after its first

@@ -7,9 +7,9 @@ ghost use Rattle.slh_lanes.specs.Columns.{column, HasWords};
 ghost use Rattle.slh_lanes.specs.Lanes.{HasAddress};
 ghost use Rattle.slh_lanes.specs.Streams.{HoldsAt, half_on, vectors};
 
+use crate::eight_blocks::compress;
 use crate::lane_adrs::LaneAdrs;
 use crate::lane_nodes::LaneNodes;
-use crate::sha256_lanes::compress;
 use crate::words::{Vector, Words, halves, high, low, tell_all, tell_words};
 
 /// SHA-256 of eight messages of the same length, as far as they have come.

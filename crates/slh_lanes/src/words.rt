@@ -1,6 +1,6 @@
-//! Vectors of eight words, one in each lane, and SHA-256's functions on them (FIPS 180-4, section 4.1.2).
+//! Vectors of eight words, one in each lane.
 ghost use Rattle.std.specs.Prelude.{◌≡◌, ◌≢◌, ℕ, ◌+◌, ◌*◌, ◌/◌, ◌%◌, ◌^◌, ◌<◌, ◌≤◌, slice_index};
-ghost use Rattle.sha2.specs.Sha256.{add32, big_sigma0, big_sigma1, ch, maj, small_sigma0, small_sigma1};
+ghost use Rattle.sha2.specs.Sha256.{add32};
 ghost use Rattle.slh_lanes.specs.Block.{halves};
 ghost use Rattle.slh_lanes.specs.Columns.{column};
 
@@ -13,50 +13,6 @@ pub type Words = u32x8;
 #[derive(Clone, Copy)]
 pub(crate) struct Vector {
     pub(crate) words: Words,
-}
-
-#[inline(always)]
-pub(crate) fn big_sigma0(x: Words) -> Words
-    ensures { (j : ℕ) → j < 8 → slice_index result j ≡ big_sigma0 (slice_index x j) }
-{
-    ((x >> 2) | (x << 30)) ^ ((x >> 13) | (x << 19)) ^ ((x >> 22) | (x << 10))
-}
-
-#[inline(always)]
-pub(crate) fn big_sigma1(x: Words) -> Words
-    ensures { (j : ℕ) → j < 8 → slice_index result j ≡ big_sigma1 (slice_index x j) }
-{
-    ((x >> 6) | (x << 26)) ^ ((x >> 11) | (x << 21)) ^ ((x >> 25) | (x << 7))
-}
-
-#[inline(always)]
-pub(crate) fn small_sigma0(x: Words) -> Words
-    ensures { (j : ℕ) → j < 8 → slice_index result j ≡ small_sigma0 (slice_index x j) }
-{
-    ((x >> 7) | (x << 25)) ^ ((x >> 18) | (x << 14)) ^ (x >> 3)
-}
-
-#[inline(always)]
-pub(crate) fn small_sigma1(x: Words) -> Words
-    ensures { (j : ℕ) → j < 8 → slice_index result j ≡ small_sigma1 (slice_index x j) }
-{
-    ((x >> 17) | (x << 15)) ^ ((x >> 19) | (x << 13)) ^ (x >> 10)
-}
-
-// One operation fewer than the standard's form.
-#[inline(always)]
-pub(crate) fn ch(x: Words, y: Words, z: Words) -> Words
-    ensures { (j : ℕ) → j < 8 → slice_index result j ≡ ch (slice_index x j) (slice_index y j) (slice_index z j) }
-{
-    z ^ (x & (y ^ z))
-}
-
-// One round's `x ^ y` is the next round's `y ^ z`, so it is computed once.
-#[inline(always)]
-pub(crate) fn maj(x: Words, y: Words, z: Words) -> Words
-    ensures { (j : ℕ) → j < 8 → slice_index result j ≡ maj (slice_index x j) (slice_index y j) (slice_index z j) }
-{
-    y ^ ((x ^ y) & (y ^ z))
 }
 
 #[inline(always)]

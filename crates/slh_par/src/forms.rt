@@ -12,7 +12,7 @@ ghost use Rattle.slh_par.specs.declared.fault.ParFault.TheVariants.{Stopped};
 use crate::fault::ParFault;
 use crate::parallel::Parallel;
 use crate::signing::sign_parts_par;
-use slh_core::{Form, PreHash, Randomizer, SecretKey};
+use slh_core::{Form, FormattedMessage, MessageDigest, PreHash, Randomizer, SecretKey};
 use slh_subtrees::Cutting;
 use slh_workers::{Gate, Workers};
 use std::alloc::Allocator;
@@ -126,4 +126,44 @@ pub fn hash_sign_par<R: Threads + Sync, A: Allocator + Clone + Send + Sync, G: G
     sign_form_par(
         rt, alloc, form, msg, ctx, sk, randomizer, workers, cutting, gate, out,
     )
+}
+
+/// Signs a message by its digest, under a context (FIPS 205, Algorithm 23 after its pre-hash), by several workers,
+/// writing `sig_len` bytes: those of `slh_core::hash_sign_digest`. Refused as `sign_form_par` is.
+pub fn hash_sign_digest_par<R: Threads + Sync, A: Allocator + Clone + Send + Sync, G: Gate>(
+    rt: &R,
+    alloc: A,
+    digest: &MessageDigest,
+    ctx: &[u8],
+    sk: &SecretKey,
+    randomizer: Randomizer,
+    workers: Workers,
+    cutting: &Cutting,
+    gate: &G,
+    out: &mut [u8],
+) -> Result<(), ParFault>
+    requires randomizer { HasLength randomizer (params sk.now.set).n }
+    requires cutting { cutting.now.set ≡ sk.now.set }
+    requires out { length out.old ≡ sig_len (params sk.now.set) }
+    ensures signature { OnOk result (out.new
+        ≡ signature_by sk.now (pre_hash_message ctx.now digest.now.function digest.now.bytes) randomizer.entry) }
+    ensures authentic { OnOk result (IsGeneratedKey sk.now
+        → IsValid (public_of sk.now) (pre_hash_message ctx.now digest.now.function digest.now.bytes) out.new) }
+    ensures refused { OnErr result (out.new ≡ out.old) }
+    ensures len { length out.new ≡ length out.old }
+    ensures too_long { (result ≡ Err ParFault.ContextTooLong) ↔ (255 < length ctx.now) }
+    ensures stopped { IfErr result (λ fault. fault ≡ Stopped → G.may_stop gate.now) }
+{
+    let Some(message) = FormattedMessage::of_digest(digest, ctx) else {
+        return Err(ParFault::ContextTooLong);
+    };
+    let parallel = Parallel {
+        rt,
+        alloc,
+        workers,
+        cutting,
+        gate,
+    };
+    sign_parts_par(parallel, &message.parts(), sk, randomizer, out)?;
+    Ok(())
 }

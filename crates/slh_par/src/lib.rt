@@ -23,7 +23,7 @@ mod verify_item;
 mod verifying;
 
 pub use fault::ParFault;
-pub use forms::{hash_sign_par, sign_form_par, sign_par};
+pub use forms::{hash_sign_digest_par, hash_sign_par, sign_form_par, sign_par};
 pub use generation::keygen_par;
 pub use slh_core::{
     Form, KeyFault, MessageDigest, ParamSet, PreHash, PublicKey, Randomizer, SecretKey,

@@ -45,7 +45,7 @@ pub trait Answers {
 
 /// Writes what FORS tree `number` adds to the signature, the secret value and the path (FIPS 205, Algorithm 16), and
 /// returns the tree's root.
-pub fn fors_part<A: Answers>(answers: &A, set: ParamSet, number: u32, out: &mut [u8]) -> Node
+fn fors_part<A: Answers>(answers: &A, set: ParamSet, number: u32, out: &mut [u8]) -> Node
     requires set { A.set answers.now ≡ set }
     requires tree { number < (params set).k }
     requires out { length out.old ≡ fors_part_len (params set) }
@@ -101,7 +101,7 @@ pub fn put_fors<A: Answers>(trees: &SigningTrees, answers: &A, out: &mut [u8]) -
 /// Writes what a layer adds to the signature where its key signs `msg`: the WOTS+ signature, from what is kept of the
 /// key's chains, and the path of the key's leaf (FIPS 205, Algorithm 10). Returns the root
 /// that the answers say.
-pub fn layer_part<A: Answers>(
+fn layer_part<A: Answers>(
     trees: &SigningTrees,
     answers: &A,
     layer: u8,

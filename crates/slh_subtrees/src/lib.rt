@@ -5,9 +5,10 @@
 //! signature are the ranges of its d XMSS trees, layer 0 first, and then of its k FORS trees; those of key generation
 //! are the ranges of the one XMSS tree of the top layer. Of a range are made its cover and those nodes of the
 //! signing leaf's path whose leaves lie in it; where the signing leaf of an XMSS tree lies in it, also values of the
-//! chains of that leaf's key, from which the key signs later. Who has the answers of all jobs, in memory (`slh_par`)
-//! or as bytes (`slh_jobs`), tells by `Answers` what they say of the trees. Nothing here takes memory or starts
-//! anything, and nothing but `Cutting::new` is refused.
+//! chains of that leaf's key, from which the key signs later. Who has the answers of all jobs in memory, as `slh_par`,
+//! tells by `Answers` what they say of the trees, and `put_fors` and `put_layers` write the signature. `slh_jobs`, which
+//! is handed answers as bytes, judges them and writes the signature itself; what it writes is stated by the same
+//! definitions. Nothing here takes memory or starts anything, and nothing but `Cutting::new` is refused.
 #![tactic(auto, using(slh_params::proofs::Bounds::bounds))]
 
 mod answers;
@@ -20,7 +21,7 @@ mod joining;
 mod range;
 mod signing_trees;
 
-pub use answers::{Answers, fors_part, layer_part, put_fors, put_layers};
+pub use answers::{Answers, put_fors, put_layers};
 pub use cuts::{Cuts, levels_cut_evenly};
 pub use cutting::Cutting;
 pub use fault::{CutFault, CutTree};

@@ -4,6 +4,7 @@ pub mod Requests
 pub mod Reading
 pub mod Seeds
 pub mod Options
+pub mod Contents
 pub mod Cuts
 pub mod Keys
 pub mod TestRuns

@@ -5,6 +5,7 @@ pub use fault::Fault;
 pub use program::{command, refuse};
 pub use slh_io::{FetchFault, Files, Source};
 
+mod content;
 mod cuts;
 mod fault;
 mod generate;

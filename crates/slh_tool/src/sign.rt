@@ -1,24 +1,20 @@
-ghost use Rattle.std.specs.Prelude.{◌≡◌, ◌≢◌, ◌↔◌, ◌<◌, ◌≤◌, ◌⊎◌, Err, IfOk, IfErr, IfSome, OnOk, length, option_map};
-ghost use Rattle.slh_core.specs.Messages.{message_in_form};
-ghost use Rattle.slh_core.specs.Randomizers.{HasLength};
-ghost use Rattle.slh_core.specs.Signatures.{signature_by};
-ghost use Rattle.slh_params.specs.Params.{sig_len};
+ghost use Rattle.std.specs.Prelude.{◌≡◌, ◌<◌, ◌≤◌, ◌⊎◌, IfOk, IfErr, IfSome, OnOk, length, option_map};
 ghost use Rattle.slh_params.specs.ParamSet.{params};
+ghost use Rattle.slh_tool.specs.Contents.{formatted};
 ghost use Rattle.slh_tool.specs.Options.{signature_of};
 ghost use Rattle.slh_tool.specs.Replies.{RefusesSign, RefusesSigning, SignsMessage, SignsWith};
 ghost use Rattle.slh_tool.specs.Requests.{sign_asked};
-ghost use Rattle.slh_par.specs.declared.fault.ParFault.TheVariants as par;
 ghost use Rattle.slh_tool.specs.declared.fault.Fault.TheVariants.{ContextTooLong, NoMemory};
 
+use super::content::{Content, content_of};
 use super::cuts::{cutting_of, workers_of};
 use super::fault::Fault;
 use super::keys::secret_key;
-use super::options::{FormAndContext, Random, form_and_context, random_of};
-use super::reading::read_file;
+use super::options::{Random, form_and_context, random_of};
 use super::request::SignWords;
 use slh_core::{Randomizer, SecretKey};
 use slh_io::Files;
-use slh_par::{Cutting, NoGate, ParFault, Workers, sign_form_par};
+use slh_par::{Cutting, ParFault, Workers};
 use std::alloc::Allocator;
 use std::thread::Threads;
 
@@ -54,39 +50,32 @@ fn sign_with<R: Threads + Sync, A: Allocator + Clone + Send + Sync, F: Files>(
         return Err(Fault::BadOption);
     };
     let cutting = cutting_of(key.set(), words.work)?;
-    let message = read_file(alloc.clone()?, files, words.message)?;
+    let content = content_of(alloc.clone()?, files, words.message, form.form)?;
+    let context = form.context.as_slice();
     let workers = workers_of(words.work.workers);
     signature_of(
-        rt,
-        alloc,
-        key,
-        message.as_slice(),
-        &form,
-        &random,
-        workers,
-        &cutting,
+        rt, alloc, key, &content, context, &random, workers, &cutting,
     )
 }
 
-/// The signature of a message in a form, by several workers.
+/// The signature under a context of what is signed of a message file, by several workers.
 fn signature_of<R: Threads + Sync, A: Allocator + Clone + Send + Sync>(
     rt: &R,
     alloc: A,
     key: &SecretKey,
-    message: &[u8],
-    form: &FormAndContext<A>,
+    content: &Content<A>,
+    context: &[u8],
     random: &Option<Random>,
     workers: Workers,
     cutting: &Cutting,
 ) -> Result<Vec<u8, A>, Fault>
     requires random { IfSome random.now (λ bytes. length bytes.items ≡ (params key.now.set).n) }
     requires cutting { cutting.now.set ≡ key.now.set }
-    ensures short { OnOk result (length form.now.context.items ≤ 255) }
+    ensures short { OnOk result (length context.now ≤ 255) }
     ensures done { IfOk result (λ bytes. bytes.items
-        ≡ signature_of key.now (message_in_form form.now.form form.now.context.items message.now)
-        (option_map (λ r. r.items) random.now)) }
+        ≡ signature_of key.now (formatted content.now context.now) (option_map (λ r. r.items) random.now)) }
     ensures refused { IfErr result (λ e. (e ≡ NoMemory)
-        ⊎ ((e ≡ ContextTooLong) × (255 < length form.now.context.items))) }
+        ⊎ ((e ≡ ContextTooLong) × (255 < length context.now))) }
 {
     let randomizer = match random {
         Some(bytes) => Randomizer::Given(bytes.as_slice()),
@@ -95,10 +84,7 @@ fn signature_of<R: Threads + Sync, A: Allocator + Clone + Send + Sync>(
     let mut signature = Vec::new(alloc.clone()?);
     signature.resize(key.set().sig_len(), 0)?;
     let out = signature.as_mut_slice();
-    let context = form.context.as_slice();
-    match sign_form_par(
-        rt, alloc, form.form, message, context, key, randomizer, workers, cutting, &NoGate, out,
-    ) {
+    match content.sign(rt, alloc, context, key, randomizer, workers, cutting, out) {
         Ok(()) => Ok(signature),
         Err(ParFault::NoMemory) => Err(Fault::NoMemory),
         Err(ParFault::ContextTooLong) => Err(Fault::ContextTooLong),

@@ -14,7 +14,7 @@
 use core::ffi::{c_char, c_void};
 
 /// `slh_version` of the version that these declarations are of.
-pub const SLH_VERSION_NUMBER: u32 = 5_000;
+pub const SLH_VERSION_NUMBER: u32 = 6_000;
 
 /// The number of the set SLH-DSA-SHA2-128s.
 pub const SLH_DSA_SHA2_128S: u32 = 1;
@@ -76,6 +76,8 @@ pub const SLH_BAD_START_LENGTH: u32 = 27;
 pub const SLH_BAD_START: u32 = 28;
 /// Not valid: `slh_check` and the verify calls alone return it.
 pub const SLH_INVALID: u32 = 30;
+/// The portable C alone returns it: it got no memory for the call.
+pub const SLH_NO_MEMORY: u32 = 37;
 
 /// The most bytes of a refusal's name with the zero byte after it.
 pub const SLH_MAX_NAME: usize = 20;

@@ -11,7 +11,7 @@ const FORS_LEVELS: u32 = 0;
 
 /// What computes each signature under a key by several threads. [`SecretKey::workers`] makes one.
 ///
-/// A signature is cut into jobs (docs/LIBRARY.md, "Signing with threads of your own"), which the threads do; they end
+/// A signature is cut into jobs (docs/JOBS.md, "Signing with threads of your own"), which the threads do; they end
 /// before the call returns. No more threads start than there are jobs. With the same randomizer, or with none, the
 /// signature is byte for byte that of [`SecretKey`] in one thread. A key that [`check`](SecretKey::check) finds invalid
 /// is refused as `AnswersDisagree`.
@@ -28,7 +28,7 @@ impl<'a, P: ParameterSet> Workers<'a, P> {
     }
 
     /// The same workers, which do each job two times and compare the answers. Where these differ nothing is signed:
-    /// [`Error::Fault`]. This is for who fears faults, by bad memory or a bad processor (docs/LIBRARY.md, "Faults").
+    /// [`Error::Fault`]. This is for who fears faults, by bad memory or a bad processor (docs/JOBS.md, "Faults").
     pub fn twice(self) -> Self {
         Workers { is_twice: true, ..self }
     }

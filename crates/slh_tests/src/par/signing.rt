@@ -4,8 +4,8 @@ ghost use Rattle.slh_params.specs.Params.{sig_len};
 ghost use Rattle.slh_params.specs.ParamSet.{params};
 
 use super::fixtures::unwritten;
-use slh_core::{PreHash, Randomizer, SecretKey, hash_sign, sign};
-use slh_par::{Cutting, Gate, ParFault, Workers, hash_sign_par, sign_par};
+use slh_core::{PreHash, PreHasher, Randomizer, SecretKey, hash_sign, sign};
+use slh_par::{Cutting, Gate, ParFault, Workers, hash_sign_digest_par, hash_sign_par, sign_par};
 use std::alloc::{Allocator, Global};
 use std::test::Fail;
 use std::thread::Threads;
@@ -17,10 +17,12 @@ pub(crate) enum Form {
     Pure,
     /// Its digest under SHA-256.
     PreHash,
+    /// The same, where the caller has the digest.
+    Digest,
 }
 
-/// Both forms.
-pub(crate) const FORMS: [Form; 2] = [Form::Pure, Form::PreHash];
+/// Both forms, the pre-hash form in two ways.
+pub(crate) const FORMS: [Form; 3] = [Form::Pure, Form::PreHash, Form::Digest];
 
 impl Form {
     /// Signs a message by several workers, deterministically.
@@ -58,6 +60,14 @@ impl Form {
                 gate,
                 out,
             ),
+            Form::Digest => {
+                let mut hasher = PreHasher::new(PreHash::Sha256);
+                hasher.update(msg);
+                let digest = hasher.finish();
+                hash_sign_digest_par(
+                    rt, alloc, &digest, ctx, sk, randomizer, workers, cutting, gate, out,
+                )
+            }
         }
     }
 
@@ -99,7 +109,7 @@ impl Form {
         let randomizer = Randomizer::Deterministic;
         match self {
             Form::Pure => sign(b"abc", ctx, sk, randomizer, &mut sig)?,
-            Form::PreHash => {
+            Form::PreHash | Form::Digest => {
                 hash_sign(b"abc", ctx, PreHash::Sha256, sk, randomizer, &mut sig)?;
             }
         }

@@ -1,14 +1,7 @@
-use Rattle.std.proofs.Common.{ℕ, ◌+◌, ◌<◌}
-use Rattle.slh_params.specs.Address.{WOTS_PK}
+use Rattle.std.proofs.Common.{◌*◌}
 use Rattle.slh_params.specs.ParamSet.{params}
-use Rattle.slh_few.specs.KeyStreams.{HasAbsorbedKey}
-use Rattle.slh_few.specs.Parts.{end_to_end}
-use Rattle.slh_few.specs.Wots.{wots_address, whole_chain}
-use Rattle.slh_few.specs.Xmss.{place}
+use Rattle.slh_few.specs.KeyStreams.{HaveAbsorbedEnds}
 use Rattle.slh_few.proofs.key_lanes.eight_pks.Given as goal
 
-abbrev pub invariant-loop-c : goal.invariant-loop-c
-invariant-loop-c l = (j : ℕ) → j < 8
-    → HasAbsorbedKey l.streams j (params l.seeds.set) l.seeds.pk_seed.now
-    (wots_address (place l.at.layer l.at.tree (l.at.pair + j)) WOTS_PK 0 0)
-    (end_to_end (whole_chain (params l.seeds.set) l.seeds.sk_seed.now l.seeds.pk_seed.now (place l.at.layer l.at.tree (l.at.pair + j))) l.c)
+abbrev pub invariant-loop-pair : goal.invariant-loop-pair
+invariant-loop-pair l = HaveAbsorbedEnds (params l.seeds.set) l.seeds.sk_seed.now l.seeds.pk_seed.now l.at (2 * l.pair) l.streams

@@ -1,60 +1,72 @@
 -- After each turn the keys' streams have absorbed the ends so far, and the kept values of as many chains are written.
-use Rattle.std.proofs.Common.{◌≡◌, ℕ, ◌+◌, inl, inr, ap, subst, sym, ◌∙◌, arith}
+use Rattle.std.proofs.Common.{◌≡◌, ℕ, ◌+◌, ◌-◌, ◌*◌, inl, inr, refl, ap, subst, sym, ◌∙◌, arith}
 use Rattle.std.proofs.lemmas.Bool.{cases_lt}
-use Rattle.slh_params.specs.Address.{Address, WOTS_PK}
 use Rattle.slh_params.specs.Params.{len}
 use Rattle.slh_params.specs.ParamSet.{params}
-use Rattle.slh_lanes.specs.Lanes.{value_at}
 use Rattle.slh_few.specs.KeptChains.{kept_chain, kept_chain_len, kept_chains}
-use Rattle.slh_few.specs.Parts.{end_to_end, part}
-use Rattle.slh_few.specs.Wots.{wots_address, whole_chain}
-use Rattle.slh_few.specs.Xmss.{AreKeysFrom, place}
+use Rattle.slh_few.specs.KeyStreams.{HaveAbsorbedEnds}
+use Rattle.slh_few.specs.Parts.{part}
+use Rattle.slh_few.specs.Xmss.{AreKeysFrom}
 use Rattle.slh_few.specs.declared.place.Place.{Place}
-use Rattle.slh_few.proofs.EightKeys.{among_eight, finished_keys}
-use Rattle.slh_few.proofs.Ends.{end_to_end-more, end_to_end-none}
+use Rattle.slh_few.proofs.EightKeys.{absorbed_more, absorbed_none, absorbed_two, among_eight, finished_keys}
 use Rattle.slh_few.proofs.PartWrites.{all_parts}
 use Rattle.slh_few.proofs.key_lanes.eight_pks_keeping.Goals as goal
+use Rattle.slh_few.proofs.key_lanes.eight_pks_keeping.Goals.{then-len-eq1, else-len-eq1}
 
-pub loop-c-init : goal.loop-c-init
-loop-c-init c = record {
-  absorbed = λ j lane.
-      rw (end_to_end-none (whole_chain (params c.args.seeds.now.set) c.args.seeds.now.sk_seed.now c.args.seeds.now.pk_seed.now (place c.first_of_eight-first.result.layer c.first_of_eight-first.result.tree (c.first_of_eight-first.result.pair + j))))
-      (c.key_streams-streams.ensures j lane);
+pub loop-pair-init : goal.loop-pair-init
+loop-pair-init c = record {
+  absorbed = absorbed_none (params c.args.seeds.now.set) c.args.seeds.now.sk_seed.now c.args.seeds.now.pk_seed.now c.first_of_eight-first.result c.key_streams-streams.result (2 * 0)
+      (omega arith) c.key_streams-streams.ensures;
   kept = λ i none. absurd (omega (arith, none));
 }
 
-pub loop-c-preserved : goal.loop-c-preserved
-loop-c-preserved c =
+pub loop-pair-preserved : goal.loop-pair-preserved
+loop-pair-preserved c =
     let p = params c.args.seeds.now.set in
     let sk = c.args.seeds.now.sk_seed.now in
     let pk = c.args.seeds.now.pk_seed.now in
     let first = c.first_of_eight-first.result in
-    let now : ℕ = c.loop-c.c in
-    let old = c.loop-c.invariant in
-    let key = among_eight c.args.at first c.first_of_eight-first.ensures in
+    let now : ℕ = c.loop-pair.pair in
+    let old = c.loop-pair.invariant in
+    let ends = c.two_chain_ends_keeping.ensures in
+    let same = ap (λ (a : Place). kept_chain p sk pk a) (among_eight c.args.at first c.first_of_eight-first.ensures) in
     record {
-      absorbed = λ j lane.
-          let at = place first.layer first.tree (first.pair + j) in
-          let ends = whole_chain p sk pk at in
-          let a : Address = wots_address at WOTS_PK 0 0 in
-          let end : value_at c.chain_ends_keeping-ends.result j c.n.result ≡ ends now =
-          ap (value_at c.chain_ends_keeping-ends.result j) c.n.ensures ∙ c.chain_ends_keeping-ends.ensures.ends j lane in
-          rw (end_to_end-more ends now, sym end) (c.absorb_lanes.ensures p pk a (end_to_end ends now) j lane (sym c.n.ensures) (old.absorbed j lane));
-      kept = λ i lt. elim (cases_lt i now) [
-        | inl low ↦ c.chain_ends_keeping-ends.ensures.others i (omega (arith, low)) ∙ old.kept i low
-        | inr ge ↦
-            let e : i ≡ now = omega (arith, lt, ge) in
-            ap (part (kept_chain_len p) c.chain_ends_keeping-ends.new.kept) e ∙ c.chain_ends_keeping-ends.ensures.kept
-            ∙ ap (λ (a : Place). kept_chain p sk pk a now) key ∙ ap (kept_chain p sk pk c.args.at) (sym e)
+      absorbed = absorbed_two p sk pk first c.loop-pair.streams c.absorb_two.new.streams c.two_chain_ends_keeping.new.x c.two_chain_ends_keeping.new.y c.n.result
+          (2 * now) (2 * (now + 1)) (sym c.n.ensures) (omega arith) c.absorb_two.ensures ends.x ends.y old.absorbed;
+      kept = λ i lt. elim (cases_lt i (2 * now)) [
+        | inl low ↦ ends.others i (omega (arith, low)) (omega (arith, low)) ∙ old.kept i low
+        | inr ge ↦ elim (cases_lt i (2 * now + 1)) [
+          | inl one ↦
+              let e : 2 * now ≡ i = omega (arith, ge, one) in
+              subst (λ d. part (kept_chain_len p) c.two_chain_ends_keeping.new.kept d ≡ kept_chain p sk pk c.args.at d) e
+              (ends.x_kept ∙ ap (λ f. f (2 * now)) same)
+          | inr two ↦
+              let e : 2 * now + 1 ≡ i = omega (arith, lt, two) in
+              subst (λ d. part (kept_chain_len p) c.two_chain_ends_keeping.new.kept d ≡ kept_chain p sk pk c.args.at d) e
+              (ends.y_kept ∙ ap (λ f. f (2 * now + 1)) same)
+        ]
       ];
     }
 
 pub returns-clause-keys : goal.returns-clause-keys
 returns-clause-keys c =
-    subst (λ (a : Place). AreKeysFrom (params c.args.seeds.now.set) c.args.seeds.now.sk_seed.now c.args.seeds.now.pk_seed.now a c.finished.result.items)
-    c.first_of_eight-first.ensures (
-    finished_keys c.args.seeds.now.set c.args.seeds.now.sk_seed.now c.args.seeds.now.pk_seed.now c.first_of_eight-first.result c.loop-c.streams c.finished.result.items c.loop-c.c
-    (omega (arith, c.len-c-end.ensures)) c.finished.ensures.len c.finished.ensures.values c.loop-c.invariant.absorbed)
+    let p = params c.args.seeds.now.set in
+    let sk = c.args.seeds.now.sk_seed.now in
+    let pk = c.args.seeds.now.pk_seed.now in
+    let first = c.first_of_eight-first.result in
+    let now : ℕ = c.loop-pair.pair in
+    let after = λ (k : ℕ). HaveAbsorbedEnds p sk pk first k c.loop-pair.streams in
+    let all : HaveAbsorbedEnds p sk pk first (len p) c.if-len-eq1.streams = elim c.if-len-eq1.branch [
+      | then-len-eq1 w ↦
+          let last : 2 * now ≡ c.len-len.result - 1 = omega (arith, w.if-len-eq1.true) in
+          rw w.streams-is (absorbed_more p sk pk first c.loop-pair.streams w.absorb_lanes.new.streams w.chain_ends_keeping-ends.result w.n-then-len-eq1.result (c.len-len.result - 1) (len p)
+          (sym w.n-then-len-eq1.ensures) (omega (arith, last, w.if-len-eq1.true, c.len-len.ensures)) w.absorb_lanes.ensures w.chain_ends_keeping-ends.ensures.ends (subst after last c.loop-pair.invariant.absorbed))
+      | else-len-eq1 w ↦
+          let even : 2 * now ≡ len p = omega (arith, w.if-len-eq1.false, c.len-len.ensures) in
+          rw w.streams-is (subst after even c.loop-pair.invariant.absorbed)
+    ] in
+    subst (λ (a : Place). AreKeysFrom p sk pk a c.finished.result.items) c.first_of_eight-first.ensures (
+    finished_keys c.args.seeds.now.set sk pk first c.if-len-eq1.streams c.finished.result.items (len p) refl c.finished.ensures.len c.finished.ensures.values all)
 
 pub returns-clause-kept : goal.returns-clause-kept
 unfolding kept_chains
@@ -62,5 +74,21 @@ returns-clause-kept c =
     let p = params c.args.seeds.now.set in
     let sk = c.args.seeds.now.sk_seed.now in
     let pk = c.args.seeds.now.pk_seed.now in
-    all_parts (kept_chain p sk pk c.args.at) (kept_chain_len p) (len p) c.loop-c.kept (omega (arith, c.loop-c.auto.kept, c.requires))
-    (λ i low. c.loop-c.invariant.kept i (omega (arith, low, c.len-c-end.ensures)))
+    let now : ℕ = c.loop-pair.pair in
+    let old = c.loop-pair.invariant in
+    let f = kept_chain p sk pk c.args.at in
+    let same = ap (λ (a : Place). kept_chain p sk pk a) (among_eight c.args.at c.first_of_eight-first.result c.first_of_eight-first.ensures) in
+    elim c.if-len-eq1.branch [
+      | then-len-eq1 w ↦
+          let end : ℕ = c.len-len.result - 1 in
+          let last : 2 * now ≡ end = omega (arith, w.if-len-eq1.true) in
+          rw w.kept-is (all_parts f (kept_chain_len p) (len p) w.chain_ends_keeping-ends.new.kept (omega (arith, w.chain_ends_keeping-ends.auto.kept, c.loop-pair.auto.kept, c.requires)) (λ i lt. elim (cases_lt i end) [
+            | inl low ↦ w.chain_ends_keeping-ends.ensures.others i (omega (arith, low)) ∙ old.kept i (omega (arith, low, last))
+            | inr ge ↦
+                let e : end ≡ i = omega (arith, lt, ge, c.len-len.ensures) in
+                subst (λ d. part (kept_chain_len p) w.chain_ends_keeping-ends.new.kept d ≡ f d) e (w.chain_ends_keeping-ends.ensures.kept ∙ ap (λ g. g end) same)
+          ]))
+      | else-len-eq1 w ↦
+          let even : 2 * now ≡ len p = omega (arith, w.if-len-eq1.false, c.len-len.ensures) in
+          rw w.kept-is (all_parts f (kept_chain_len p) (len p) c.loop-pair.kept (omega (arith, c.loop-pair.auto.kept, c.requires)) (λ i lt. old.kept i (omega (arith, lt, even))))
+    ]

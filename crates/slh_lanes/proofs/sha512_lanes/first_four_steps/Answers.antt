@@ -3,7 +3,7 @@ use Rattle.sha2.specs.Sha512.{rounds, schedule}
 use Rattle.slh_lanes.proofs.sha512_lanes.first_four_steps.Goals as goal
 
 pub returns : goal.returns
-returns c = λ j lane b h window held.
+returns g c = λ j lane b h window held.
     let after = rounds h (schedule b 64) in
     let s1 = c.first_step-v.ensures j lane b h window held in
     let s2 = c.first_step-v-2.ensures j lane b h window s1 in

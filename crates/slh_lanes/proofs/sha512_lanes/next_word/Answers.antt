@@ -1,25 +1,26 @@
-use Rattle.std.proofs.Common.{◌≡◌, ◌%◌, ◌+◌, arith, refl}
-use Rattle.slh_lanes.proofs.Columns.{column_at, column_set}
+use Rattle.std.proofs.Common.{◌≡◌, ◌%◌, ◌+◌, length, arith, refl}
+use Rattle.slh_lanes.proofs.Columns.{lane_column_at, lane_column_set}
 use Rattle.slh_lanes.proofs.sha512_lanes.next_word.Goals as goal
 
 pub returns : goal.returns
-returns c =
+returns g c =
     let p = c.args.place in
     let w = c.args.w.now in
+    let long : length c.args.w.now ≡ 16 = omega arith in
     let at : p % 16 ≡ p = omega arith in
     record {
       value = λ j h.
           rw (
             at,
-            c.add-word.ensures j h,
-            c.add-w2.ensures j h,
-            c.add-w1.ensures j h,
+            c.sum-word.ensures j h,
+            c.sum-w2.ensures j h,
+            c.sum-w1.ensures j h,
             c.small_sigma1.ensures j h,
             c.small_sigma0.ensures j h,
-            column_at j w ((p + 14) % 16),
-            column_at j w ((p + 9) % 16),
-            column_at j w ((p + 1) % 16),
-            column_at j w p,
+            lane_column_at g.W.LongLanes.lane j w ((p + 14) % 16) c.index-w-place.result (omega arith),
+            lane_column_at g.W.LongLanes.lane j w ((p + 9) % 16) c.index-w-place-2.result (omega arith),
+            lane_column_at g.W.LongLanes.lane j w ((p + 1) % 16) c.index-w-place-3.result (omega arith),
+            lane_column_at g.W.LongLanes.lane j w p c.index-w-place-4.result (omega arith),
           ) refl;
-      window = λ j h. column_set j w p c.add-word.result;
+      window = λ j h. lane_column_set g.W.LongLanes.lane j w p c.sum-word.result;
     }

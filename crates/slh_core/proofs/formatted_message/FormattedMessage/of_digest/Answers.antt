@@ -9,5 +9,6 @@ pub returns-clause-bytes : goal.returns-clause-bytes
 unfolding bytes_of
 returns-clause-bytes c =
     let short : length c.args.ctx.now ≤ 255 = search rules in
-    let named : c.oid.result ≡ oid c.args.digest.function = search rules in
-    rw named (pre_hash_parts c.in_ok-head.head c.args.ctx.now (oid c.args.digest.function) c.args.digest.bytes short c.in_ok-head.ensures.head)
+    let digest = c.args.digest.now in
+    let named : c.oid.result ≡ oid digest.function = search rules in
+    rw (named, c.copy.ensures) (pre_hash_parts c.in_ok-head.head c.args.ctx.now (oid digest.function) digest.bytes short c.in_ok-head.ensures.head)

@@ -28,7 +28,7 @@ loop-step-preserved c = λ p pk s j lane a held.
           let m : min k count ≡ k = omega arith in
           let n : min (k + 1) count ≡ k + 1 = omega arith in
           c.pick_nodes-nodes.ensures.below j p.n lane (rw number lt)
-          ∙ c.f-next.ensures p pk s j lane _ (c.set_hashes.ensures j lane a held)
+          ∙ c.f_each-next.ensures p pk s j lane lt _ (c.set_hashes.ensures j lane a held)
           ∙ (λ i. F p pk (record a { hash = here i }) ((before ∙ ap after m) i))
           ∙ rw (n, add-one) refl
       | inr ge ↦

@@ -1,0 +1,6 @@
+//go:build !portable
+
+package slh
+
+// #cgo LDFLAGS: -l:libslh.a
+import "C"

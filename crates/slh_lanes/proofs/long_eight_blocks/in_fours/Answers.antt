@@ -1,0 +1,14 @@
+use Rattle.std.proofs.Common.{◌≡◌, ◌+◌, ◌-◌, List, ℕ, inl, inr, arith, ap, ◌∙◌}
+use Rattle.std.proofs.lemmas.Bool.{cases_lt}
+use Rattle.sha2.specs.Sha512.{compress}
+use Rattle.slh_lanes.proofs.long_eight_blocks.in_fours.Goals as goal
+
+pub returns : goal.returns
+returns c j lane b words = elim (cases_lt j 4) [
+  | inl low ↦
+      let at : 0 + j ≡ j = omega arith in
+      c.compress_part-2.ensures.others j (inl low) ∙ rw at at (c.compress_part.ensures.words j low) b words
+  | inr ge ↦
+      let at : 4 + (j - 4) ≡ j = omega arith in
+      rw at at (c.compress_part-2.ensures.words (j - 4) (omega arith)) b words ∙ ap (λ (h : List ℕ). compress h b) (c.compress_part.ensures.others j (inr ge))
+]

@@ -1,0 +1,54 @@
+use Rattle.std.proofs.Common.{◌∙◌}
+use Rattle.std.proofs.lemmas.List.{length-map}
+use Rattle.slh_lanes.specs.Columns.{column}
+use Rattle.slh_lanes.proofs.Columns.{column_at}
+use Rattle.slh_lanes.proofs.Lanes8.{listed_8}
+use Rattle.slh_lanes.proofs.sixteen_blocks.join_states.Goals as goal
+
+pub returns-clause-low : goal.returns-clause-low
+returns-clause-low c j h =
+    let x = c.args.x.now in
+    rw (
+      c.join.ensures.low j h,
+      c.join-2.ensures.low j h,
+      c.join-3.ensures.low j h,
+      c.join-4.ensures.low j h,
+      c.join-5.ensures.low j h,
+      c.join-6.ensures.low j h,
+      c.join-7.ensures.low j h,
+      c.join-8.ensures.low j h,
+    )
+    (rw (
+      column_at j x 0,
+      column_at j x 1,
+      column_at j x 2,
+      column_at j x 3,
+      column_at j x 4,
+      column_at j x 5,
+      column_at j x 6,
+      column_at j x 7,
+    ) at (listed_8 (column j x) (length-map _ _ ∙ c.told-x)))
+
+pub returns-clause-high : goal.returns-clause-high
+returns-clause-high c j h =
+    let x = c.args.y.now in
+    rw (
+      c.join.ensures.high j h,
+      c.join-2.ensures.high j h,
+      c.join-3.ensures.high j h,
+      c.join-4.ensures.high j h,
+      c.join-5.ensures.high j h,
+      c.join-6.ensures.high j h,
+      c.join-7.ensures.high j h,
+      c.join-8.ensures.high j h,
+    )
+    (rw (
+      column_at j x 0,
+      column_at j x 1,
+      column_at j x 2,
+      column_at j x 3,
+      column_at j x 4,
+      column_at j x 5,
+      column_at j x 6,
+      column_at j x 7,
+    ) at (listed_8 (column j x) (length-map _ _ ∙ c.told-y)))

@@ -1,0 +1,28 @@
+/*
+ * Verifying signatures of SLH-DSA (FIPS 205) with SHA-2 as portable C: the calls of slh_verify.h. Version @VERSION@.
+ *
+ *   cc -Os program.c slh_verify.c
+ *
+ * It takes a C11 compiler, and the header slh_verify.h. Of C it uses memcpy, memmove and memset. It is for devices:
+ * all calls share one static memory of SLH_VERIFY_MEMORY bytes, so one call runs at a time, and none from a signal or
+ * an interrupt while another runs. A call whose arguments do not fit returns SLH_NO_MEMORY.
+ *
+ *   -DSLH_VERIFY_MEMORY=SLH_DSA_SHA2_128S_VERIFY_MEMORY   for one set; by itself it is enough for each set
+ *   -DSLH_VERIFY_MEMORY_AT=NAME                           a memory of your own, uint64_t NAME[SLH_VERIFY_MEMORY / 8]
+ *
+ * A message in memory is copied there: slh_verify and slh_hash_verify take some 100 bytes, or as many more as
+ * SLH_VERIFY_MEMORY is made larger. slh_hash_verify_digest takes any image by its digest.
+ *
+@COMMON@
+ */
+#include <slh_verify.h>
+
+#include <stddef.h>
+#include <stdint.h>
+#include <string.h>
+
+#define STOP(why) ((void)(why))
+#ifndef SLH_VERIFY_MEMORY
+#define SLH_VERIFY_MEMORY SLH_MAX_VERIFY_MEMORY
+#endif
+#define MEMORY_BYTES (SLH_VERIFY_MEMORY - 3 * 8)

@@ -1,0 +1,249 @@
+#!/usr/bin/env python3
+"""Writes the library for C as portable C: two files, each of which any C11 compiler takes beside the headers.
+
+usage: tools/portable.py MODULE FOLDER      writes FOLDER/slh.c and FOLDER/slh_verify.c
+       tools/portable.py wasm2c             where the program wasm2c is
+
+MODULE is the proved code as a WebAssembly module with a 64-bit memory and without vectors, as tools/target.sh makes it.
+wasm2c 1.0.36 of WABT writes it as C (WASM2C names another command). Of what it writes the functions alone are taken,
+under shorter names, and of those just what the calls of the file reach, and the constants. All else is in portable/,
+and is ours: what the functions do to memory (machine.h), how the calls hand their arguments over (parts.h, calls.c,
+verify_calls.c), and where the memory is from (taken_memory.c, fixed_memory.c).
+
+STACK_BYTES in the files is what the deepest path of calls takes of the module's stack: each function takes a constant
+number of bytes of it, none calls itself but those of NESTED, and no call goes through a pointer. That is looked at
+here, and where it is not so, or a function does what machine.h does not have, nothing is written.
+"""
+import os
+import pathlib
+import re
+import shutil
+import subprocess
+import sys
+import tempfile
+
+ROOT = pathlib.Path(__file__).resolve().parent.parent
+PARTS = ROOT / "portable"
+WASM2C = os.environ.get("WASM2C", "wasm2c-1.0.36")
+PROVED = "/* ---- The proved code, as wasm2c writes it. ---- */\n\n"
+VERIFY_CALLS = ["hash_verify", "hash_verify_digest", "verify", "version"]
+FILES = {
+    "slh.c": ["head.c", "machine.h", "taken_memory.c", "parts.h", "verify_calls.c", "calls.c"],
+    "slh_verify.c": ["verify_head.c", "machine.h", "fixed_memory.c", "parts.h", "verify_calls.c"],
+}
+# The functions that call themselves, and how many calls of each are open at once at most. A FORS tree has the height a,
+# which is at most 14 in the six sets; the first call is for a height of at most a, and each within for one less.
+NESTED = {"slh_few_fors_tree_ForsTree_eight_nodes": 15}
+DEFINITION = re.compile(r"^(u32|u64|void) (w2c_slh_\w+)\(w2c_slh\* instance([^{;]*)\) \{\n(.*?)^\}\n", re.M | re.S)
+# What wasm2c names otherwise than these files, in this order.
+NAMES = [
+    (r"\bmemory_copy\(&instance->w2c_memory, &instance->w2c_memory, ", "memory_copy(m, "),
+    (r"&instance->w2c_memory\b", "m"),
+    (r"\binstance->w2c_0x5F_stack_pointer\b", "m->stack_pointer"),
+    (r"\binstance->w2c_in_call\b", "m->in_call"),
+    (r"\binstance\b", "m"),
+    (r"\bvar_([ijlpB]\d+)\b", r"\1"),
+    (r"^ *FUNC_(PRO|EPI)LOGUE;\n", ""),
+]
+# The words in a body that stand before a parenthesis and are no calls, and the operations of machine.h.
+OPERATIONS = re.findall(r"(?:#define|INLINE \w+) (\w+)\(", (PARTS / "machine.h").read_text())
+OPERATIONS = {*OPERATIONS, "if", "switch", "return"}
+
+
+def refuse(why):
+    sys.exit(f"tools/portable.py: {why}")
+
+
+def translated(module):
+    """What wasm2c writes of a module."""
+    said = subprocess.run([WASM2C, "--version"], stdout=subprocess.PIPE, text=True, check=True).stdout.strip()
+    if said != "1.0.36":
+        refuse(f"{WASM2C} is {said}, and not 1.0.36")
+    with tempfile.TemporaryDirectory() as folder:
+        file = f"{folder}/slh.c"
+        subprocess.run([WASM2C, "--enable-memory64", "-n", "slh", str(module), "-o", file], check=True)
+        return pathlib.Path(file).read_text()
+
+
+def plain(name):
+    """The name of a function without what wasm2c and the toolchain put round it: module_NAME for the call NAME."""
+    name = re.sub(r"0x([0-9A-F]{2})", lambda it: chr(int(it[1], 16)), name.removeprefix("w2c_slh_"))
+    if name.startswith("slh_") and name.endswith("_0"):
+        return "module_" + name[len("slh_") : -len("_0")]
+    words = [it for it in re.split(r"\W+", name) if it]
+    return "_".join(word for at, word in enumerate(words) if words[at - 1 : at] != [word]).strip("_")
+
+
+def functions(text):
+    """The functions, by the names that wasm2c gives them: what each returns, its parameters and its body."""
+    found = {it[2]: (it[1], it[3], it[4]) for it in DEFINITION.finditer(text)}
+    exported = set(re.findall(r"^/\* export: '.*' \*/\n\w+\*? (\w+)\(", text, re.M))
+    return {name: it for name, it in found.items() if name not in exported}
+
+
+def renamed(found):
+    """The functions by plain names, in bodies, too."""
+    plains = {name: plain(name) for name in found}
+    if len(set(plains.values())) != len(plains):
+        refuse(f"functions share a name: {sorted(plains.values())}")
+    result = {}
+    for name, (kind, parameters, body) in found.items():
+        body = re.sub(r"\bw2c_slh_\w+", lambda it: plains.get(it[0], it[0]), body)
+        for old, new in NAMES:
+            body = re.sub(old, new, body, flags=re.M)
+        parameters = re.sub(r"\bvar_(p\d+)\b", r"\1", "struct machine *m" + " ".join(parameters.split()))
+        unused = [it for it in re.findall(r"\w+(?=,|$)", parameters) if not re.search(rf"\b{it}\b", body)]
+        result[plains[name]] = (kind, parameters, "".join(f"  (void){it};\n" for it in unused) + body)
+    return result
+
+
+def called(found, name):
+    """The functions that a function calls. It does nothing that machine.h does not have."""
+    words = set(re.findall(r"\b([A-Za-z_]\w*) ?\(", found[name][2]))
+    other = words - set(found) - OPERATIONS
+    if other or re.search(r"\b(f32|f64|v128|w2c_\w+|CALL_INDIRECT)\b", found[name][2]):
+        refuse(f"{name} does what machine.h does not have: {', '.join(sorted(other))}")
+    return words & set(found)
+
+
+def reached(found, names):
+    """The functions that these reach, in the order in which they stand."""
+    wanted, left = set(), list(names)
+    while left:
+        name = left.pop()
+        if name not in wanted:
+            wanted.add(name)
+            left += called(found, name)
+    return {name: it for name, it in found.items() if name in wanted}
+
+
+# What a function does to the stack pointer: takes a number of bytes at its begin, gives them back; or reads it at its
+# begin, and writes what it was.
+TAKES = re.compile(r"(j\d+) = m->stack_pointer; (j\d+) = (\d+)ull; \1 -= \2; l\d+ = \1; m->stack_pointer = \1;")
+GIVES = re.compile(r"(j\d+) = l\d+; (j\d+) = (\d+)ull; \1 \+= \2; m->stack_pointer = \1;")
+READS = re.compile(r"(j\d+) = m->stack_pointer; (l\d+) = \1;")
+KEEPS = re.compile(r"(j\d+) = (l\d+); m->stack_pointer = \1;")
+
+
+def frame(name, body):
+    """The bytes of the module's stack that a function takes for itself."""
+    body = " ".join(body.split())
+    takes, gives, reads, keeps = [it.findall(body) for it in (TAKES, GIVES, READS, KEEPS)]
+    bytes_of = {int(it[2]) for it in takes + gives}
+    is_plain = len(takes) == 1 if gives else not takes
+    is_plain &= not keeps or (not takes and {it[1] for it in keeps} == {it[1] for it in reads})
+    is_plain &= all(len(re.findall(rf"\b{it[1]} = ", body)) == 2 for it in reads if keeps)
+    is_plain &= body.count("= m->stack_pointer;") <= 1 and len(bytes_of) <= 1
+    if not is_plain or body.count("m->stack_pointer = ") != len(takes + gives + keeps):
+        refuse(f"what {name} takes of the stack is not to be seen")
+    return max(bytes_of, default=0)
+
+
+def depths(found):
+    """The bytes of the module's stack that each function takes with all that it calls."""
+    known, under_way = {}, set()
+
+    def depth(name):
+        if name in under_way:
+            refuse(f"{name} calls itself through others")
+        if name not in known:
+            under_way.add(name)
+            below, times = called(found, name), 1
+            if name in below:
+                times = NESTED.get(name) or refuse(f"{name} calls itself")
+            own = times * frame(name, found[name][2])
+            known[name] = own + max(map(depth, below - {name}), default=0)
+            under_way.remove(name)
+        return known[name]
+
+    return {name: depth(name) for name in found}
+
+
+def number(pattern, text):
+    found = re.findall(pattern, text)
+    return int(found[0]) if len(found) == 1 else refuse(f"not once in what wasm2c writes: {pattern}")
+
+
+def stack_top(text):
+    """Where the stack begins, which goes down, and the constants behind it."""
+    top = number(r"instance->w2c_0x5F_stack_pointer = (\d+)ull;", text)
+    if number(r"LOAD_DATA\(instance->w2c_memory, (\d+)ull, ", text) != top:
+        refuse("the constants do not begin where the stack does")
+    return top
+
+
+def constants(text):
+    """The bytes of the constants."""
+    found = re.findall(r"^static const u8 data_segment_data_\w+\[\] = \{\n(.*?)^\};", text, re.M | re.S)
+    numbers = [int(it, 16) for it in re.findall(r"0x[0-9a-f]{2}", "".join(found))]
+    if len(found) != 1 or len(numbers) != number(r"LOAD_DATA\(instance->w2c_memory, \d+ull, \w+, (\d+)\)", text):
+        refuse("the constants are not one block of the bytes that the module says")
+    return numbers
+
+
+def array_of(numbers):
+    rows = [", ".join(map(str, numbers[at : at + 24])) for at in range(0, len(numbers), 24)]
+    return "static const uint8_t constants[CONSTANT_BYTES] = {\n    " + ",\n    ".join(rows) + ",\n};\n"
+
+
+def version_of(found):
+    """The number that slh_version returns."""
+    return number(r"= (\d+)u;\n  return ", found["module_version"][2])
+
+
+def prototype(name, kind, parameters):
+    return f"static {kind} {name}({parameters})"
+
+
+def module_as_c(text, calls):
+    """The module as C, of it what these calls reach: the numbers and the constants, and the functions."""
+    whole = renamed(functions(text))
+    found = reached(whole, [f"module_{it}" for it in calls if it != "version"])
+    numbers = {"MODULE_VERSION": version_of(whole), "STACK_TOP": f"UINT64_C({stack_top(text)})"}
+    numbers["STACK_BYTES"] = (max(depths(found).values()) + 15) // 16 * 16
+    numbers["CONSTANT_BYTES"] = len(constants(text))
+    declared = "".join(prototype(name, *it[:2]) + ";\n" for name, it in found.items())
+    bodies = ["\n" + prototype(name, *it[:2]) + " {\n" + it[2] + "}\n" for name, it in found.items()]
+    defined = "".join(f"#define {name} {it}\n" for name, it in numbers.items())
+    return defined + array_of(constants(text)), PROVED + declared + "".join(bodies)
+
+
+def source(name):
+    return (PARTS / name).read_text()
+
+
+def head_of(name):
+    """The head of a file, with the version and with what both files say."""
+    common = "".join(f" * {it}".rstrip() + "\n" for it in (PARTS / "made_of.txt").read_text().splitlines())
+    version = (ROOT / "VERSION").read_text().strip()
+    return source(name).replace("@VERSION@", version).replace("@COMMON@\n", common)
+
+
+def file_of(text, parts):
+    """A file: its head, the constants, the machine, the functions, and the calls."""
+    exports = re.findall(r"^/\* export: 'slh_(\w+)' \*/\nu32 ", text, re.M)
+    numbers, code = module_as_c(text, sorted(exports) if "calls.c" in parts else VERIFY_CALLS)
+    head, machine, *rest = parts
+    return "\n".join([head_of(head), numbers, source(machine), code, *map(source, rest)])
+
+
+def program():
+    """The program wasm2c, behind the script by which tools/setup.sh has it called."""
+    command = pathlib.Path(shutil.which(WASM2C) or refuse(f"there is no {WASM2C}")).resolve()
+    behind = command.with_name("wasm2c.program")
+    return behind if behind.exists() else command
+
+
+def main():
+    if sys.argv[1:] == ["wasm2c"]:
+        return print(program())
+    if len(sys.argv) != 3:
+        sys.exit("usage: tools/portable.py MODULE FOLDER, or wasm2c")
+    text, folder = translated(sys.argv[1]), pathlib.Path(sys.argv[2])
+    folder.mkdir(parents=True, exist_ok=True)
+    for name, parts in FILES.items():
+        (folder / name).write_text(file_of(text, parts))
+
+
+if __name__ == "__main__":
+    main()
