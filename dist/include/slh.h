@@ -36,9 +36,9 @@
  * once. Nothing is claimed of the time that a call takes.
  *
  * A call that takes a secret key, seeds or answers clears before it returns what it left in the stack below its caller
- * and in the registers that a call need not keep. This is tested (docs/LIBRARY.md, "What a call leaves"). Left to the
+ * and in the registers that a call need not keep. This is tested (docs/DUTIES.md, "What a call leaves"). Left to the
  * caller are buffers of his own (slh_erase), what the frame of a signal, swap or a core dump keeps, and the stack of the
- * module for WebAssembly.
+ * module for WebAssembly. The portable slh.c (docs/FIRMWARE.md) allocates memory, and erases that alone.
  *
  *
  * Arguments stand in this order, as far as a call has them:
@@ -55,6 +55,7 @@
  * verify calls), or a refusal's number. What is not valid is judged in this order, and the number of the first is
  * returned:
  *
+ *   SLH_NO_SUCH_REFUSAL        slh_refusal_name alone: the number is not a result's
  *   SLH_NO_SUCH_SET            the number is not a set's
  *   SLH_NO_SUCH_FUNCTION       the number is not a pre-hash function's
  *   SLH_BAD_CUTTING            a number of levels is above 8 or above the height of the trees
@@ -147,7 +148,7 @@ uint32_t slh_sign(uint32_t set, const uint8_t *sk, size_t sk_len, const uint8_t 
 /*
  * To sign a message that is read in pieces: compute its digest under the pre-hash function, and hand that in (Algorithm
  * 23 after its pre-hash). Digests have the lengths that slh_hash_verify_digest takes, all else those of slh_sign. A
- * function weaker than the set makes a weaker signature: docs/LIBRARY.md has a table.
+ * function weaker than the set makes a weaker signature: docs/DUTIES.md has a table.
  * Returns: SLH_DONE; SLH_NO_SUCH_SET, SLH_NO_SUCH_FUNCTION, SLH_BAD_LENGTH, SLH_BAD_DIGEST_LENGTH,
  * SLH_BAD_RANDOMIZER_LENGTH, SLH_BAD_OUTPUT_LENGTH, SLH_CONTEXT_TOO_LONG.
  */
@@ -217,11 +218,11 @@ uint32_t slh_level(void);
  * - The root of the top tree is PK.root.
  *
  * A tag is HMAC with the hash function of the set (FIPS 205, section 11.2) under SK.prf || SK.seed || PK.seed || 1, cut
- * to n bytes. Its text has the number of the encoding, those of the set and, for a start, PK.root, R and the digest;
- * for a node the start (in signing), the levels, the job and the node. No two different things have one text. So a
- * start or an answer that was made under another key or set, of another R or digest, or for another cutting or job has
- * another tag, unless two values of HMAC are the same.
- * That none are is not proved: tests try it.
+ * to n bytes. Its text has the kind of what is tagged, the number of the encoding, those of the set and, for a start,
+ * PK.root, R and the digest; for a node the start (in signing), the levels, the job and the node. No two different
+ * things have one text. So a start or an answer that was made under another key or set, of another R or digest, or for
+ * another cutting or job has another tag, unless two values of HMAC are the same. Tests try that none are; it is not
+ * proved.
  *
  * Bytes of an answer that the signature doesn't need are not looked at.
  *
@@ -233,12 +234,12 @@ uint32_t slh_level(void);
  * Faults
  *
  * A job tags its node itself: one that is computed wrongly inside a job, by bad memory or a bad processor, is tagged as
- * a right one is. Of 300 random bit flips inside jobs, 227 gave a signature that is wrong but valid: it verifies, and a
- * one-time key has signed a wrong value. The same holds for slh_sign, and for any library that computes each node once.
- * Verifying before release finds few of them.
+ * a right one is. Of 300 random bit flips inside jobs, tried once, 227 gave a signature that is wrong but valid: it
+ * verifies, and a one-time key has signed a wrong value. The same holds for slh_sign, and for any library that computes
+ * each node once. Verifying before release finds few of them.
  *
  * Who fears faults runs each job twice, on different processors, and compares the bytes of the two answers before
- * joining: docs/LIBRARY.md shows it. To try again after a fault in the deterministic variant is the worst case: the
+ * joining: docs/JOBS.md shows it. To try again after a fault in the deterministic variant is the worst case: the
  * same message takes the same one-time keys again, with other values to sign. Give each signature a fresh randomizer.
  */
 

@@ -15,7 +15,8 @@
  * is taken, and the bytes may be any.
  *
  * No call allocates memory or keeps anything of its arguments. Any number of threads may be in any of the calls at
- * once.
+ * once. Of the portable C (docs/FIRMWARE.md) slh.c allocates the memory of a call, and slh_verify.c takes one call at a
+ * time.
  *
  * lib/libslh_verify.a has the calls of this header alone, for firmware. slh.h has these and all others.
  */
@@ -27,10 +28,10 @@
 
 /* The version of this header: three numbers, the number that slh_version returns of the same version, and the text. */
 #define SLH_VERSION_MAJOR 0
-#define SLH_VERSION_MINOR 5
+#define SLH_VERSION_MINOR 6
 #define SLH_VERSION_PATCH 0
 #define SLH_VERSION_NUMBER (1000000 * SLH_VERSION_MAJOR + 1000 * SLH_VERSION_MINOR + SLH_VERSION_PATCH)
-#define SLH_VERSION "0.5.0"
+#define SLH_VERSION "0.6.0"
 
 /* Stands before each call whose result has to be looked at. A compiler that can warns where that is not done. */
 #if defined(__cplusplus) && __cplusplus >= 201703L
@@ -79,7 +80,8 @@ enum slh_function {
 /*
  * What the calls of this header and of slh.h return. SLH_INVALID is not 1, and no call returns 1: calls of OpenSSL and
  * BoringSSL return 1 for a valid signature, and a caller who keeps their test `== 1` would, if SLH_INVALID were 1,
- * accept exactly the forgeries.
+ * accept exactly the forgeries. SLH_NO_MEMORY is of the portable C alone (docs/FIRMWARE.md): malloc refused the memory
+ * of the call, or the arguments do not fit into the device's. It is told before all else, and nothing is written.
  */
 enum slh_result {
     SLH_DONE = 0,
@@ -98,7 +100,8 @@ enum slh_result {
     SLH_NO_SUCH_JOB = 26,
     SLH_BAD_START_LENGTH = 27,
     SLH_BAD_START = 28,
-    SLH_INVALID = 30
+    SLH_INVALID = 30,
+    SLH_NO_MEMORY = 37
 };
 
 /* n of each set: the length of a hash value, of a seed and of a randomizer in bytes. */
@@ -127,6 +130,19 @@ enum slh_result {
 #define SLH_DSA_SHA2_256S_SIGNATURE 29792
 #define SLH_DSA_SHA2_256F_SIGNATURE 49856
 #define SLH_MAX_SIGNATURE 49856
+
+/*
+ * The memory that the portable slh_verify.c takes for a set in bytes (docs/FIRMWARE.md): its signature, a context, a
+ * digest or a message of 64 bytes, the stack and the constants of the proved code. A longer message takes as many more.
+ */
+#define SLH_VERIFY_MEMORY_FOR(signature, message) (15360 + ((signature) + 15) / 16 * 16 + ((message) + 15) / 16 * 16)
+#define SLH_DSA_SHA2_128S_VERIFY_MEMORY SLH_VERIFY_MEMORY_FOR(SLH_DSA_SHA2_128S_SIGNATURE, 0)
+#define SLH_DSA_SHA2_128F_VERIFY_MEMORY SLH_VERIFY_MEMORY_FOR(SLH_DSA_SHA2_128F_SIGNATURE, 0)
+#define SLH_DSA_SHA2_192S_VERIFY_MEMORY SLH_VERIFY_MEMORY_FOR(SLH_DSA_SHA2_192S_SIGNATURE, 0)
+#define SLH_DSA_SHA2_192F_VERIFY_MEMORY SLH_VERIFY_MEMORY_FOR(SLH_DSA_SHA2_192F_SIGNATURE, 0)
+#define SLH_DSA_SHA2_256S_VERIFY_MEMORY SLH_VERIFY_MEMORY_FOR(SLH_DSA_SHA2_256S_SIGNATURE, 0)
+#define SLH_DSA_SHA2_256F_VERIFY_MEMORY SLH_VERIFY_MEMORY_FOR(SLH_DSA_SHA2_256F_SIGNATURE, 0)
+#define SLH_MAX_VERIFY_MEMORY SLH_DSA_SHA2_256F_VERIFY_MEMORY
 
 /* The most bytes of a context. */
 #define SLH_MAX_CONTEXT 255
