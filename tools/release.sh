@@ -34,6 +34,8 @@ fi
 work=$(mktemp -d)
 trap 'rm -rf "$work"' EXIT
 
+has_wasm2c() { "$here/tools/portable.py" wasm2c >/dev/null 2>&1; }
+
 # The kit: its name, the sum of its logic, and the hashes of what compiles, of which one file is not the kit's.
 kit_lines() {
     rt version | sed -n 's/^\([^ ]*\) logic \([^ ]*\).*/kit \1\nlogic \2/p'
@@ -43,19 +45,20 @@ kit_lines() {
         echo "$file $(sha256sum <"$("$here/tools/kit.py" path "$file")" | cut -d ' ' -f 1)"
     done
     echo "tools/clang.sh $(sha256sum <"$here/tools/clang.sh" | cut -d ' ' -f 1)"
-    echo "wabt/wasm2c $(sha256sum <"$("$here/tools/portable.py" wasm2c)" | cut -d ' ' -f 1)"
+    ! has_wasm2c || echo "wabt/wasm2c $(sha256sum <"$("$here/tools/portable.py" wasm2c)" | cut -d ' ' -f 1)"
 }
 
-# Builds all into a folder.
+# Builds all into a folder. Without wasm2c the portable C is not made, and that of dist/ stands there.
 build() {
     local target level
     if [ "$after_ci" = no ]; then
         (cd "$here/crates/slh" && rt check) >&2
         (cd "$here/crates/slh_c" && rt check) >&2
     fi
-    for target in x86-64 aarch64 wasm64 portable; do
+    for target in x86-64 aarch64 wasm64; do
         "$here/tools/target.sh" "$target" "$1"
     done
+    if has_wasm2c; then "$here/tools/target.sh" portable "$1"; else cp -r "$here/dist/portable" "$1"; fi
     for level in x86-64-v2 x86-64-v3 x86-64-v4; do
         "$here/tools/program.sh" "$level" "$1/$level/slh"
     done
@@ -71,6 +74,10 @@ build() {
 write() {
     if [ "$1" != "$(cat "$here/VERSION")" ]; then
         echo "tools/release.sh: the file VERSION says $(cat "$here/VERSION")" >&2
+        exit 2
+    fi
+    if ! has_wasm2c; then
+        echo "tools/release.sh: there is no wasm2c" >&2
         exit 2
     fi
     if [ -n "$(git -C "$here" status --porcelain -- . ':!dist')" ]; then
@@ -115,10 +122,14 @@ check() {
     has_sources_of_release || not_compared "the sources are not those of dist/BUILD"
     tell "dist/BUILD has the version of the file VERSION" \
         "$([ "$(release_says version)" = "$(cat "$here/VERSION")" ] && echo yes || echo no)"
-    diff <(kit_lines | grep /) <(grep / "$here/dist/BUILD") >&2 || not_compared "the kit is not that of dist/BUILD"
+    has_wasm2c || skip "dist/portable" "there is no wasm2c"
+    diff <(kit_lines | grep / | grep -v ^wabt/) <(grep / "$here/dist/BUILD" | grep -v ^wabt/) >&2 ||
+        not_compared "the kit is not that of dist/BUILD"
+    ! has_wasm2c || diff <(kit_lines | grep ^wabt/) <(grep ^wabt/ "$here/dist/BUILD") >&2 ||
+        not_compared "wasm2c is not that of dist/BUILD"
     build "$made"
     for file in "${files[@]}"; do
-        [ "$file" = BUILD ] ||
+        [ "$file" = BUILD ] || { [ "${file%%/*}" = portable ] && ! has_wasm2c; } ||
             tell "dist/$file is built again bit for bit" "$(cmp "$here/dist/$file" "$made/$file" >&2 && echo yes || echo no)"
     done
     end_counts
