@@ -1,8 +1,10 @@
 """Verifies, or signs, each file of a folder or of a list. The signature of FILE is beside it, FILE.sig, of the pure
 form and under the empty context.
 
-usage: archive.py verify|sign --library libslh.so --key KEY --report REPORT [--threads N | --cluster ADDRESS]
+usage: archive.py verify|sign --key KEY --report REPORT [--threads N | --cluster ADDRESS]
                   --folder FOLDER | --list LIST
+
+It needs the package slh, which docs/PACKAGES.md says how to install, and tqdm.
 
 KEY is a key file of the program `slh`: a public one to verify, a secret one to sign. LIST has one path a line, REPORT
 gets one line a file, in the order in which they are done: a word, the path as a JSON text, and where it was not done
@@ -20,8 +22,8 @@ What is in the report is not done again: after a stop (Ctrl-C, or an end by forc
 is deleted is done again. A report belongs to a command, a key and a folder, and is refused for others.
 
 --threads is the number of threads (without it one for each processor), --cluster the scheduler of a cluster of
-dask.distributed, whose workers see the files, the library and, to sign, the secret key under the same paths. What they
-answer is believed. A batch of files whose worker is lost goes to another one.
+dask.distributed, whose workers have the package slh, and see the files and, to sign, the secret key under the same
+paths. What they answer is believed. A batch of files whose worker is lost goes to another one.
 
 The status is 0 where all is valid or signed, 1 where something is not, 2 where the command is refused, and 3 where it
 was stopped or a batch failed, so that some files are not done.
@@ -29,7 +31,7 @@ was stopped or a batch failed, so that some files are not done.
 import argparse
 import collections
 import concurrent.futures
-import ctypes
+import contextlib
 import dataclasses
 import fcntl
 import json
@@ -40,10 +42,12 @@ import signal
 import stat
 import sys
 import threading
-import time
 
-SETS = ["SLH-DSA-SHA2-" + it for it in ("128s", "128f", "192s", "192f", "256s", "256f")]
-DONE, INVALID = 0, 30
+import slh
+import tqdm
+
+SETS = [b"SLH-DSA-SHA2-" + it for it in (b"128s", b"128f", b"192s", b"192f", b"256s", b"256f")]
+KINDS = {b"public": slh.PublicKey, b"secret": slh.SecretKey}
 # How the name of a signature ends while it is written.
 PART = ".sig.part"
 # How many files are verified, or signed, at a time: so many are done again where a run is ended by force.
@@ -54,60 +58,43 @@ FILES = {"verify": 32, "sign": 1}
 class Task:
     """What is done with each file."""
 
-    library: str
-    set: int
-    pk: bytes
+    public: slh.PublicKey
     secret: str  # the path of the secret key to sign with, or None
     root: str  # the folder that names are relative to
 
 
-def call(library, name, *arguments):
-    """Calls with each text of bytes as a pointer and a length. Returns DONE, INVALID, or a refusal's number."""
-    words = []
-    for it in arguments:
-        words += [ctypes.c_uint32(it)] if isinstance(it, int) else [it, ctypes.c_size_t(len(it))]
-    function = getattr(library, name)
-    function.restype = ctypes.c_uint32
-    return function(*words)
+def clear(*arrays):
+    for it in arrays:
+        it[:] = bytes(len(it))
 
 
-def lengths(library, number):
-    """The lengths of a set's public keys, secret keys and signatures, and n."""
-    found = [ctypes.c_size_t() for _ in range(4)]
-    if library.slh_lengths(ctypes.c_uint32(number), *map(ctypes.byref, found)) != DONE:
-        raise RuntimeError("no such set")
-    return [it.value for it in found]
-
-
-def erase(library, buffer):
-    library.slh_erase(buffer, ctypes.c_size_t(len(buffer)))
-
-
-def read_key(library, path, kind):
-    """The set's number and the bytes of a key file, of either version, in a buffer: to erase it is left to the caller.
-    A secret key's digits are nowhere else, since nothing erases Python's own texts."""
-    text = ctypes.create_string_buffer(1024)
+def read_key(path, kind):
+    """The key of a key file, of either version. A secret key's digits are nowhere else, and are cleared here: nothing
+    clears Python's own texts."""
+    text, key = bytearray(1024), bytearray()
     try:
         with open(path, "rb", buffering=0) as file:
             count = file.readinto(text)
-        ends = [at for at in range(count) if text[at] == b"\n"]
+        ends = [at for at in range(count) if text[at : at + 1] == b"\n"]
         if len(ends) == 2:
             ends.append(count)
-        head, label = text[: ends[0]], text[ends[0] + 1 : ends[1]] if len(ends) == 3 else b""
-        if head not in (b"slh-dsa-%s 1" % kind, b"slh-dsa-%s 2" % kind) or label.decode("latin-1") not in SETS:
+        head, label = (text[: ends[0]], text[ends[0] + 1 : ends[1]]) if len(ends) == 3 else (b"", b"")
+        if head not in (b"slh-dsa-%s 1" % kind, b"slh-dsa-%s 2" % kind) or label not in SETS:
             raise ValueError
         digits = range(ends[1] + 1, ends[2])
         is_whole = digits and len(digits) % 2 == 0 and ends[2] >= count - 1
         if not is_whole or any(text[at] not in b"0123456789abcdefABCDEF" for at in digits):
             raise ValueError
-        key = ctypes.create_string_buffer(len(digits) // 2)
+        key = bytearray(len(digits) // 2)
         for at in range(len(key)):
             key[at] = int(text[digits[2 * at] : digits[2 * at] + 2], 16)
-        return SETS.index(label.decode()) + 1, key
+        return KINDS[kind](slh.Set(SETS.index(label) + 1), key)
+    except slh.Refusal:
+        raise ValueError(f"{path} has a key of another length") from None
     except (ValueError, IndexError):
         raise ValueError(f"{path} is no {kind.decode()} key file of a set of the standard") from None
     finally:
-        erase(library, text)
+        clear(text, key)
 
 
 def read(path, most=-1):
@@ -125,46 +112,40 @@ def write(path, data):
     os.replace(part, path)
 
 
-def sign(library, task, sk, message, path):
+def sign(public, secret, message, path):
     """Signs a message with fresh random bytes, verifies, and writes the signature."""
-    _, _, sig_len, n = lengths(library, task.set)
-    sig = ctypes.create_string_buffer(sig_len)
-    results = [call(library, "slh_sign", task.set, sk, message, b"", os.urandom(n), sig)]
-    results.append(call(library, "slh_verify", task.set, task.pk, message, b"", sig))
-    if results != [DONE, DONE]:
-        raise RuntimeError(f"slh_sign and slh_verify returned {results}")
+    signature = secret.sign(message)
+    public.verify(message, signature)
     try:
-        write(path, sig.raw)
+        write(path, signature)
     except OSError as fault:
         return "unwritable", str(fault)
     return ("signed",)
 
 
-def judge(library, task, sk, name):
+def judge(task, secret, name):
     """What is so of one file, and why where it is not done. With a secret key it is signed, unless it has been."""
     path = os.path.join(task.root, name)
+    is_unsigned = secret and not os.path.lexists(path + ".sig")
     try:
         message = read(path)
-        if sk and not os.path.lexists(path + ".sig"):
-            return sign(library, task, sk, message, path + ".sig")
-        sig = read(path + ".sig", lengths(library, task.set)[2] + 1)
+        signature = None if is_unsigned else read(path + ".sig", task.public.set.lengths.signature + 1)
     except (OSError, ValueError, MemoryError) as fault:
         return "unreadable", str(fault) or type(fault).__name__
-    result = call(library, "slh_verify", task.set, task.pk, message, b"", sig)
-    if result not in (DONE, INVALID):
-        raise RuntimeError(f"slh_verify returned {result}")
-    return ("valid" if result == DONE else "invalid",)
+    if is_unsigned:
+        return sign(task.public, secret, message, path + ".sig")
+    try:
+        task.public.verify(message, signature)
+    except slh.Invalid:
+        return ("invalid",)
+    return ("valid",)
 
 
 def judge_all(task, names):
     """What is so of each of these files. This is what threads and the workers of a cluster run."""
-    library = ctypes.CDLL(task.library)
-    _, sk = read_key(library, task.secret, b"secret") if task.secret else (None, None)
-    try:
-        return [(name, judge(library, task, sk, name)) for name in names]
-    finally:
-        if sk:
-            erase(library, sk)
+    secret = read_key(task.secret, b"secret") if task.secret else None
+    with secret or contextlib.nullcontext():
+        return [(name, judge(task, secret, name)) for name in names]
 
 
 class Report:
@@ -202,21 +183,10 @@ class Report:
         return ", ".join(f"{count} {word}" for word, count in sorted(self.counts.items())) or "none"
 
 
-class Progress:
-    """A line on standard error: five times a second where that is a terminal, else each ten seconds."""
-
-    def __init__(self, report, total):
-        self.report, self.total, self.before = report, total, len(report.names)
-        self.began = self.told = time.monotonic()
-
-    def tell(self, is_last=False):
-        now, is_terminal = time.monotonic(), sys.stderr.isatty()
-        if is_last or now - self.told >= (0.2 if is_terminal else 10):
-            done = len(self.report.names)
-            rate = (done - self.before) / max(now - self.began, 0.001)
-            line = f"{done} of {self.total} files: {self.report.summary()}; {rate:.0f} a second"
-            print(line, end="\r" if is_terminal and not is_last else "\n", file=sys.stderr, flush=True)
-            self.told = now
+def progress_of(report, total):
+    """A line on standard error with the rate and the time that is left: often where that is a terminal."""
+    often = 0.2 if sys.stderr.isatty() else 10
+    return tqdm.tqdm(total=total, initial=len(report.names), unit="file", mininterval=often, maxinterval=often)
 
 
 def run(executor, at_a_time, task, batches, report, progress, stop):
@@ -228,7 +198,7 @@ def run(executor, at_a_time, task, batches, report, progress, stop):
             while not stop.is_set() and len(running) < at_a_time and (batch := next(batches, None)):
                 running.add(executor.submit(judge_all, task, batch))
         except Exception as fault:
-            print(f"archive.py: it ends early: {str(fault)[:200]}", file=sys.stderr)
+            progress.write(f"archive.py: it ends early: {str(fault)[:200]}", file=sys.stderr)
             stop.set()
         if stop.is_set():
             running = {it for it in running if not it.cancel()}
@@ -239,8 +209,9 @@ def run(executor, at_a_time, task, batches, report, progress, stop):
             try:
                 report.add(it.result())
             except Exception as fault:
-                print(f"archive.py: a batch failed: {fault!r}", file=sys.stderr)
-        progress.tell()
+                progress.write(f"archive.py: a batch failed: {fault!r}", file=sys.stderr)
+        progress.set_postfix_str(report.summary(), refresh=False)
+        progress.update(len(report.names) - progress.n)
 
 
 def names_in(folder, report):
@@ -277,19 +248,15 @@ def open_executor(words):
 
 def checked_task(words):
     """What the arguments ask for. A secret key whose root is not that of its seeds is refused."""
-    library = ctypes.CDLL(os.path.abspath(words.library))
-    is_sign = words.command == "sign"
-    number, key = read_key(library, words.key, b"secret" if is_sign else b"public")
-    pk_len, sk_len, _, _ = lengths(library, number)
-    is_whole = len(key) == (sk_len if is_sign else pk_len)
-    is_right = is_whole and (not is_sign or call(library, "slh_check", number, key) == DONE)
-    pk = key[-pk_len:]
-    erase(library, key)
-    if not is_right:
-        raise ValueError(f"{words.key} has a key of another length, or one whose root is not that of its seeds")
-    secret = os.path.abspath(words.key) if is_sign else None
     root = os.path.realpath(words.folder or ".")
-    return Task(os.path.abspath(words.library), number, pk, secret, root)
+    if words.command == "verify":
+        return Task(read_key(words.key, b"public"), None, root)
+    with read_key(words.key, b"secret") as secret:
+        try:
+            secret.check()
+        except slh.Invalid:
+            raise ValueError(f"{words.key} has a key whose root is not that of its seeds") from None
+        return Task(secret.public(), os.path.abspath(words.key), root)
 
 
 def wanted_names(words):
@@ -304,7 +271,7 @@ def wanted_names(words):
 def read_words():
     parser = argparse.ArgumentParser(description=__doc__, formatter_class=argparse.RawDescriptionHelpFormatter)
     parser.add_argument("command", choices=FILES)
-    for name in "--library", "--key", "--report":
+    for name in "--key", "--report":
         parser.add_argument(name, required=True)
     where = parser.add_mutually_exclusive_group()
     where.add_argument("--threads", type=int, default=len(os.sched_getaffinity(0)))
@@ -319,19 +286,19 @@ def main():
     words = read_words()
     try:
         task, wanted = checked_task(words), wanted_names(words)
-        head = f"{words.command} {SETS[task.set - 1]} {task.pk.hex()} {json.dumps(task.root)}"
+        label = SETS[task.public.set - 1].decode()
+        head = f"{words.command} {label} {task.public.to_bytes().hex()} {json.dumps(task.root)}"
         report = Report(words.report, head)
         stop = stopped_by_signals()
         executor, at_a_time = open_executor(words)
     except (OSError, ValueError, RuntimeError, ImportError) as fault:
         print(f"archive.py: {fault}", file=sys.stderr)
         sys.exit(2)
-    progress = Progress(report, len(report.names.union(wanted)))
     left = [it for it in wanted if it not in report.names]
     size = FILES[words.command]
     batches = (left[at : at + size] for at in range(0, len(left), size))
-    run(executor, at_a_time, task, batches, report, progress, stop)
-    progress.tell(is_last=True)
+    with progress_of(report, len(report.names.union(wanted))) as progress:
+        run(executor, at_a_time, task, batches, report, progress, stop)
     lacking = sum(it not in report.names for it in wanted)
     print(f"{len(report.names)} files: {report.summary()}; {lacking} not done")
     sys.exit(3 if lacking else int(any(report.counts[it] for it in report.counts.keys() - {"valid", "signed"})))

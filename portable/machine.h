@@ -25,13 +25,22 @@ struct machine {
 /* The address of the first byte. Nothing goes below it: STACK_BYTES is what the deepest path of calls takes. */
 #define FIRST (STACK_TOP - STACK_BYTES)
 
+/* What the functions take as m: where the address 0 would be on this machine. It is a number, since nothing is there.
+   With it an access takes one addition, and a compiler needs no constant for FIRST. */
+typedef uintptr_t base;
+#define BASE(machine) ((uintptr_t)(machine)->bytes - (uintptr_t)FIRST)
+#define MACHINE(m) ((struct machine *)((m) + (uintptr_t)FIRST - MACHINE_BYTES))
+#define STACK_POINTER(m) (MACHINE(m)->stack_pointer)
+#define IN_CALL(m) (MACHINE(m)->in_call)
+
 #ifdef SLH_TRAP
 void SLH_TRAP(const char *why);
 #else
 #define SLH_TRAP(why) STOP(why)
 #endif
 
-/* Ends the program, or keeps it here: it is proved that nothing comes here. */
+/* Ends the program, or keeps it here. The proved code never comes here: where its translation does, a translator, the
+   compiler or the machine is at fault, or STACK_BYTES is too small. No proof covers these. */
 static _Noreturn void trap(const char *why) {
     SLH_TRAP(why);
     for (;;) {}
@@ -40,15 +49,14 @@ static _Noreturn void trap(const char *why) {
 #define UNREACHABLE trap("slh: the proved code came where it never comes")
 
 /* The n bytes at an address. */
-INLINE uint8_t *at(struct machine *m, u64 address, u64 n) {
+INLINE uint8_t *at(base m, u64 address, u64 n) {
 #ifdef SLH_CHECK_MEMORY
     u64 index = address - FIRST;
-    if (RARELY(index > m->size || n > m->size - index)) trap("slh: the proved code left its memory");
+    if (RARELY(index > MACHINE(m)->size || n > MACHINE(m)->size - index)) trap("slh: the proved code left its memory");
 #else
     (void)n;
 #endif
-    /* By numbers, since the difference of the first two points nowhere. It is kept, and one addition is left. */
-    return (uint8_t *)((uintptr_t)m->bytes - (uintptr_t)FIRST + (uintptr_t)address);
+    return (uint8_t *)(m + (uintptr_t)address);
 }
 
 /* Numbers lie in memory with their lowest byte first. Where this processor has them so, too, they are copied as they
@@ -101,10 +109,10 @@ INLINE void put16(uint8_t *it, u32 number) {
 #define i64_store16(m, address, value) put16(at(m, address, 2), (u32)(value))
 #define i64_store32(m, address, value) put32(at(m, address, 4), (u32)(value))
 
-INLINE void memory_copy(struct machine *m, u64 to, u64 from, u64 n) {
+INLINE void memory_copy(base m, u64 to, u64 from, u64 n) {
     if (n > 0) memmove(at(m, to, n), at(m, from, n), (size_t)n);
 }
-INLINE void memory_fill(struct machine *m, u64 to, u32 byte, u64 n) {
+INLINE void memory_fill(base m, u64 to, u32 byte, u64 n) {
     if (n > 0) memset(at(m, to, n), (uint8_t)byte, (size_t)n);
 }
 
@@ -113,7 +121,7 @@ INLINE void memory_fill(struct machine *m, u64 to, u32 byte, u64 n) {
 #define I32_ROTR(x, y) ((x) >> ((y) & 31) | (x) << (-(y) & 31))
 #define I64_ROTR(x, y) ((x) >> ((y) & 63) | (x) << (-(y) & 63))
 
-/* A division by zero is proved never to be. */
+/* The proved code divides by no zero. */
 #define DIVIDE(x, op, y) (RARELY((y) == 0) ? (trap("slh: the proved code divided by zero"), (x)) : (x) op (y))
 #define DIV_U(x, y) DIVIDE(x, /, y)
 #define REM_U(x, y) DIVIDE(x, %, y)

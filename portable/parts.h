@@ -38,6 +38,8 @@ static size_t placed(struct part *parts, size_t count) {
     return size;
 }
 
+#define PLACE(m, part) ((m)->bytes + (size_t)((part).address - FIRST))
+
 /* A memory with the parts in it, or null. */
 static struct machine *begin(struct part *parts, size_t count) {
     size_t size = placed(parts, count);
@@ -48,14 +50,14 @@ static struct machine *begin(struct part *parts, size_t count) {
     m->in_call = 0;
     memcpy(m->bytes + STACK_BYTES, constants, CONSTANT_BYTES);
     for (size_t i = 0; i < count; i++)
-        if (parts[i].in != NULL && parts[i].len > 0) memcpy(at(m, parts[i].address, 0), parts[i].in, parts[i].len);
+        if (parts[i].in != NULL && parts[i].len > 0) memcpy(PLACE(m, parts[i]), parts[i].in, parts[i].len);
     return m;
 }
 
 /* Hands out what is done, erases the memory and gives it back. */
 static u32 end(struct machine *m, const struct part *parts, size_t count, u32 result) {
     for (size_t i = 0; result == SLH_DONE && i < count; i++)
-        if (parts[i].out != NULL && parts[i].len > 0) memcpy(parts[i].out, at(m, parts[i].address, 0), parts[i].len);
+        if (parts[i].out != NULL && parts[i].len > 0) memcpy(parts[i].out, PLACE(m, parts[i]), parts[i].len);
     erase(m, MACHINE_BYTES + (size_t)m->size);
     give_back(m);
     return result;
@@ -69,4 +71,4 @@ static u32 end(struct machine *m, const struct part *parts, size_t count, u32 re
 #define RUN(call, ...)                                                                          \
     u32 result = SLH_NO_MEMORY;                                                                 \
     struct machine *m = begin(parts, COUNT(parts));                                             \
-    if (m != NULL) result = end(m, parts, COUNT(parts), module_##call(m, __VA_ARGS__))
+    if (m != NULL) result = end(m, parts, COUNT(parts), module_##call(BASE(m), __VA_ARGS__))

@@ -9,6 +9,10 @@
  *
  *   -DSLH_VERIFY_MEMORY=SLH_DSA_SHA2_128S_VERIFY_MEMORY   for one set; by itself it is enough for each set
  *   -DSLH_VERIFY_MEMORY_AT=NAME                           a memory of your own, uint64_t NAME[SLH_VERIFY_MEMORY / 8]
+ *   -DSLH_VERIFY_128                                      leaves out SHA-512, which the sets 128s and 128f do without
+ *
+ * With the last one the other sets are refused (SLH_NO_SUCH_SET), and by slh_hash_verify the functions that are made of
+ * SHA-512 (SLH_NO_SUCH_FUNCTION); a digest by them is taken.
  *
  * A message in memory is copied there: slh_verify and slh_hash_verify take some 100 bytes, or as many more as
  * SLH_VERIFY_MEMORY is made larger. slh_hash_verify_digest takes any image by its digest.

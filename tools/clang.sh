@@ -1,11 +1,12 @@
 #!/bin/sh
 # Stands in for the kit's clang where `rattle build` compiles a proved module for a target: it changes two numbers of
-# the module and at most one word of the command line, and runs the kit's clang. `tools/kit.py toolchain` makes the
+# the module and a word of the command line or a few, and runs the kit's clang. `tools/kit.py toolchain` makes the
 # folder for --toolchain, in which this is bin/clang, kit/clang is the kit's, and the files lanes and word have:
 #
 #   lanes   what crates/slh_width answers: two numbers of its enum Width, in place of Eight. No contract tells them
 #   word    -march=x86-64-v4 in place of -march=x86-64: AVX-512 F, BW, CD, DQ and VL
-#           -msimd128 behind -mcpu=lime1: WebAssembly's vectors of 128 bits
+#           -msimd128 behind -mcpu=lime1: WebAssembly's vectors of 128 bits, and with them a higher limit for inlining,
+#           by which the rounds of a compression stand in it, as they do in code for the other targets
 #           or nothing
 #
 # The module names x86-64-v3 for its functions, and no features: so they have those of the command line. A command line
@@ -26,7 +27,7 @@ for it in "$@"; do
     shift
     case $word$it in
     -march=x86-64-v4-march=x86-64) set -- "$@" "$word" && found=yes ;;
-    -msimd128-mcpu=lime1) set -- "$@" "$it" "$word" && found=yes ;;
+    -msimd128-mcpu=lime1) set -- "$@" "$it" "$word" -mllvm -inline-threshold=500 && found=yes ;;
     *module.bc) module=$it && set -- "$@" "$it.ll" ;;
     *rewritten.ll) written=yes && set -- "$@" "$it" ;;
     *--target=*) target=$it && set -- "$@" "$it" ;;

@@ -1,7 +1,7 @@
 #!/usr/bin/env python3
 """Writes docs/CONTRACTS.md from the sources: for each file of each crate the calls that other crates have, the names of
 the clauses of their contracts, and the wrong bodies that the prover has to refuse, as edits in must-fail/ (tried by `rt ci`) and
-wrong/ (tried by tools/wrong_bodies.py). A private function is listed where an edit turns it. It writes into
+wrong/ (tried by tests/wrong_bodies.py). A private function is listed where an edit turns it. It writes into
 docs/AUDIT.md how many lines the files of definitions have that the page names. It also looks whether the code on
 docs/CALLING.md is that of crates/slh_hello and crates/slh_examples, and its lines of crates.txt, and whether the
 clauses that README.md and docs/AUDIT.md name stand in the sources.
@@ -27,7 +27,7 @@ HEAD = """# Every call, its clauses and its wrong bodies
 
 The table has for each crate the calls that it gives to others, by their files in `crates/NAME/src`, and the names of
 their clauses, which stand on the function there. Behind a function's name stand the wrong bodies of it that the prover
-refuses: {edits} edits in `crates/NAME/wrong`, which `tools/wrong_bodies.py` tries, and {few} in `crates/NAME/must-fail`,
+refuses: {edits} edits in `crates/NAME/wrong`, which `tests/wrong_bodies.py` tries, and {few} in `crates/NAME/must-fail`,
 which `rt ci` tries. A private function stands here where an edit turns it: the calls above it rest on what it promises.
 "X as T" is a type's method of the trait T, with the trait's clauses. "none": the function is safe and returns, as all
 do, and no more is said of it.

@@ -10,7 +10,7 @@ set -euo pipefail
 here=$(cd "$(dirname "${BASH_SOURCE[0]}")/.." && pwd)
 work=$(mktemp -d)
 trap 'rm -rf "$work"' EXIT
-source "$here/tools/library_parts.sh"
+source "$here/tests/library_parts.sh"
 if [ $# = 0 ]; then
     echo "usage: tools/depths.sh TARGET.." >&2
     exit 2

@@ -7,7 +7,7 @@ usage: tools/numbers.py --check|--write TARGET=FOLDER ..
 TARGET is one of tools/target.sh, and FOLDER what tools/library.sh has installed for it, or the target's folder of
 dist/. The rows for files of lib/ and include/ are those of x86-64, or of x86-64-v2 where that is what is installed.
 What needs a target that is not given, or an emulator or processor that is not there, is neither compared nor written,
-and that is told. It compiles and runs tools/library_stack.c, by CC or cc, or AARCH64_CC and qemu-aarch64.
+and that is told. It compiles and runs tests/library_stack.c, by CC or cc, or AARCH64_CC and qemu-aarch64.
 
 A size may be off by 2 %, or by what rounding to KB, 1,000 bytes, takes. Stack is written rounded up to hundreds: a call
 may take no more than is written, and at most 2 % less, since a thread may be given what is written. The last line has
@@ -74,7 +74,7 @@ def stack_of(target, library, work):
     if runs is None or not shutil.which(cc):
         return {}
     program = work / "stack"
-    run(cc, "-std=c99", *how, "-I", HERE / "include", "-o", program, HERE / "tools/library_stack.c", library,
+    run(cc, "-std=c99", *how, "-I", HERE / "include", "-o", program, HERE / "tests/library_stack.c", library,
         "-pthread", "-Wl,-z,now", f"-Wl,-rpath,{library.parent}")
     names, *rows = [line.split() for line in run(*runs, program).splitlines()[:-1]]
     columns = zip(*[[int(it) for it in row[1:]] for row in rows])
@@ -111,12 +111,12 @@ def libraries(target, lib):
 
 
 def portable_facts(folder):
-    """The sizes of the portable C, and what tools/board.sh measures on the emulated board."""
+    """The sizes of the portable C, and what tests/board.sh measures on the emulated board."""
     files = {name: next(folder.rglob(name)) for name in PORTABLE}
     facts = {f"portable {name}": file.stat().st_size for name, file in files.items()}
     if all(map(shutil.which, ("arm-none-eabi-gcc", "qemu-system-arm"))):
         headers = folder / "include" if (folder / "include").is_dir() else HERE / "include"
-        said = run(HERE / "tools/board.sh", headers, files["slh_verify.c"])
+        said = run(HERE / "tests/board.sh", headers, files["slh_verify.c"])
         facts |= {f"board {name}": int(number) for name, number in re.findall(r"^(\w+): (\d+)$", said, re.M)}
     return facts
 

@@ -35,12 +35,15 @@ FILES = {
 # which is at most 14 in the six sets; the first call is for a height of at most a, and each within for one less.
 NESTED = {"slh_few_fors_tree_ForsTree_eight_nodes": 15}
 DEFINITION = re.compile(r"^(u32|u64|void) (w2c_slh_\w+)\(w2c_slh\* instance([^{;]*)\) \{\n(.*?)^\}\n", re.M | re.S)
+# The functions for the blocks of SHA-512, which the sets whose n is 16 never reach.
+LONG_BLOCKS = re.compile(r"\bsha2_block512_\w+")
+LONG_FUNCTION = re.compile(rf"^(static \w+ {LONG_BLOCKS.pattern}\(([^)]*)\) {{\n)(.*?)^}}\n", re.M | re.S)
 # What wasm2c names otherwise than these files, in this order.
 NAMES = [
     (r"\bmemory_copy\(&instance->w2c_memory, &instance->w2c_memory, ", "memory_copy(m, "),
     (r"&instance->w2c_memory\b", "m"),
-    (r"\binstance->w2c_0x5F_stack_pointer\b", "m->stack_pointer"),
-    (r"\binstance->w2c_in_call\b", "m->in_call"),
+    (r"\binstance->w2c_0x5F_stack_pointer\b", "STACK_POINTER(m)"),
+    (r"\binstance->w2c_in_call\b", "IN_CALL(m)"),
     (r"\binstance\b", "m"),
     (r"\bvar_([ijlpB]\d+)\b", r"\1"),
     (r"^ *FUNC_(PRO|EPI)LOGUE;\n", ""),
@@ -91,7 +94,7 @@ def renamed(found):
         body = re.sub(r"\bw2c_slh_\w+", lambda it: plains.get(it[0], it[0]), body)
         for old, new in NAMES:
             body = re.sub(old, new, body, flags=re.M)
-        parameters = re.sub(r"\bvar_(p\d+)\b", r"\1", "struct machine *m" + " ".join(parameters.split()))
+        parameters = re.sub(r"\bvar_(p\d+)\b", r"\1", "base m" + " ".join(parameters.split()))
         unused = [it for it in re.findall(r"\w+(?=,|$)", parameters) if not re.search(rf"\b{it}\b", body)]
         result[plains[name]] = (kind, parameters, "".join(f"  (void){it};\n" for it in unused) + body)
     return result
@@ -119,10 +122,10 @@ def reached(found, names):
 
 # What a function does to the stack pointer: takes a number of bytes at its begin, gives them back; or reads it at its
 # begin, and writes what it was.
-TAKES = re.compile(r"(j\d+) = m->stack_pointer; (j\d+) = (\d+)ull; \1 -= \2; l\d+ = \1; m->stack_pointer = \1;")
-GIVES = re.compile(r"(j\d+) = l\d+; (j\d+) = (\d+)ull; \1 \+= \2; m->stack_pointer = \1;")
-READS = re.compile(r"(j\d+) = m->stack_pointer; (l\d+) = \1;")
-KEEPS = re.compile(r"(j\d+) = (l\d+); m->stack_pointer = \1;")
+TAKES = re.compile(r"(j\d+) = STACK_POINTER\(m\); (j\d+) = (\d+)ull; \1 -= \2; l\d+ = \1; STACK_POINTER\(m\) = \1;")
+GIVES = re.compile(r"(j\d+) = l\d+; (j\d+) = (\d+)ull; \1 \+= \2; STACK_POINTER\(m\) = \1;")
+READS = re.compile(r"(j\d+) = STACK_POINTER\(m\); (l\d+) = \1;")
+KEEPS = re.compile(r"(j\d+) = (l\d+); STACK_POINTER\(m\) = \1;")
 
 
 def frame(name, body):
@@ -133,8 +136,8 @@ def frame(name, body):
     is_plain = len(takes) == 1 if gives else not takes
     is_plain &= not keeps or (not takes and {it[1] for it in keeps} == {it[1] for it in reads})
     is_plain &= all(len(re.findall(rf"\b{it[1]} = ", body)) == 2 for it in reads if keeps)
-    is_plain &= body.count("= m->stack_pointer;") <= 1 and len(bytes_of) <= 1
-    if not is_plain or body.count("m->stack_pointer = ") != len(takes + gives + keeps):
+    is_plain &= body.count("= STACK_POINTER(m);") <= 1 and len(bytes_of) <= 1
+    if not is_plain or body.count("STACK_POINTER(m) = ") != len(takes + gives + keeps):
         refuse(f"what {name} takes of the stack is not to be seen")
     return max(bytes_of, default=0)
 
@@ -208,6 +211,18 @@ def module_as_c(text, calls):
     return defined + array_of(constants(text)), PROVED + declared + "".join(bodies)
 
 
+def leaving_out(code):
+    """The functions, of which those for the blocks of SHA-512 have a body only where SLH_VERIFY_128 is not defined."""
+
+    def choice(it):
+        head, parameters, body = it[1], re.findall(r"\w+(?=,|$)", it[2]), it[3]
+        unused = "".join(f"  (void){it};\n" for it in parameters + sorted(set(LONG_BLOCKS.findall(body))))
+        return f"{head}#ifdef SLH_VERIFY_128\n{unused}  UNREACHABLE;\n#else\n{body}#endif\n}}\n"
+
+    result, times = LONG_FUNCTION.subn(choice, code)
+    return result if times > 0 else refuse("there is no function for the blocks of SHA-512")
+
+
 def source(name):
     return (PARTS / name).read_text()
 
@@ -222,9 +237,10 @@ def head_of(name):
 def file_of(text, parts):
     """A file: its head, the constants, the machine, the functions, and the calls."""
     exports = re.findall(r"^/\* export: 'slh_(\w+)' \*/\nu32 ", text, re.M)
-    numbers, code = module_as_c(text, sorted(exports) if "calls.c" in parts else VERIFY_CALLS)
+    has_all = "calls.c" in parts
+    numbers, code = module_as_c(text, sorted(exports) if has_all else VERIFY_CALLS)
     head, machine, *rest = parts
-    return "\n".join([head_of(head), numbers, source(machine), code, *map(source, rest)])
+    return "\n".join([head_of(head), numbers, source(machine), code if has_all else leaving_out(code), *map(source, rest)])
 
 
 def program():

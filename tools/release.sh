@@ -19,7 +19,7 @@
 # those of dist/BUILD, it says so and compares the hashes alone: the status is then 3, and 0 under --after-ci. It needs rt.
 set -euo pipefail
 here=$(cd "$(dirname "${BASH_SOURCE[0]}")/.." && pwd)
-source "$here/tools/counts.sh"
+source "$here/tests/counts.sh"
 source "$here/tools/released.sh"
 usage() {
     echo "usage: tools/release.sh [--after-ci] VERSION, or --check [FOLDER]" >&2

@@ -1,17 +1,17 @@
 #!/usr/bin/env bash
 # Installs from Debian all that the tests run and that is not on every machine; what is there it keeps, so that a second
 # run takes seconds. Without it tests are skipped, and the last line of the test command has their number. No other
-# script here uses the network. It needs to be root.
+# script of ours uses the network. It needs to be root.
 #
 # usage: tools/setup.sh [FOLDER]
 #
-#   tools/targets_tests.sh    a C compiler and an emulator for 64-bit ARM, and Node
-#   tools/packages_tests.sh   Go
-#   tools/debian_tests.sh     lintian and zsh
-#   tools/archive_tests.py    dask.distributed
-#   tools/web_tests.py        Chromium, and rsvg-convert, which draws a picture as pixels
-#   tools/openssl_keys.sh     OpenSSL 3.5 of Debian 13 in FOLDER/openssl-3.5, with headers: the command is `openssl-3.5`
-#   tools/portable_tests.sh   clang, compilers for 32-bit ARM, RISC-V, s390x, Windows and boards without a system,
+#   tests/targets_tests.sh    a C compiler and an emulator for 64-bit ARM, and Node
+#   tests/packages_tests.sh   Go, and setuptools and wheel for Python
+#   tests/debian_tests.sh     lintian and zsh
+#   tests/archive_tests.py    dask.distributed and tqdm
+#   tests/web_tests.py        Chromium, and rsvg-convert, which draws a picture as pixels
+#   tests/openssl_keys.sh     OpenSSL 3.5 of Debian 13 in FOLDER/openssl-3.5, with headers: the command is `openssl-3.5`
+#   tests/portable_tests.sh   clang, compilers for 32-bit ARM, RISC-V, s390x, Windows and boards without a system,
 #                             emulators of them, and wine
 #   for C programs            valgrind
 #   for WebAssembly as C      wasm2c of WABT 1.0.36 of Debian 13 in FOLDER/wabt: the command is `wasm2c-1.0.36`
@@ -23,7 +23,8 @@ packages=(gcc-aarch64-linux-gnu libc6-dev-arm64-cross qemu-user qemu-user-static
     gcc-arm-linux-gnueabihf libc6-dev-armhf-cross gcc-riscv64-linux-gnu libc6-dev-riscv64-cross
     gcc-s390x-linux-gnu libc6-dev-s390x-cross gcc-mingw-w64-x86-64 wine wine64
     gcc-arm-none-eabi libnewlib-arm-none-eabi qemu-system-arm
-    gcc g++ pkg-config python3-venv python3-distributed lintian zsh chromium librsvg2-bin valgrind libc6-dbg clang)
+    gcc g++ clang pkg-config python3-venv python3-setuptools python3-wheel python3-distributed python3-tqdm lintian zsh
+    chromium librsvg2-bin valgrind libc6-dbg)
 command -v node >/dev/null || packages+=(nodejs)
 command -v go >/dev/null || packages+=(golang-go)
 mkdir -p "${1-/usr/local/lib}"

@@ -18,7 +18,7 @@
 set -uo pipefail
 here=$(cd "$(dirname "${BASH_SOURCE[0]}")/.." && pwd)
 cd "$here"
-source "$here/tools/counts.sh"
+source "$here/tests/counts.sh"
 source "$here/tools/released.sh"
 log=$(mktemp) clock=$(mktemp) spent=0
 trap 'rm -f "$log" "$clock"' EXIT
@@ -79,16 +79,16 @@ test_release() {
         archive_tests.py openssl_keys.sh)
     for it in "${scripts[@]}"; do
         if [ $same = no ] && [[ " ${scripts[*]:0:7} " == *" $it "* ]]; then
-            skip "tools/$it" "the sources are not those of dist/"
-            names+=("tools/$it: SKIPPED, since the sources are not those of dist/")
+            skip "tests/$it" "the sources are not those of dist/"
+            names+=("tests/$it: SKIPPED, since the sources are not those of dist/")
         else
-            part "tools/$it" "$@" --dist dist
+            part "tests/$it" "$@" --dist dist
         fi
     done
     [ $# = 0 ] || return 0
     mapfile -t others < <(programs_here | tail -n +2)
     for it in ${others[@]+"${others[@]}"}; do
-        part tools/vectors.sh vectors "${it#"$here/"}"
+        part tests/vectors.sh vectors "${it#"$here/"}"
     done
 }
 
@@ -96,12 +96,12 @@ case "$*" in
 "")
     command -v rt >/dev/null || { rm -f "$log" "$clock" && exec "$here/tools/test.sh" --release; }
     part rt ci
-    part tools/wrong_bodies.py --gate
+    part tests/wrong_bodies.py --gate
     ;;
 --quick)
     tell "all files are as rt fmt lays them out" "$(is_laid_out && echo yes || echo no)"
     tell "the program is built of its sources" "$(SLH_BUILD=1 ./slh params >/dev/null && echo yes || echo no)"
-    part tools/wrong_bodies.py --changed
+    part tests/wrong_bodies.py --changed
     ;;
 --release | "--release --few") tell_release ;;
 *)
@@ -114,18 +114,18 @@ tell "docs/pictures is what the tables say" "$(tools/pictures.py --check >&2 && 
 if [[ $* == --release* ]]; then
     test_release "${@:2}"
 else
-    [ $# != 0 ] || part tools/tables.sh
-    [ $# != 0 ] || part tools/widths_tests.sh
-    part tools/commands.py
-    part tools/vectors.sh
-    part tools/interchange.py
-    part tools/streams.sh
-    part tools/each_growth.sh
-    part tools/limits.sh
-    [ $# != 0 ] || part tools/library_tests.sh --after-ci
-    [ $# != 0 ] || part tools/targets_tests.sh
-    [ $# != 0 ] || part tools/portable_tests.sh
-    [ $# != 0 ] || part tools/release_tests.sh
+    [ $# != 0 ] || part tests/tables.sh
+    [ $# != 0 ] || part tests/widths_tests.sh
+    part tests/commands.py
+    part tests/vectors.sh
+    part tests/interchange.py
+    part tests/streams.sh
+    part tests/each_growth.sh
+    part tests/limits.sh
+    [ $# != 0 ] || part tests/library_tests.sh --after-ci
+    [ $# != 0 ] || part tests/targets_tests.sh
+    [ $# != 0 ] || part tests/portable_tests.sh
+    [ $# != 0 ] || part tests/release_tests.sh
 fi
 seconds
 printf '%s\n' "${minutes[@]}" "all parts: $((spent / 60)) processor minutes" ${names[@]+"${names[@]}"}

@@ -1,4 +1,4 @@
-// A program for tools/packages_memory.py, which says what it does.
+// A program for tests/packages_memory.py, which says what it does.
 package main
 
 import (

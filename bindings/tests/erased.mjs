@@ -1,4 +1,4 @@
-// A program for tools/packages_memory.py, which says what it does.
+// A program for tests/packages_memory.py, which says what it does.
 import { once } from "node:events";
 
 import { load, SLH_DSA_SHA2_128F, SLH_SHA2_256 } from "slh";

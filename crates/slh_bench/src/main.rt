@@ -1,5 +1,5 @@
 //! Times key generation, signing or verifying of a parameter set, in one thread or by several workers, or the hash
-//! functions below them. `tools/benchmark.py` runs it, and `tools/count_calls.py` does so under a profiler.
+//! functions below them. `benches/benchmark.py` runs it, and `benches/count_calls.py` does so under a profiler.
 //!
 //! Its arguments are a task, a number of runs and a set's name. It prints the nanoseconds of the shortest run; one of
 //! `sha256` or `sha512` hashes 65536 bytes. Without these three it prints nothing. The tasks are

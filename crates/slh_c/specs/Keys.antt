@@ -16,12 +16,12 @@ opt_rand_of [] sk = pk_seed (public_of sk)
 opt_rand_of (byte ∷ bytes) sk = byte ∷ bytes
 
 -- the signature of M' under the bytes of a randomizer
-abbrev pub signature_by : Key → List ℕ → List ℕ → List ℕ
-signature_by sk msg randomizer = signature sk msg (opt_rand_of randomizer sk)
+abbrev pub signature_under : Key → List ℕ → List ℕ → List ℕ
+signature_under sk msg randomizer = signature sk msg (opt_rand_of randomizer sk)
 
 -- R and the digest of M' under the bytes of a randomizer (Algorithm 19, lines 2 to 5), and their tag
-abbrev pub start_by : Key → List ℕ → List ℕ → List ℕ
-start_by sk msg randomizer =
+abbrev pub start_under : Key → List ℕ → List ℕ → List ℕ
+start_under sk msg randomizer =
     let r = PRF_msg (params sk.set) (sk_prf sk) (opt_rand_of randomizer sk) msg in
     let begun = r ++ digest_of (public_of sk) r msg in
     begun ++ start_tag sk begun

@@ -3,13 +3,13 @@ ghost use Rattle.slh_params.specs.Params.{pk_len};
 ghost use Rattle.slh_params.specs.ParamSet.{params};
 ghost use Rattle.slh_core.specs.Keys.{public_of, IsGeneratedKey};
 ghost use Rattle.slh_core.specs.Signatures.{IsValid};
-ghost use Rattle.slh_c.specs.Keys.{key, signature_by};
+ghost use Rattle.slh_c.specs.Keys.{key, signature_under};
 ghost use Rattle.slh_c.specs.Numbers.{InSet};
 ghost use Rattle.slh_c.specs.Rules.{first_refusal, sign_internal_rules, verify_rules};
 
-use crate::keys::public_key;
+use crate::keys::{public_key, secret_key};
 use crate::numbers::set_of;
-use crate::randomizer::signer_of;
+use crate::randomizer::randomizer_of;
 use crate::refusal::{DONE, INVALID, or_refuse};
 use crate::rules::{self, judge};
 use slh_core::{sign_internal, verify_internal};
@@ -26,19 +26,16 @@ pub extern "C" fn slh_sign_internal(
 ) -> u32
     ensures answer { result ≡ first_refusal (sign_internal_rules set sk.now randomizer.now sig.old) }
     ensures signature { result ≡ DONE → InSet set (λ s.
-        sig.new ≡ signature_by (key s sk.now) msg.now randomizer.now) }
+        sig.new ≡ signature_under (key s sk.now) msg.now randomizer.now) }
     ensures refused { result ≢ DONE → sig.new ≡ sig.old }
     ensures authentic { result ≡ DONE → InSet set (λ s.
         IsGeneratedKey (key s sk.now)
         → IsValid (public_of (key s sk.now)) msg.now sig.new) }
 {
     let set = or_refuse!(set_of(set));
-    or_refuse!(judge(&[
-        rules::secret(set, sk),
-        rules::randomizer(set, randomizer),
-        rules::output(set.sig_len(), sig),
-    ]));
-    let (sk, randomizer) = signer_of(set, sk, randomizer);
+    let sk = or_refuse!(secret_key(set, sk));
+    let randomizer = or_refuse!(randomizer_of(set, randomizer));
+    or_refuse!(judge(&[rules::output(set.sig_len(), sig)]));
     sign_internal(&[msg], &sk, randomizer, sig);
     DONE
 }

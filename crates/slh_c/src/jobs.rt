@@ -7,18 +7,19 @@ ghost use Rattle.slh_jobs.specs.Jobs.{jobs, start_of, len_of, answers_len, answe
 ghost use Rattle.slh_jobs.specs.Starts.{IsStart};
 ghost use Rattle.slh_jobs.specs.Tags.{start_len};
 ghost use Rattle.slh_c.specs.Cuttings.{WithLevels, levels_of};
-ghost use Rattle.slh_c.specs.Keys.{key, start_by};
+ghost use Rattle.slh_c.specs.Keys.{key, start_under};
 ghost use Rattle.slh_c.specs.Numbers.{InSet, WithFunction, set_numbered};
 ghost use Rattle.slh_c.specs.Refusals.{number};
 ghost use Rattle.slh_c.specs.Rules.{first_refusal, sign_jobs_rules, answer_rules, sign_start_rules, hash_sign_start_rules, sign_job_rules};
 ghost use Rattle.slh_c.specs.declared.refusal.Refusal.TheVariants.{BadStart};
 
 use crate::cuttings::cut_of;
+use crate::keys::secret_key;
 use crate::numbers::{function_of, set_of};
-use crate::randomizer::signer_of;
+use crate::randomizer::randomizer_of;
 use crate::refusal::{DONE, Refusal, or_refuse};
 use crate::rules::{self, judge};
-use slh_core::{Form, SecretKey};
+use slh_core::{Form, SecretKey, SignFault};
 use slh_jobs::{
     Levels, answer_len, answer_start, answers_len, sign_job, sign_jobs, sign_start, start_len,
 };
@@ -86,21 +87,17 @@ pub extern "C" fn slh_sign_start(
 ) -> u32
     ensures answer { result ≡ first_refusal (sign_start_rules set sk.now ctx.now randomizer.now start.old) }
     ensures start { result ≡ DONE → InSet set (λ s.
-        start.new ≡ start_by (key s sk.now) (pure_message ctx.now msg.now) randomizer.now) }
+        start.new ≡ start_under (key s sk.now) (pure_message ctx.now msg.now) randomizer.now) }
     ensures tagged { result ≡ DONE → InSet set (λ s. IsStart (key s sk.now) start.new) }
     ensures refused { result ≢ DONE → start.new ≡ start.old }
 {
     let set = or_refuse!(set_of(set));
-    or_refuse!(judge(&[
-        rules::secret(set, sk),
-        rules::randomizer(set, randomizer),
-        rules::output(start_len(set), start),
-        rules::context(ctx),
-    ]));
-    let (sk, randomizer) = signer_of(set, sk, randomizer);
+    let sk = or_refuse!(secret_key(set, sk));
+    let randomizer = or_refuse!(randomizer_of(set, randomizer));
+    or_refuse!(judge(&[rules::output(start_len(set), start)]));
     match sign_start(Form::Pure, msg, ctx, &sk, randomizer, start) {
         Ok(()) => DONE,
-        Err(_) => unreachable!(),
+        Err(SignFault::ContextTooLong) => Refusal::ContextTooLong.number(),
     }
 }
 
@@ -120,22 +117,18 @@ pub extern "C" fn slh_hash_sign_start(
     ensures answer { result ≡ first_refusal
         (hash_sign_start_rules set function sk.now ctx.now randomizer.now start.old) }
     ensures start { result ≡ DONE → InSet set (λ s. WithFunction function (λ f.
-        start.new ≡ start_by (key s sk.now) (pre_hash_message ctx.now f (PH f msg.now)) randomizer.now)) }
+        start.new ≡ start_under (key s sk.now) (pre_hash_message ctx.now f (PH f msg.now)) randomizer.now)) }
     ensures tagged { result ≡ DONE → InSet set (λ s. IsStart (key s sk.now) start.new) }
     ensures refused { result ≢ DONE → start.new ≡ start.old }
 {
     let set = or_refuse!(set_of(set));
     let function = or_refuse!(function_of(function));
-    or_refuse!(judge(&[
-        rules::secret(set, sk),
-        rules::randomizer(set, randomizer),
-        rules::output(start_len(set), start),
-        rules::context(ctx),
-    ]));
-    let (sk, randomizer) = signer_of(set, sk, randomizer);
+    let sk = or_refuse!(secret_key(set, sk));
+    let randomizer = or_refuse!(randomizer_of(set, randomizer));
+    or_refuse!(judge(&[rules::output(start_len(set), start)]));
     match sign_start(Form::PreHash(function), msg, ctx, &sk, randomizer, start) {
         Ok(()) => DONE,
-        Err(_) => unreachable!(),
+        Err(SignFault::ContextTooLong) => Refusal::ContextTooLong.number(),
     }
 }
 
@@ -164,14 +157,11 @@ fn job_arguments(
     if job >= sign_jobs(&levels) {
         return Err(Refusal::NoSuchJob);
     }
+    let sk = secret_key(levels.set, sk)?;
     judge(&[
-        rules::secret(levels.set, sk),
         rules::begun(levels.set, start),
         rules::output(answer_len(&levels, job), answer),
     ])?;
-    let Ok(sk) = SecretKey::from_bytes(levels.set, sk) else {
-        unreachable!()
-    };
     Ok((levels, sk))
 }
 

@@ -9,13 +9,14 @@ ghost use Rattle.slh_core.specs.Signatures.{IsValid};
 ghost use Rattle.slh_jobs.specs.Joined.{FitTogether, signature_given};
 ghost use Rattle.slh_jobs.specs.Starts.{IsStart};
 ghost use Rattle.slh_c.specs.Cuttings.{WithLevels, levels_of};
-ghost use Rattle.slh_c.specs.Keys.{key, start_by, signature_by};
+ghost use Rattle.slh_c.specs.Keys.{key, start_under, signature_under};
 ghost use Rattle.slh_c.specs.Numbers.{set_numbered};
 ghost use Rattle.slh_c.specs.Refusals.{number};
 ghost use Rattle.slh_c.specs.Rules.{first_refusal, sign_join_rules};
 ghost use Rattle.slh_c.specs.declared.refusal.Refusal.TheVariants.{AnswersDisagree, BadStart};
 
 use crate::cuttings::cut_of;
+use crate::keys::secret_key;
 use crate::refusal::{DONE, Refusal, or_refuse};
 use crate::rules::{self, judge};
 use slh_core::SecretKey;
@@ -43,15 +44,12 @@ fn join_arguments(
     ensures sig { IfOk result (λ it. length sig.now ≡ sig_len (params it.0.set)) }
 {
     let levels = cut_of(set, xmss_levels, fors_levels)?;
+    let sk = secret_key(levels.set, sk)?;
     judge(&[
-        rules::secret(levels.set, sk),
         rules::begun(levels.set, start),
         rules::output(levels.set.sig_len(), sig),
         rules::has_len(answers, answers_len(&levels), Refusal::BadAnswersLength),
     ])?;
-    let Ok(sk) = SecretKey::from_bytes(levels.set, sk) else {
-        unreachable!()
-    };
     Ok((levels, sk))
 }
 
@@ -85,16 +83,16 @@ pub extern "C" fn slh_sign_join(
     ensures joined { result ≡ DONE → WithLevels set xmss_levels fors_levels (λ c.
         sig.new ≡ signature_given c (key c.set sk.now) start.now answers.now) }
     ensures authentic { result ≡ DONE → WithLevels set xmss_levels fors_levels (λ c. (msg randomizer : List ℕ)
-        → start.now ≡ start_by (key c.set sk.now) msg randomizer
+        → start.now ≡ start_under (key c.set sk.now) msg randomizer
         → IsValid (public_of (key c.set sk.now)) msg sig.new) }
     ensures right { let rules = sign_join_rules set xmss_levels fors_levels sk.now start.now answers.now sig.old in
         first_refusal rules ≡ DONE → WithLevels set xmss_levels fors_levels (λ c.
         IsGeneratedKey (key c.set sk.now) → IsStart (key c.set sk.now) start.now
         → AreAnswers c (key c.set sk.now) start.now answers.now → result ≡ DONE) }
     ensures signature { result ≡ DONE → WithLevels set xmss_levels fors_levels (λ c. (msg randomizer : List ℕ)
-        → start.now ≡ start_by (key c.set sk.now) msg randomizer
+        → start.now ≡ start_under (key c.set sk.now) msg randomizer
         → AreAnswers c (key c.set sk.now) start.now answers.now
-        → sig.new ≡ signature_by (key c.set sk.now) msg randomizer) }
+        → sig.new ≡ signature_under (key c.set sk.now) msg randomizer) }
     ensures refused { result ≢ DONE → sig.new ≡ sig.old }
 {
     let (levels, sk) = or_refuse!(join_arguments(

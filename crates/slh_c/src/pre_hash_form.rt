@@ -5,16 +5,18 @@ ghost use Rattle.slh_core.specs.Keys.{public_of, IsGeneratedKey};
 ghost use Rattle.slh_core.specs.Messages.{pre_hash_message};
 ghost use Rattle.slh_core.specs.PreHash.{PH, digest_len};
 ghost use Rattle.slh_core.specs.Signatures.{IsValid};
-ghost use Rattle.slh_c.specs.Keys.{key, signature_by};
+ghost use Rattle.slh_c.specs.Keys.{key, signature_under};
 ghost use Rattle.slh_c.specs.Numbers.{InSet, WithFunction};
 ghost use Rattle.slh_c.specs.Rules.{first_refusal, hash_sign_rules, hash_sign_digest_rules, hash_verify_rules, hash_verify_digest_rules};
 
-use crate::keys::public_key;
+use crate::keys::{public_key, secret_key};
 use crate::numbers::{function_of, set_of};
-use crate::randomizer::signer_of;
+use crate::randomizer::randomizer_of;
 use crate::refusal::{DONE, INVALID, Refusal, or_refuse};
 use crate::rules::{self, judge};
-use slh_core::{MessageDigest, hash_sign, hash_sign_digest, hash_verify, hash_verify_digest};
+use slh_core::{
+    MessageDigest, SignFault, hash_sign, hash_sign_digest, hash_verify, hash_verify_digest,
+};
 
 /// Signs a message by its digest under a pre-hash function, and under a context (FIPS 205, Algorithm 23). The lengths
 /// are those of `slh_sign`. Refused, with nothing written, by `hash_sign_rules`: as `slh_sign` is, and for a number
@@ -31,7 +33,7 @@ pub extern "C" fn slh_hash_sign(
 ) -> u32
     ensures answer { result ≡ first_refusal (hash_sign_rules set function sk.now ctx.now randomizer.now sig.old) }
     ensures signature { result ≡ DONE → InSet set (λ s. WithFunction function (λ f.
-        sig.new ≡ signature_by (key s sk.now) (pre_hash_message ctx.now f (PH f msg.now)) randomizer.now)) }
+        sig.new ≡ signature_under (key s sk.now) (pre_hash_message ctx.now f (PH f msg.now)) randomizer.now)) }
     ensures refused { result ≢ DONE → sig.new ≡ sig.old }
     ensures authentic { result ≡ DONE → InSet set (λ s. WithFunction function (λ f.
         IsGeneratedKey (key s sk.now)
@@ -39,16 +41,12 @@ pub extern "C" fn slh_hash_sign(
 {
     let set = or_refuse!(set_of(set));
     let function = or_refuse!(function_of(function));
-    or_refuse!(judge(&[
-        rules::secret(set, sk),
-        rules::randomizer(set, randomizer),
-        rules::output(set.sig_len(), sig),
-        rules::context(ctx),
-    ]));
-    let (sk, randomizer) = signer_of(set, sk, randomizer);
+    let sk = or_refuse!(secret_key(set, sk));
+    let randomizer = or_refuse!(randomizer_of(set, randomizer));
+    or_refuse!(judge(&[rules::output(set.sig_len(), sig)]));
     match hash_sign(msg, ctx, function, &sk, randomizer, sig) {
         Ok(()) => DONE,
-        Err(_) => unreachable!(),
+        Err(SignFault::ContextTooLong) => Refusal::ContextTooLong.number(),
     }
 }
 
@@ -97,7 +95,7 @@ pub extern "C" fn slh_hash_sign_digest(
     ensures answer { result ≡ first_refusal
         (hash_sign_digest_rules set function sk.now digest.now ctx.now randomizer.now sig.old) }
     ensures signature { result ≡ DONE → InSet set (λ s. WithFunction function (λ f.
-        sig.new ≡ signature_by (key s sk.now) (pre_hash_message ctx.now f digest.now) randomizer.now)) }
+        sig.new ≡ signature_under (key s sk.now) (pre_hash_message ctx.now f digest.now) randomizer.now)) }
     ensures refused { result ≢ DONE → sig.new ≡ sig.old }
     ensures authentic { result ≡ DONE → InSet set (λ s. WithFunction function (λ f.
         IsGeneratedKey (key s sk.now)
@@ -105,20 +103,15 @@ pub extern "C" fn slh_hash_sign_digest(
 {
     let set = or_refuse!(set_of(set));
     let function = or_refuse!(function_of(function));
-    or_refuse!(judge(&[
-        rules::secret(set, sk),
-        rules::digest(function, digest),
-        rules::randomizer(set, randomizer),
-        rules::output(set.sig_len(), sig),
-        rules::context(ctx),
-    ]));
-    let (sk, randomizer) = signer_of(set, sk, randomizer);
+    let sk = or_refuse!(secret_key(set, sk));
     let Some(digest) = MessageDigest::from_bytes(function, digest) else {
-        unreachable!()
+        return Refusal::BadDigestLength.number();
     };
+    let randomizer = or_refuse!(randomizer_of(set, randomizer));
+    or_refuse!(judge(&[rules::output(set.sig_len(), sig)]));
     match hash_sign_digest(&digest, ctx, &sk, randomizer, sig) {
         Ok(()) => DONE,
-        Err(_) => unreachable!(),
+        Err(SignFault::ContextTooLong) => Refusal::ContextTooLong.number(),
     }
 }
 

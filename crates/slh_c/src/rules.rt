@@ -5,7 +5,6 @@ ghost use Rattle.slh_c.specs.Rules.{first_refusal, AreMet};
 ghost use Rattle.slh_c.specs.Rules as rules;
 
 use crate::refusal::Refusal;
-use slh_core::PreHash;
 use slh_jobs::start_len;
 use slh_params::ParamSet;
 
@@ -40,23 +39,6 @@ pub(crate) fn has_len(bytes: &[u8], len: usize, refusal: Refusal) -> Rule
     }
 }
 
-/// That a secret key has 4n bytes.
-pub(crate) fn secret(set: ParamSet, sk: &[u8]) -> Rule
-    ensures { result ≡ rules.secret set sk.now }
-{
-    has_len(sk, set.sk_len(), Refusal::BadLength)
-}
-
-/// That a randomizer has n bytes, or none for the deterministic variant.
-pub(crate) fn randomizer(set: ParamSet, bytes: &[u8]) -> Rule
-    ensures { result ≡ rules.randomizer set bytes.now }
-{
-    Rule {
-        is_met: bytes.is_empty() || bytes.len() == set.n(),
-        refusal: Refusal::BadRandomizerLength,
-    }
-}
-
 /// That a seed has n bytes.
 pub(crate) fn seed(set: ParamSet, bytes: &[u8]) -> Rule
     ensures { result ≡ rules.seed set bytes.now }
@@ -71,26 +53,9 @@ pub(crate) fn output(len: usize, out: &[u8]) -> Rule
     has_len(out, len, Refusal::BadOutputLength)
 }
 
-/// That a context has at most 255 bytes.
-pub(crate) fn context(ctx: &[u8]) -> Rule
-    ensures { result ≡ rules.context ctx.now }
-{
-    Rule {
-        is_met: ctx.len() <= 255,
-        refusal: Refusal::ContextTooLong,
-    }
-}
-
 /// That a start has the length of the set's.
 pub(crate) fn begun(set: ParamSet, start: &[u8]) -> Rule
     ensures { result ≡ rules.begun set start.now }
 {
     has_len(start, start_len(set), Refusal::BadStartLength)
-}
-
-/// That a digest has the length of the function's.
-pub(crate) fn digest(function: PreHash, bytes: &[u8]) -> Rule
-    ensures { result ≡ rules.digest function bytes.now }
-{
-    has_len(bytes, function.digest_len(), Refusal::BadDigestLength)
 }

@@ -4,29 +4,59 @@ ghost use Rattle.std.specs.Prelude.{◌<◌};
 use crate::params::adrs_of;
 use crate::row::Row;
 use slh_lanes::{
-    LaneAdrs, LaneNodes, LaneStream, SeededLanes, SeededTreeLanes, Words, adrs_lanes, compress,
-    consecutive, lane_node, node_lanes, set_chains, set_hashes, set_lane,
+    GROUP, LaneAdrs, LaneNodes, LaneStream, SeededLanes, SeededTreeLanes, Words, adrs_lanes,
+    compress, consecutive, lane_node, node_lanes, set_chains, set_hashes, set_lane,
 };
-use slh_params::ParamSet;
+use slh_params::{Adrs, ParamSet};
 
 /// Eight numbers, of which the next field is the first.
 fn numbers_from(row: &mut Row) -> Words {
     consecutive(row.below((1 << 32) - 7) as u32)
 }
 
+/// The numbers from the last lane to the first.
+fn backwards(numbers: Words) -> Words {
+    let [a, b, c, d, e, f, g, h] = numbers.to_array();
+    Words::from_array([h, g, f, e, d, c, b, a])
+}
+
+/// The address with these chains and hashes in place of its last two words.
+fn lane_adrs(adrs: &Adrs, chains: Words, hashes: Words) -> LaneAdrs {
+    let mut lanes = adrs_lanes(adrs);
+    set_chains(&mut lanes, chains);
+    set_hashes(&mut lanes, hashes);
+    lanes
+}
+
 /// An address, and in place of its last two words eight chains and eight hashes, each by the first of them.
 fn adrs_of_lanes(row: &mut Row) -> LaneAdrs {
-    let mut adrs = adrs_lanes(&adrs_of(row));
-    set_chains(&mut adrs, numbers_from(row));
-    set_hashes(&mut adrs, numbers_from(row));
-    adrs
+    let adrs = adrs_of(row);
+    lane_adrs(&adrs, numbers_from(row), numbers_from(row))
+}
+
+/// The nodes from the last lane to the first.
+#[tactic(auto, using(slh_params::proofs::Bounds::n_high, slh_lanes::proofs::NodeLengths::n_whole))]
+fn nodes_backwards(nodes: &LaneNodes, set: ParamSet) -> LaneNodes {
+    let mut turned = node_lanes(&[]);
+    for j in 0..GROUP {
+        set_lane(&mut turned, j, &lane_node(nodes, GROUP - 1 - j, set.n()));
+    }
+    turned
+}
+
+/// The nodes of the two groups are the same, lane by lane.
+fn are_same(row: &mut Row, x: &LaneNodes, y: &LaneNodes, set: ParamSet) {
+    for j in 0..GROUP {
+        let (x_node, y_node) = (lane_node(x, j, set.n()), lane_node(y, j, set.n()));
+        row.is_true(x_node.as_slice() == y_node.as_slice());
+    }
 }
 
 /// The next eight fields, nodes.
 #[tactic(auto, using(slh_params::proofs::Bounds::n_high, slh_lanes::proofs::NodeLengths::n_whole))]
 fn nodes_of(row: &mut Row, set: ParamSet) -> LaneNodes {
     let mut nodes = node_lanes(&[]);
-    for j in 0..8usize {
+    for j in 0..GROUP {
         set_lane(&mut nodes, j, &row.node(set));
     }
     nodes
@@ -34,7 +64,7 @@ fn nodes_of(row: &mut Row, set: ParamSet) -> LaneNodes {
 
 /// The next eight fields are these nodes.
 fn are_nodes(row: &mut Row, nodes: &LaneNodes, set: ParamSet) {
-    for j in 0..8usize {
+    for j in 0..GROUP {
         row.is_bytes(&lane_node(nodes, j, set.n()));
     }
 }
@@ -48,13 +78,23 @@ pub fn lanes_f(row: &mut Row) {
     are_nodes(row, &SeededLanes::new(set, &pk_seed).f(&adrs, &x), set);
 }
 
-/// A set, PK.seed, SK.seed, eight addresses; PRF in each lane.
+/// A set, PK.seed, SK.seed, eight addresses; PRF in each lane, and in each of two groups at once.
 pub fn lanes_prf(row: &mut Row) {
     let set = row.set();
     let (pk_seed, sk_seed) = (row.bytes(), row.bytes());
-    let adrs = adrs_of_lanes(row);
-    let secrets = SeededLanes::new(set, &pk_seed).prf(&sk_seed, &adrs);
+    let lanes = SeededLanes::new(set, &pk_seed);
+    let at = adrs_of(row);
+    let chains = numbers_from(row);
+    let hashes = numbers_from(row);
+    let adrs = lane_adrs(&at, chains, hashes);
+    let second = lane_adrs(&at, backwards(chains), backwards(hashes));
+    let secrets = lanes.prf(&sk_seed, &adrs);
     are_nodes(row, &secrets, set);
+    let mut x = node_lanes(&[]);
+    let mut y = node_lanes(&[]);
+    lanes.prf_two(&sk_seed, &adrs, &second, &mut x, &mut y);
+    are_same(row, &x, &secrets, set);
+    are_same(row, &nodes_backwards(&y, set), &secrets, set);
 }
 
 /// A set, PK.seed, eight addresses, eight left nodes, eight right ones; H in each lane.
@@ -83,15 +123,25 @@ pub fn lanes_t(row: &mut Row) {
     are_nodes(row, &stream.finish(), set);
 }
 
-/// A set, PK.seed, eight addresses, eight nodes; the chains run on from the nodes after 2 steps, for 13 steps, and
-/// after 0, 3, 0, 14, 200, 15, 1 and 7 steps, for 0, 1, 15, 1, 55, 0, 2 and 8 steps.
+/// A set, PK.seed, eight addresses, eight nodes; the chains run on from the nodes after 2 steps, for 13 steps, alone and
+/// in each of two groups at once, and after 0, 3, 0, 14, 200, 15, 1 and 7 steps, for 0, 1, 15, 1, 55, 0, 2 and 8 steps.
 pub fn lanes_chains(row: &mut Row) {
     let set = row.set();
     let pk_seed = row.bytes();
     let lanes = SeededLanes::new(set, &pk_seed);
-    let adrs = adrs_of_lanes(row);
+    let at = adrs_of(row);
+    let chains = numbers_from(row);
+    let hashes = numbers_from(row);
+    let adrs = lane_adrs(&at, chains, hashes);
+    let second = lane_adrs(&at, backwards(chains), backwards(hashes));
     let x = nodes_of(row, set);
-    are_nodes(row, &lanes.chains(&adrs, &x, 2, 13), set);
+    let ends = lanes.chains(&adrs, &x, 2, 13);
+    are_nodes(row, &ends, set);
+    let mut first = x;
+    let mut other = nodes_backwards(&x, set);
+    lanes.chains_two(&adrs, &second, &mut first, &mut other, 2, 13);
+    are_same(row, &first, &ends, set);
+    are_same(row, &nodes_backwards(&other, set), &ends, set);
     let from = Words::from_array([0, 3, 0, 14, 200, 15, 1, 7]);
     let counts = Words::from_array([0, 1, 15, 1, 55, 0, 2, 8]);
     are_nodes(row, &lanes.chains_each(&adrs, &x, from, counts), set);
@@ -105,7 +155,7 @@ pub fn lanes_compress(row: &mut Row) {
     }
     let mut bytes = [0; 64];
     bytes.copy_from_slice(&block);
-    for j in 0..8usize {
+    for j in 0..GROUP {
         let mut states = node_lanes(&state);
         compress(&mut states, &block_in(j, &bytes));
         row.is_true(lane_node(&states, j, 32).as_slice() == after.as_slice());
@@ -114,7 +164,7 @@ pub fn lanes_compress(row: &mut Row) {
 
 /// A block in lane `j`, and zeros in the others.
 fn block_in(j: usize, block: &[u8; 64]) -> [Words; 16]
-    requires { j < 8 }
+    requires { j < GROUP }
 {
     let (mut first, mut last) = (node_lanes(&[]), node_lanes(&[]));
     set_lane(&mut first, j, &block[..32]);

@@ -4,7 +4,7 @@
 //! and the values that it has to have. Lines that begin with `#` are comments. For each row it prints the function's
 //! name and `right`, or `differs` and the first value that was found instead, or `malformed` where the row has another
 //! number of fields or an argument that is none, or `unknown` where there is no function of the name.
-//! `tools/tables.sh` runs it over the tables of `vectors/tables`.
+//! `tests/tables.sh` runs it over the tables of `vectors/tables`.
 #![tactic(auto, using(slh_params::proofs::Bounds::n_high))]
 
 mod cuttings;

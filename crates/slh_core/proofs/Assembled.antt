@@ -5,7 +5,7 @@ use Rattle.slh_tree.specs.Tree.{root}
 use Rattle.slh_few.specs.Fors.{fors_tree, fors_sig, compressed_roots}
 use Rattle.slh_few.specs.Hypertree.{ht_sig}
 use Rattle.slh_few.proofs.ForsLaw.{fors_pk_from_sig-fors_sig}
-use Rattle.slh_core.specs.Cut.{md, idx_tree, idx_leaf}
+use Rattle.slh_core.specs.DigestParts.{md, idx_tree, idx_leaf}
 use Rattle.slh_core.specs.Keys.{Key, sk_seed, public_of, pk_seed}
 use Rattle.slh_core.specs.Signatures.{fors_sig_of, pk_fors_of, signature_of_digest}
 

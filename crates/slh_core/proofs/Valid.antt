@@ -16,7 +16,7 @@ use Rattle.slh_few.proofs.Ends.{length-end_to_end}
 use Rattle.slh_few.proofs.ForsLaw.{length-fors_part}
 use Rattle.slh_few.proofs.XmssLaw.{length-xmss_sig}
 use Rattle.slh_few.proofs.HtLaw.{ht_root_from_sig-ht_sig}
-use Rattle.slh_core.specs.Cut.{md, idx_tree, idx_leaf}
+use Rattle.slh_core.specs.DigestParts.{md, idx_tree, idx_leaf}
 use Rattle.slh_core.specs.Keys.{Key, sk_seed, sk_prf, public_of, pk_seed, pk_root, IsGeneratedKey, top_root}
 use Rattle.slh_core.specs.Signatures.{digest_of, fors_sig_of, pk_fors_of, ht_sig_of, fors_sig_len, root_of_parts, signature_of_digest, signature, IsValid}
 use Rattle.slh_core.proofs.Lengths.{parts_of_sig}

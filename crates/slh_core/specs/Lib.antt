@@ -1,5 +1,5 @@
 pub mod Keys
-pub mod Cut
+pub mod DigestParts
 pub mod Randomizers
 pub mod Signatures
 pub mod Random

@@ -8,7 +8,7 @@ use Rattle.slh_few.specs.Hypertree.{ht_sig, ht_root_from_sig}
 use Rattle.slh_core.specs.Keys.{Key, sk_seed, sk_prf, public_of, pk_seed, pk_root}
 use Rattle.slh_core.specs.Randomizers.{opt_rand}
 use Rattle.slh_core.specs.declared.randomizer.Randomizer.{Randomizer}
-use Rattle.slh_core.specs.Cut.{md, idx_tree, idx_leaf}
+use Rattle.slh_core.specs.DigestParts.{md, idx_tree, idx_leaf}
 
 -- the digest of a message under a public key and R
 abbrev pub digest_of : Key → List ℕ → List ℕ → List ℕ

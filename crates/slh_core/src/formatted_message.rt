@@ -5,13 +5,16 @@ ghost use Rattle.slh_core.specs.Messages.{bytes_of, message_bytes, oid_bytes, pu
 
 use crate::message_digest::MessageDigest;
 
+/// The most bytes of a context: one byte of M' has their number (FIPS 205, Algorithm 22, line 8).
+const MOST_CONTEXT_LEN: usize = u8::MAX as usize;
+
 /// The first two bytes of M': its form, and the length of the context. `None` for a context of over 255
 /// bytes, which has no M'.
 fn head_of(form: u8, ctx: &[u8]) -> Option<[u8; 2]>
     ensures accepted { IsSome result ↔ (length ctx.now ≤ 255) }
     ensures head { IfSome result (λ head. head ≡ form ∷ length ctx.now ∷ []) }
 {
-    if ctx.len() > 255 {
+    if ctx.len() > MOST_CONTEXT_LEN {
         return None;
     }
     Some([form, ctx.len() as u8])

@@ -2,7 +2,7 @@
 //! signing and verifying.
 #![tactic(auto, using(slh_params::proofs::Bounds::n_high))]
 
-pub use cut::{Cut, cut_digest};
+pub use digest_parts::{DigestIndices, cut_digest};
 pub use fault::{KeyFault, KeygenFault, SignFault};
 pub use form::Form;
 pub use formatted_message::FormattedMessage;
@@ -24,12 +24,12 @@ pub use verifying::verify_internal;
 /// The steps of signing one by one (FIPS 205, Algorithms 19, 22 and 23), for a signer that makes the trees elsewhere,
 /// as `slh_par` and `slh_jobs` do. A user of one thread needs none of them.
 pub mod signing_steps {
-    pub use crate::cut::MOST_DIGEST_LEN;
+    pub use crate::digest_parts::MOST_DIGEST_LEN;
     pub use crate::layout::fors_sig_len;
     pub use crate::signing::randomized_digest;
 }
 
-mod cut;
+mod digest_parts;
 mod fault;
 mod form;
 mod formatted_message;

@@ -7,7 +7,7 @@ ghost use Rattle.slh_core.specs.Keys.{public_of, IsGeneratedKey};
 ghost use Rattle.slh_core.specs.Randomizers.{HasLength};
 ghost use Rattle.slh_core.specs.Signatures.{r_by, digest_of, signature_of_digest, signature_by, IsValid};
 
-use crate::cut::{MOST_DIGEST_LEN, cut_digest};
+use crate::digest_parts::{MOST_DIGEST_LEN, cut_digest};
 use crate::layout::fors_sig_len;
 use crate::randomizer::Randomizer;
 use crate::secret_key::SecretKey;
@@ -30,17 +30,17 @@ fn sign_digest(sk: &SecretKey, digest: &[u8], out: &mut [u8])
         pk_seed,
     };
     let md = &digest[..set.md_len()];
-    let cut = cut_digest(set, digest);
+    let indices = cut_digest(set, digest);
     let (sig_fors, sig_ht) = out.split_at_mut(fors_sig_len(set));
-    fors_sign(&seeds, cut.idx_tree, cut.idx_leaf, md, sig_fors);
+    fors_sign(&seeds, indices.idx_tree, indices.idx_leaf, md, sig_fors);
     let pk_fors = fors_pk_from_sig(
         &Public { set, pk_seed },
-        cut.idx_tree,
-        cut.idx_leaf,
+        indices.idx_tree,
+        indices.idx_leaf,
         md,
         sig_fors,
     );
-    ht_sign(&seeds, cut.idx_tree, cut.idx_leaf, &pk_fors, sig_ht);
+    ht_sign(&seeds, indices.idx_tree, indices.idx_leaf, &pk_fors, sig_ht);
 }
 
 /// R for the message of the parts put end to end, n bytes; its digest of m bytes under R is written into

@@ -5,7 +5,7 @@ ghost use Rattle.slh_core.specs.Messages.{pure_message};
 ghost use Rattle.slh_core.specs.Signatures.{IsValid};
 ghost use Rattle.slh_core.specs.Verifying.{HoldsFirst, IsVerifierOf};
 
-use crate::cut::MOST_DIGEST_LEN;
+use crate::digest_parts::MOST_DIGEST_LEN;
 use crate::formatted_message::pure_head;
 use crate::public_key::PublicKey;
 use crate::verifying::verify_by_digest;

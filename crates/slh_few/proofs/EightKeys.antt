@@ -11,7 +11,7 @@ use Rattle.slh_few.specs.KeyStreams.{AreEnds, HasAbsorbedKey, HaveAbsorbedEnds}
 use Rattle.slh_few.specs.Parts.{end_to_end}
 use Rattle.slh_few.specs.Wots.{wots_address, whole_chain, wots_pk}
 use Rattle.slh_few.specs.Xmss.{AreKeysFrom, place}
-use Rattle.slh_few.specs.declared.key_lanes.KeyStreams.{KeyStreams}
+use Rattle.slh_few.specs.declared.key_streams.KeyStreams.{KeyStreams}
 use Rattle.slh_few.specs.declared.place.Place.{Place}
 use Rattle.slh_few.proofs.Ends.{end_to_end-more, end_to_end-none}
 use Rattle.slh_few.proofs.WotsLaw.{ends_few}

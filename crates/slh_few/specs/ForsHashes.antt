@@ -4,7 +4,7 @@ use Rattle.slh_params.specs.Params.{Params}
 use Rattle.slh_hash.specs.Seeded.{IsSeeded}
 use Rattle.slh_hash.specs.Stream.{IsSeededTree}
 use Rattle.slh_lanes.specs.Lanes.{IsSeededLanes}
-use Rattle.slh_few.specs.declared.fors_tree.ForsHashes.{ForsHashes}
+use Rattle.slh_few.specs.declared.seeded_trees.ForsHashes.{ForsHashes}
 
 -- the hash states are under these parameters and this PK.seed
 unfoldable pub AreSeeded : ForsHashes → Params → List ℕ → Type 0

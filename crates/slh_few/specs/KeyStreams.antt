@@ -6,12 +6,13 @@ use Rattle.slh_hash.specs.Stream.{HasAbsorbed}
 use Rattle.slh_hash.specs.declared.t_stream.TStream.{TStream}
 use Rattle.slh_lanes.specs.Lanes.{value_at}
 use Rattle.slh_lanes.specs.LaneStreams.{HasAbsorbedAt}
+use Rattle.slh_lanes.specs.declared.words.TheConstants.{GROUP}
 use Rattle.slh_few.specs.Parts.{end_to_end}
 use Rattle.slh_few.specs.Wots.{wots_address, whole_chain}
 use Rattle.slh_few.specs.Xmss.{place}
 use Rattle.slh_few.specs.declared.place.Place.{Place}
-use Rattle.slh_few.specs.declared.key_lanes.KeyStreams.{KeyStreams}
-use Rattle.slh_few.specs.declared.key_lanes.KeyStreams.TheVariants.{Lanes, Alone}
+use Rattle.slh_few.specs.declared.key_streams.KeyStreams.{KeyStreams}
+use Rattle.slh_few.specs.declared.key_streams.KeyStreams.TheVariants.{Lanes, Alone}
 
 -- T of key j has absorbed x, under these parameters, this PK.seed and this address
 abbrev pub HasAbsorbedKey : KeyStreams → ℕ → Params → List ℕ → Address → List ℕ → Type 0
@@ -21,10 +22,10 @@ HasAbsorbedKey (Alone ss) j p pk_seed adrs x = (d : TStream) → HasAbsorbed (sl
 -- the lanes hold the ends of chain c of the eight keys from this place on
 abbrev pub AreEnds : Params → List ℕ → List ℕ → Place → ℕ → List (List ℕ) → Type 0
 AreEnds p sk_seed pk_seed at c ends =
-    (j : ℕ) → j < 8 → value_at ends j p.n ≡ whole_chain p sk_seed pk_seed (place at.layer at.tree (at.pair + j)) c
+    (j : ℕ) → j < GROUP → value_at ends j p.n ≡ whole_chain p sk_seed pk_seed (place at.layer at.tree (at.pair + j)) c
 
 -- T of each of these keys has absorbed the ends of its first k chains
 abbrev pub HaveAbsorbedEnds : Params → List ℕ → List ℕ → Place → ℕ → KeyStreams → Type 0
 HaveAbsorbedEnds p sk_seed pk_seed at k streams =
-    (j : ℕ) → j < 8 → HasAbsorbedKey streams j p pk_seed (wots_address (place at.layer at.tree (at.pair + j)) WOTS_PK 0 0)
+    (j : ℕ) → j < GROUP → HasAbsorbedKey streams j p pk_seed (wots_address (place at.layer at.tree (at.pair + j)) WOTS_PK 0 0)
     (end_to_end (whole_chain p sk_seed pk_seed (place at.layer at.tree (at.pair + j))) k)

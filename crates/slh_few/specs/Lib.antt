@@ -2,6 +2,7 @@ pub mod Parts
 pub mod LaneValues
 pub mod ChainOrder
 pub mod Wots
+pub mod RunningChains
 pub mod KeptChains
 pub mod Xmss
 pub mod KeyStreams

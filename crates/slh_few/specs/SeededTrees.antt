@@ -1,8 +1,8 @@
 -- `SeededXmssTree` and `SeededForsTree` as trees: ours.
 use Rattle.slh_tree.specs.Tree.{MerkleTree}
 use Rattle.slh_few.specs.Trees.{xmss_tree_of, fors_tree_of}
-use Rattle.slh_few.specs.declared.fors_tree.SeededForsTree.{SeededForsTree}
-use Rattle.slh_few.specs.declared.xmss.SeededXmssTree.{SeededXmssTree}
+use Rattle.slh_few.specs.declared.seeded_trees.SeededForsTree.{SeededForsTree}
+use Rattle.slh_few.specs.declared.seeded_trees.SeededXmssTree.{SeededXmssTree}
 
 abbrev pub seeded_xmss_tree_of : SeededXmssTree → MerkleTree
 seeded_xmss_tree_of t = xmss_tree_of t.tree

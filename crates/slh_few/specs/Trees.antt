@@ -12,7 +12,7 @@ use Rattle.slh_few.specs.Fors.{fors_tree}
 use Rattle.slh_few.specs.declared.fors_tree.ForsTree.{ForsTree}
 use Rattle.slh_params.specs.declared.param_set.ParamSet.{ParamSet}
 use Rattle.slh_few.specs.declared.place.Place.{Place}
-use Rattle.slh_few.specs.declared.xmss.XmssTree.{XmssTree}
+use Rattle.slh_few.specs.declared.xmss_tree.XmssTree.{XmssTree}
 
 -- the tree that an `XmssTree` is
 unfoldable pub xmss_tree_of : XmssTree → MerkleTree

@@ -1,9 +1,10 @@
 -- WOTS+ (FIPS 205, section 5).
-use Rattle.std.specs.Prelude.{ℕ, zero, suc, ◌+◌, ◌-◌, ◌*◌, ◌%◌, ◌^◌, ◌≤◌, List, ◌++◌, map, sum, slice_index}
+use Rattle.std.specs.Prelude.{ℕ, ◌-◌, ◌*◌, ◌%◌, ◌^◌, ◌≤◌, List, ◌++◌, map, sum, slice_index}
 use Rattle.slh_params.specs.Address.{Address, address, WOTS_HASH, WOTS_PK, WOTS_PRF}
 use Rattle.slh_params.specs.Bits.{base_2b, to_byte}
 use Rattle.slh_params.specs.Params.{Params, ceil_div, w, len, len1, len2}
-use Rattle.slh_hash.specs.Hash.{F, PRF, T}
+use Rattle.slh_hash.specs.Hash.{PRF, T}
+use Rattle.slh_lanes.specs.Steps.{steps}
 use Rattle.slh_few.specs.Parts.{end_to_end, part}
 use Rattle.slh_few.specs.declared.place.Place.{Place}
 
@@ -13,8 +14,7 @@ wots_address at type chain hash = address at.layer at.tree type at.pair chain ha
 
 -- s steps of chain c from step f on (Algorithm 5)
 unfoldable pub chain : Params → List ℕ → Place → ℕ → List ℕ → ℕ → ℕ → List ℕ
-chain p pk_seed at c x f zero = x
-chain p pk_seed at c x f (suc s) = F p pk_seed (wots_address at WOTS_HASH c (f + s)) (chain p pk_seed at c x f s)
+chain p pk_seed at c x f s = steps p pk_seed (wots_address at WOTS_HASH c 0) x f s
 
 -- how far below the last step the digits are, in all
 abbrev pub checksum : Params → List ℕ → ℕ

@@ -12,8 +12,9 @@ ghost use Rattle.slh_few.specs.declared.fors.TheConstants.{MOST_FORS_PART_LEN};
 
 use crate::fors_climb::absorb_in_lanes;
 use crate::fors_parts::{fors_indices, fors_roots};
-use crate::fors_tree::{ForsHashes, SeededForsTree, fors_adrs, index_in_forest};
+use crate::fors_tree::{fors_adrs, index_in_forest};
 use crate::place::{Public, Seeds};
+use crate::seeded_trees::{ForsHashes, SeededForsTree};
 use slh_lanes::SeededTreeLanes;
 use slh_params::{AdrsType, Node, ParamSet, node_of};
 use slh_tree::climb;

@@ -9,7 +9,7 @@ ghost use Rattle.slh_tree.specs.Cover.{IsCover, IsNodeOf, first_leaf, past_leaf}
 ghost use Rattle.slh_tree.specs.Record.{Gains, LiesInRange};
 ghost use Rattle.slh_few.specs.Trees.{fors_tree_of};
 
-use crate::fors_tree::SeededForsTree;
+use crate::seeded_trees::SeededForsTree;
 use arrayvec::ArrayVec;
 use slh_lanes::SeededTreeLanes;
 use slh_params::Node;

@@ -17,8 +17,8 @@ use crate::nodes::{first_nodes, part_at};
 use crate::place::Seeds;
 use slh_hash::TStream;
 use slh_lanes::{
-    LaneAdrs, LaneNodes, SeededLanes, Words, adrs_lanes, half, node_lanes, parity, pick_nodes,
-    set_hashes, set_lane,
+    GROUP, LaneAdrs, LaneNodes, SeededLanes, Words, adrs_lanes, half, node_lanes, parity,
+    pick_nodes, set_hashes, set_lane,
 };
 use slh_params::AdrsType;
 use slh_tree::Leaves;
@@ -27,23 +27,23 @@ use slh_tree::Leaves;
 impl<'a> ForsTree<'a> {
     /// The index that the leaf asked for of each tree has among the leaves of all trees.
     fn leaf_indices(&self, indices: &[u32; MOST_TREES]) -> Words
-        requires trees { self.now.tree_no + 8 ≤ MOST_TREES }
+        requires trees { self.now.tree_no + GROUP ≤ MOST_TREES }
         requires leaves { (j : ℕ) → slice_index indices.now j < 2 ^ (params self.now.seeds.set).a }
         ensures { let p = params self.now.seeds.set in let first = self.now.tree_no in
-            (j : ℕ) → j < 8 → slice_index result j ≡ (first + j) * 2 ^ p.a + slice_index indices.now (first + j) }
+            (j : ℕ) → j < GROUP → slice_index result j ≡ (first + j) * 2 ^ p.a + slice_index indices.now (first + j) }
     {
         let levels = self.seeds.set.a();
-        let mut all = [0; 8];
-        for j in 0..8 {
-            let tree = self.tree_no + j;
-            all[j as usize] = index_in_forest(tree, levels, indices[tree as usize]);
+        let mut all = [0; GROUP];
+        for j in 0..GROUP {
+            let tree = self.tree_no + j as u32;
+            all[j] = index_in_forest(tree, levels, indices[tree as usize]);
         }
         Words::from_array(all)
     }
 
     /// The addresses of nodes of height `z`, at these indices among those of all trees.
     fn node_adrs(&self, z: u32, indices: Words) -> LaneAdrs
-        ensures { (j : ℕ) → j < 8 → HasAddress result j
+        ensures { (j : ℕ) → j < GROUP → HasAddress result j
             (address 0 self.now.idx_tree FORS_TREE self.now.idx_leaf z (slice_index indices j)) }
     {
         let adrs = fors_adrs(self.idx_tree, self.idx_leaf, AdrsType::ForsTree, z, 0);
@@ -55,7 +55,7 @@ impl<'a> ForsTree<'a> {
     /// Node `place` of each tree's part of a signature, up to the lane `used`: 0 is the secret, the path's nodes
     /// follow.
     fn part_nodes(&self, used: usize, sig: &[u8], place: usize) -> LaneNodes
-        requires lanes { used ≤ 8 }
+        requires lanes { used ≤ GROUP }
         requires place { place ≤ (params self.now.seeds.set).a }
         requires sig { (self.now.tree_no + used) * fors_part_len (params self.now.seeds.set) ≤ length sig.now }
         ensures { let p = params self.now.seeds.set in (j : ℕ) → j < used
@@ -74,7 +74,7 @@ impl<'a> ForsTree<'a> {
     /// The leaves over the secrets: F of each.
     fn leaves_over(&self, lanes: &SeededLanes, indices: Words, secrets: &LaneNodes) -> LaneNodes
         requires { IsSeededLanes lanes.now (params self.now.seeds.set) self.now.seeds.pk_seed.now }
-        ensures { let t = self.now in let p = params t.seeds.set in (j : ℕ) → j < 8 → value_at result j p.n
+        ensures { let t = self.now in let p = params t.seeds.set in (j : ℕ) → j < GROUP → value_at result j p.n
             ≡ fors_leaf p t.seeds.pk_seed.now t.idx_tree t.idx_leaf (slice_index indices j)
             (value_at secrets.now j p.n) }
     {
@@ -95,11 +95,11 @@ impl<'a> ForsTree<'a> {
         requires n { (params self.now.seeds.set).n ≡ 16 }
         requires pk_seed { length self.now.seeds.pk_seed.now ≡ 16 }
         ensures even { let t = self.now in let p = params t.seeds.set in
-            (j : ℕ) → j < 8 → slice_index indices j % 2 ≡ 0 → value_at result j p.n
+            (j : ℕ) → j < GROUP → slice_index indices j % 2 ≡ 0 → value_at result j p.n
             ≡ H p t.seeds.pk_seed.now (address 0 t.idx_tree FORS_TREE t.idx_leaf z (slice_index indices j / 2))
             (value_at own.now j p.n) (value_at others.now j p.n) }
         ensures odd { let t = self.now in let p = params t.seeds.set in
-            (j : ℕ) → j < 8 → slice_index indices j % 2 ≡ 1 → value_at result j p.n
+            (j : ℕ) → j < GROUP → slice_index indices j % 2 ≡ 1 → value_at result j p.n
             ≡ H p t.seeds.pk_seed.now (address 0 t.idx_tree FORS_TREE t.idx_leaf z (slice_index indices j / 2))
             (value_at others.now j p.n) (value_at own.now j p.n) }
     {
@@ -121,9 +121,9 @@ impl<'a> ForsTree<'a> {
         requires lanes { IsSeededLanes lanes.now (params self.now.seeds.set) self.now.seeds.pk_seed.now }
         requires n { (params self.now.seeds.set).n ≡ 16 }
         requires pk_seed { length self.now.seeds.pk_seed.now ≡ 16 }
-        requires trees { self.now.tree_no + 8 ≤ MOST_TREES }
+        requires trees { self.now.tree_no + GROUP ≤ MOST_TREES }
         requires leaves { (j : ℕ) → slice_index indices.now j < 2 ^ (params self.now.seeds.set).a }
-        requires used { used ≤ 8 }
+        requires used { used ≤ GROUP }
         requires sig { (self.now.tree_no + used) * fors_part_len (params self.now.seeds.set) ≤ length sig.now }
         ensures { let t = self.now in let p = params t.seeds.set in (j : ℕ) → j < used → value_at result j p.n
             ≡ root_given p t.seeds.sk_seed.now t.seeds.pk_seed.now t.idx_tree t.idx_leaf indices.now sig.now
@@ -151,9 +151,9 @@ impl<'a> ForsTree<'a> {
         requires lanes { IsSeededLanes lanes.now (params self.now.seeds.set) self.now.seeds.pk_seed.now }
         requires n { (params self.now.seeds.set).n ≡ 16 }
         requires pk_seed { length self.now.seeds.pk_seed.now ≡ 16 }
-        requires trees { self.now.tree_no + 8 ≤ MOST_TREES }
+        requires trees { self.now.tree_no + GROUP ≤ MOST_TREES }
         requires leaves { (j : ℕ) → slice_index indices.now j < 2 ^ (params self.now.seeds.set).a }
-        requires used { used ≤ 8 }
+        requires used { used ≤ GROUP }
         requires sig { (self.now.tree_no + used) * fors_part_len (params self.now.seeds.set) ≤ length sig.now }
         ensures len { length result.items ≡ used }
         ensures roots { let t = self.now in let p = params t.seeds.set in
@@ -172,12 +172,12 @@ const LEAST_IN_LANES: u32 = 3;
 /// How many groups of eight trees are climbed in lanes, of which the last may have fewer: none but where nodes have 16
 /// bytes, so that H is SHA-256, and PK.seed has as many.
 fn lane_groups(seeds: &Seeds) -> u32
-    ensures trees { 8 * result ≤ (params seeds.now.set).k + 5 }
+    ensures trees { GROUP * result ≤ (params seeds.now.set).k + 5 }
     ensures n { 1 ≤ result → (params seeds.now.set).n ≡ 16 }
     ensures pk_seed { 1 ≤ result → length seeds.now.pk_seed.now ≡ 16 }
 {
     if seeds.set.n() == 16 && seeds.pk_seed.len() == 16 {
-        (seeds.set.k() + 8 - LEAST_IN_LANES) / 8
+        (seeds.set.k() + GROUP as u32 - LEAST_IN_LANES) / GROUP as u32
     } else {
         0
     }
@@ -195,15 +195,15 @@ fn absorb_eight(
     requires n { (params first.now.seeds.set).n ≡ 16 }
     requires pk_seed { length first.now.seeds.pk_seed.now ≡ 16 }
     requires tree { first.now.tree_no < (params first.now.seeds.set).k }
-    requires trees { first.now.tree_no + 8 ≤ MOST_TREES }
+    requires trees { first.now.tree_no + GROUP ≤ MOST_TREES }
     requires leaves { (j : ℕ) → slice_index indices.now j < 2 ^ (params first.now.seeds.set).a }
     requires sig { let p = params first.now.seeds.set in length sig.now ≡ p.k * fors_part_len p }
     ensures { let t = first.now in let p = params t.seeds.set in let pk_seed = t.seeds.pk_seed.now in
         let given = root_given p t.seeds.sk_seed.now pk_seed t.idx_tree t.idx_leaf indices.now sig.now in
         (a : Address) → HasAbsorbed roots.old p pk_seed a (end_to_end given t.tree_no)
-        → HasAbsorbed roots.new p pk_seed a (end_to_end given (min (t.tree_no + 8) p.k)) }
+        → HasAbsorbed roots.new p pk_seed a (end_to_end given (min (t.tree_no + GROUP) p.k)) }
 {
-    let used = (first.seeds.set.k() - first.tree_no).min(8) as usize;
+    let used = (first.seeds.set.k() - first.tree_no).min(GROUP as u32) as usize;
     let group = first.roots_from_lanes(lanes, indices, used, sig);
     for j in 0..used {
         roots.absorb(&group[j]);
@@ -231,8 +231,8 @@ pub(crate) fn absorb_in_lanes(
 {
     let groups = lane_groups(seeds);
     for turn in 0..groups {
-        let first = ForsTree::at(seeds, idx_tree, idx_leaf, 8 * turn);
+        let first = ForsTree::at(seeds, idx_tree, idx_leaf, GROUP as u32 * turn);
         absorb_eight(roots, &first, lanes, indices, sig);
     }
-    (8 * groups).min(seeds.set.k())
+    (GROUP as u32 * groups).min(seeds.set.k())
 }

@@ -9,8 +9,9 @@ ghost use Rattle.slh_tree.specs.Tree.{node};
 ghost use Rattle.slh_few.specs.Fors.{fors_tree};
 ghost use Rattle.slh_few.specs.Trees.{fors_tree_of};
 
-use crate::fors_tree::{ForsTree, SeededForsTree};
-use slh_lanes::{LaneNodes, SeededTreeLanes, even_lanes, lane_node, odd_lanes};
+use crate::fors_tree::ForsTree;
+use crate::seeded_trees::SeededForsTree;
+use slh_lanes::{GROUP, LaneNodes, SeededTreeLanes, even_lanes, lane_node, odd_lanes};
 use slh_params::{AdrsType, Node, put_node};
 use slh_tree::node;
 
@@ -47,9 +48,9 @@ impl<'a> ForsTree<'a> {
     /// The eight nodes of height `z` from index `i` on, as fors_node makes each (Algorithm 15).
     fn eight_nodes(&self, lanes: &SeededTreeLanes, z: u32, i: u32) -> LaneNodes
         requires height { z ≤ (params self.now.seeds.set).a }
-        requires within { i + 8 ≤ 2 ^ ((params self.now.seeds.set).a - z) }
+        requires within { i + GROUP ≤ 2 ^ ((params self.now.seeds.set).a - z) }
         ensures { let p = params self.now.seeds.set in let sk_seed = self.now.seeds.sk_seed.now in
-            (pk_seed : List ℕ) → IsSeededTreeLanes lanes.now p pk_seed → length pk_seed ≡ p.n → (j : ℕ) → j < 8
+            (pk_seed : List ℕ) → IsSeededTreeLanes lanes.now p pk_seed → length pk_seed ≡ p.n → (j : ℕ) → j < GROUP
             → value_at result j p.n
             ≡ node (fors_tree p sk_seed pk_seed self.now.idx_tree self.now.idx_leaf self.now.tree_no) z (i + j) }
     {
@@ -57,7 +58,7 @@ impl<'a> ForsTree<'a> {
             self.leaf_lanes(lanes.lanes(), i)
         } else {
             let left = self.eight_nodes(lanes, z - 1, 2 * i);
-            let right = self.eight_nodes(lanes, z - 1, 2 * i + 8);
+            let right = self.eight_nodes(lanes, z - 1, 2 * i + GROUP as u32);
             self.join_lanes(lanes, z, i, &left, &right)
         }
     }
@@ -71,7 +72,7 @@ impl<'a> ForsTree<'a> {
             (pk_seed : List ℕ) → IsSeededTreeLanes lanes.now p pk_seed → length pk_seed ≡ p.n → result.items
             ≡ node (fors_tree p sk_seed pk_seed self.now.idx_tree self.now.idx_leaf self.now.tree_no) z i }
     {
-        let eight = self.eight_nodes(lanes, z - 3, 8 * i);
+        let eight = self.eight_nodes(lanes, z - 3, GROUP as u32 * i);
         let four = self.join_lanes(lanes, z - 2, 4 * i, &eight, &eight);
         let two = self.join_lanes(lanes, z - 1, 2 * i, &four, &four);
         let one = self.join_lanes(lanes, z, i, &two, &two);

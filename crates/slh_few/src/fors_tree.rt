@@ -2,22 +2,20 @@
 ghost use Rattle.std.specs.Prelude.{◌≡◌, ℕ, List, ◌+◌, ◌-◌, ◌*◌, ◌^◌, ◌≤◌, ◌<◌, length};
 ghost use Rattle.slh_params.specs.Address.{address};
 ghost use Rattle.slh_params.specs.AdrsType.{type_number};
-ghost use Rattle.slh_params.specs.Params.{Params};
 ghost use Rattle.slh_params.specs.ParamSet.{params};
 ghost use Rattle.slh_hash.specs.Seeded.{IsSeeded};
 ghost use Rattle.slh_hash.specs.Stream.{IsSeededTree};
 ghost use Rattle.slh_lanes.specs.Lanes.{HasAddress, IsSeededLanes, value_at};
 ghost use Rattle.slh_tree.specs.Leaves.{AreLeavesFrom};
-ghost use Rattle.slh_few.specs.Fors.{fors_tree, fors_leaf, fors_secret};
-ghost use Rattle.slh_few.specs.ForsHashes.{AreSeeded};
+ghost use Rattle.slh_few.specs.Fors.{fors_tree, fors_secret};
 ghost use Rattle.slh_few.specs.declared.fors_parts.TheConstants.{MOST_TREES};
 
 use crate::fors_parts::MOST_TREES;
 use crate::nodes::first_nodes;
 use crate::place::Seeds;
 use slh_hash::{SeededHash, SeededTreeHash};
-use slh_lanes::{LaneAdrs, LaneNodes, SeededLanes, adrs_lanes, consecutive, set_hashes};
-use slh_params::{Adrs, AdrsType, Node, ParamSet};
+use slh_lanes::{GROUP, LaneAdrs, LaneNodes, SeededLanes, adrs_lanes, consecutive, set_hashes};
+use slh_params::{Adrs, AdrsType, Node};
 use slh_tree::{Leaves, Tree};
 
 /// One of the k FORS trees of a key pair.
@@ -109,7 +107,7 @@ impl<'a> ForsTree<'a> {
     }
 
     /// Leaf `i`: F of its secret.
-    fn leaf_from(&self, seeded: &SeededHash, i: u32) -> Node
+    pub(crate) fn leaf_from(&self, seeded: &SeededHash, i: u32) -> Node
         requires { i < 2 ^ (params self.now.seeds.set).a }
         ensures { let p = params self.now.seeds.set in let sk_seed = self.now.seeds.sk_seed.now in
             (pk_seed : List ℕ) → IsSeeded seeded.now p pk_seed → result.items
@@ -121,9 +119,9 @@ impl<'a> ForsTree<'a> {
     }
 
     /// The leaves from `first` on, as many as `count`: F of their secrets, eight at once.
-    fn leaves_from(&self, lanes: &SeededLanes, first: u32, count: u32) -> Leaves
+    pub(crate) fn leaves_from(&self, lanes: &SeededLanes, first: u32, count: u32) -> Leaves
         requires some { 1 ≤ count }
-        requires few { count ≤ 8 }
+        requires few { count ≤ GROUP }
         requires within { first + count ≤ 2 ^ (params self.now.seeds.set).a }
         ensures len { length result.items ≡ count }
         ensures leaves { let p = params self.now.seeds.set in let sk_seed = self.now.seeds.sk_seed.now in
@@ -139,7 +137,7 @@ impl<'a> ForsTree<'a> {
     pub(crate) fn leaf_lanes(&self, lanes: &SeededLanes, first: u32) -> LaneNodes
         requires { first < 2 ^ (params self.now.seeds.set).a }
         ensures { let p = params self.now.seeds.set in let sk_seed = self.now.seeds.sk_seed.now in
-            (pk_seed : List ℕ) → IsSeededLanes lanes.now p pk_seed → (j : ℕ) → j < 8 → value_at result j p.n
+            (pk_seed : List ℕ) → IsSeededLanes lanes.now p pk_seed → (j : ℕ) → j < GROUP → value_at result j p.n
             ≡ (fors_tree p sk_seed pk_seed self.now.idx_tree self.now.idx_leaf self.now.tree_no).leaf (first + j) }
     {
         let secrets = lanes.prf(
@@ -153,7 +151,7 @@ impl<'a> ForsTree<'a> {
     pub(crate) fn lane_adrs(&self, kind: AdrsType, z: u32, first: u32) -> LaneAdrs
         requires height { z ≤ (params self.now.seeds.set).a }
         requires index { first < 2 ^ ((params self.now.seeds.set).a - z) }
-        ensures { (j : ℕ) → j < 8
+        ensures { (j : ℕ) → j < GROUP
             → HasAddress result j (address 0 self.now.idx_tree (type_number kind) self.now.idx_leaf z
             (self.now.tree_no * 2 ^ ((params self.now.seeds.set).a - z) + (first + j))) }
     {
@@ -164,7 +162,14 @@ impl<'a> ForsTree<'a> {
     }
 
     /// Node `i` of height `z`: H of its two children.
-    fn join_from(&self, seeded: &SeededTreeHash, z: u32, i: u32, l: &Node, r: &Node) -> Node
+    pub(crate) fn join_from(
+        &self,
+        seeded: &SeededTreeHash,
+        z: u32,
+        i: u32,
+        l: &Node,
+        r: &Node,
+    ) -> Node
         requires height { z ≤ (params self.now.seeds.set).a }
         requires index { i < 2 ^ ((params self.now.seeds.set).a - z) }
         ensures { let p = params self.now.seeds.set in let sk_seed = self.now.seeds.sk_seed.now in
@@ -206,123 +211,5 @@ impl<'a> Tree for ForsTree<'a> {
     fn join(&self, z: u32, i: u32, l: &Node, r: &Node) -> Node {
         let seeded = SeededTreeHash::new(self.seeds.set, self.seeds.pk_seed);
         self.join_from(&seeded, z, i, l, r)
-    }
-}
-
-/// The hash states of PK.seed that a call makes for all its FORS trees: for leaves one at a time, for leaves eight at a
-/// time, and for the nodes above them. Contracts see them by the relation `AreSeeded`.
-#[derive(Drop)]
-pub struct ForsHashes<'a> {
-    pub(crate) seeded: SeededHash,
-    lanes: SeededLanes<'a>,
-    joins: SeededTreeHash,
-}
-
-impl<'a> ForsHashes<'a> {
-    /// The states under this PK.seed of n bytes.
-    #[tactic(auto, unfolding(crate::specs::ForsHashes::AreSeeded))]
-    pub fn new(set: ParamSet, pk_seed: &'a [u8]) -> Self
-        ensures { AreSeeded result (params set) pk_seed.now }
-    {
-        ForsHashes {
-            seeded: SeededHash::new(set, pk_seed),
-            lanes: SeededLanes::new(set, pk_seed),
-            joins: SeededTreeHash::new(set, pk_seed),
-        }
-    }
-
-    /// The state for leaves eight at a time.
-    #[tactic(auto, unfolding(crate::specs::ForsHashes::AreSeeded))]
-    pub(crate) fn lanes(&self) -> &SeededLanes<'a>
-        ensures { (p : Params) (pk_seed : List ℕ) → AreSeeded self.now p pk_seed → IsSeededLanes result.now p pk_seed }
-    {
-        &self.lanes
-    }
-
-    /// The state for the nodes above the leaves.
-    #[tactic(auto, unfolding(crate::specs::ForsHashes::AreSeeded))]
-    pub fn joins(&self) -> &SeededTreeHash
-        ensures { (p : Params) (pk_seed : List ℕ) → AreSeeded self.now p pk_seed → IsSeededTree result.now p pk_seed }
-    {
-        &self.joins
-    }
-}
-
-/// A FORS tree with the hash states that one call makes for all its trees.
-#[derive(Drop)]
-pub struct SeededForsTree<'s, 'h> {
-    pub(crate) tree: ForsTree<'s>,
-    pub(crate) hashes: &'h ForsHashes<'s>,
-    ghost state: { ∥ AreSeeded hashes.now (params tree.seeds.set) tree.seeds.pk_seed.now ∥₁ },
-}
-
-impl<'s, 'h> SeededForsTree<'s, 'h> {
-    ghost use Rattle.slh_few.specs.SeededTrees.{seeded_fors_tree_of};
-    ghost use Rattle.slh_few.specs.Trees.{fors_tree_of};
-
-    /// Tree `tree_no` of the FORS key at leaf `idx_leaf` of tree `idx_tree`: of height a, with nodes of n bytes.
-    #[tactic(auto, unfolding(crate::specs::Trees::fors_tree_of))]
-    pub fn new(
-        hashes: &'h ForsHashes<'s>,
-        seeds: &Seeds<'s>,
-        idx_tree: u64,
-        idx_leaf: u32,
-        tree_no: u32,
-    ) -> Self
-        requires number { tree_no < (params seeds.now.set).k }
-        requires state { ∥ AreSeeded hashes.now (params seeds.now.set) seeds.now.pk_seed.now ∥₁ }
-        ensures { let p = params seeds.now.set in let sk_seed = seeds.now.sk_seed.now in
-            let pk_seed = seeds.now.pk_seed.now in
-            seeded_fors_tree_of result ≡ fors_tree p sk_seed pk_seed idx_tree idx_leaf tree_no }
-    {
-        Self::at(hashes, seeds, idx_tree, idx_leaf, tree_no)
-    }
-
-    /// Tree `tree_no` of the FORS key at leaf `idx_leaf` of tree `idx_tree`, by its fields.
-    pub(crate) fn at(
-        hashes: &'h ForsHashes<'s>,
-        seeds: &Seeds<'s>,
-        idx_tree: u64,
-        idx_leaf: u32,
-        tree_no: u32,
-    ) -> Self
-        requires number { tree_no < (params seeds.now.set).k }
-        requires state { ∥ AreSeeded hashes.now (params seeds.now.set) seeds.now.pk_seed.now ∥₁ }
-        ensures seeds { result.tree.seeds ≡ seeds.now }
-        ensures idx_tree { result.tree.idx_tree ≡ idx_tree }
-        ensures idx_leaf { result.tree.idx_leaf ≡ idx_leaf }
-        ensures tree_no { result.tree.tree_no ≡ tree_no }
-    {
-        let tree = ForsTree::at(seeds, idx_tree, idx_leaf, tree_no);
-        SeededForsTree { tree, hashes }
-    }
-}
-
-impl<'s, 'h> Tree for SeededForsTree<'s, 'h> {
-    ghost use Rattle.slh_few.specs.SeededTrees.{seeded_fors_tree_of};
-    ghost use Rattle.slh_few.specs.Trees.{fors_tree_of, fors-lawful};
-
-    ghost tree = { seeded_fors_tree_of };
-
-    ghost lawful = { λ t. fors-lawful t.tree };
-
-    #[tactic(auto, unfolding(crate::specs::Trees::fors_tree_of))]
-    fn height(&self) -> u32 {
-        self.tree.height()
-    }
-
-    #[tactic(auto, unfolding(crate::specs::Trees::fors_tree_of))]
-    fn leaf(&self, i: u32) -> Node {
-        self.tree.leaf_from(&self.hashes.seeded, i)
-    }
-
-    #[tactic(auto, unfolding(crate::specs::Trees::fors_tree_of))]
-    fn leaves(&self, first: u32, count: u32) -> Leaves {
-        self.tree.leaves_from(&self.hashes.lanes, first, count)
-    }
-
-    #[tactic(auto, unfolding(crate::specs::Trees::fors_tree_of))]
-    fn join(&self, z: u32, i: u32, l: &Node, r: &Node) -> Node {
-        self.tree.join_from(&self.hashes.joins, z, i, l, r)
     }
 }

@@ -10,7 +10,9 @@ ghost use Rattle.slh_few.specs.Parts.{part};
 ghost use Rattle.slh_few.specs.declared.hypertree.TheConstants.{MOST_XMSS_SIG_LEN};
 
 use crate::place::{Place, Public, Seeds};
-use crate::xmss::{SeededXmssTree, sign_tree, xmss_pk_from_sig, xmss_sign};
+use crate::seeded_trees::SeededXmssTree;
+use crate::wots::MOST_WOTS_SIG_LEN;
+use crate::xmss::{sign_tree, xmss_pk_from_sig, xmss_sign};
 use slh_hash::SeededTreeHash;
 use slh_params::{Node, ParamSet, copy_of};
 use slh_tree::climb;
@@ -70,8 +72,9 @@ pub fn layer_places(set: ParamSet, idx_tree: u64, idx_leaf: u32) -> [Place; MOST
     places
 }
 
-/// At least the length of the signature of one layer in any set: 133 chains and 12 nodes of 32 bytes.
-pub const MOST_XMSS_SIG_LEN: usize = (133 + 12) * 32;
+/// At least the length of the signature of one layer in any set: the values of its chains, and a path of at
+/// most 12 nodes.
+pub const MOST_XMSS_SIG_LEN: usize = MOST_WOTS_SIG_LEN + 12 * 32;
 
 /// The length of the signature of one layer: (len + h') * n bytes.
 pub fn xmss_sig_len(set: ParamSet) -> usize

@@ -13,9 +13,9 @@ use crate::chain_lanes::{put_lanes, run_lanes, secret_lanes};
 use crate::nodes::{node_at, part_at, put_part};
 use crate::place::{Place, Public, Seeds};
 use crate::wots::{MOST_WOTS_SIG_LEN, compressed_ends, run_chain, wots_sig_len};
-use crate::wots_digits::digits_of;
+use crate::wots_digits::{MOST_CHAINS, digits_of};
 use slh_hash::SeededHash;
-use slh_lanes::{LaneNodes, SeededLanes, Words, consecutive, lane_node};
+use slh_lanes::{GROUP, LaneNodes, SeededLanes, Words, consecutive, lane_node};
 use slh_params::{Node, ParamSet, put_node};
 
 /// The most values of a chain that are kept.
@@ -40,8 +40,8 @@ pub(crate) fn kept_count(set: ParamSet) -> u32
 /// At least the length of the kept values of one chain in any set: 16 of 32 bytes.
 const MOST_KEPT_CHAIN_LEN: usize = 16 * 32;
 
-/// At least the length of the kept values of all chains of a key in any set: there are at most 133.
-const MOST_KEPT_CHAINS_LEN: usize = 133 * MOST_KEPT_CHAIN_LEN;
+/// At least the length of the kept values of all chains of a key in any set.
+const MOST_KEPT_CHAINS_LEN: usize = MOST_CHAINS * MOST_KEPT_CHAIN_LEN;
 
 /// The length of the kept values of one chain.
 fn kept_chain_len(set: ParamSet) -> usize
@@ -79,7 +79,7 @@ pub(crate) fn put_value(set: ParamSet, kept: &mut [u8], c: usize, j: usize, valu
 /// Writes value `j` of the kept values of the chains from `c` on, from the first `used` lanes.
 fn put_values(set: ParamSet, kept: &mut [u8], c: usize, j: usize, nodes: &LaneNodes, used: usize)
     requires kept { length kept.old ≡ chains_len (params set) }
-    requires lanes { used ≤ 8 }
+    requires lanes { used ≤ GROUP }
     requires chains { c + used ≤ len (params set) }
     requires number { j < kept_count_of (params set) }
     ensures set { (i : ℕ) → i < used → part (params set).n (part (chain_len (params set)) kept.new (c + i)) j
@@ -104,10 +104,10 @@ fn keep_chains(
     kept: &mut [u8],
 ) -> LaneNodes
     requires lanes { IsSeededLanes lanes.now (params seeds.now.set) seeds.now.pk_seed.now }
-    requires used { used ≤ 8 }
+    requires used { used ≤ GROUP }
     requires chains { c + used ≤ len (params seeds.now.set) }
     requires kept { length kept.old ≡ chains_len (params seeds.now.set) }
-    ensures ends { let p = params seeds.now.set in (j : ℕ) → j < 8
+    ensures ends { let p = params seeds.now.set in (j : ℕ) → j < GROUP
         → value_at result j p.n ≡ whole_chain p seeds.now.sk_seed.now seeds.now.pk_seed.now at (c + j) }
     ensures kept { let p = params seeds.now.set in (i j : ℕ) → i < used → j < kept_count_of p
         → part p.n (part (chain_len p) kept.new (c + i)) j
@@ -159,9 +159,9 @@ pub fn wots_pk_keeping(seeds: &Seeds, at: Place, kept: &mut [u8]) -> Node
     let ends = &mut buffer[..wots_sig_len(seeds.set)];
     let n = seeds.set.n();
     let count = seeds.set.len();
-    for group in 0..count.div_ceil(8) {
-        let c = 8 * group;
-        let used = (count - c).min(8);
+    for group in 0..count.div_ceil(GROUP) {
+        let c = GROUP * group;
+        let used = (count - c).min(GROUP);
         let nodes = keep_chains(&lanes, seeds, at, c, used, kept);
         put_lanes(ends, n, &consecutive(c as u32).to_array(), &nodes, used);
     }

@@ -1,47 +1,31 @@
 //! Eight WOTS+ keys at once, one in each lane (FIPS 205, section 5).
-ghost use Rattle.std.specs.Prelude.{◌≡◌, ◌≢◌, ℕ, List, [], ◌+◌, ◌-◌, ◌*◌, ◌%◌, ◌^◌, ◌≤◌, ◌<◌, ◌++◌, length, slice_index_or};
-ghost use Rattle.arrayvec.specs.ArrayVec.{ArrayVec};
-ghost use Rattle.slh_params.specs.Address.{Address, WOTS_PK};
+ghost use Rattle.std.specs.Prelude.{◌≡◌, ◌≢◌, ℕ, ◌+◌, ◌-◌, ◌*◌, ◌%◌, ◌^◌, ◌≤◌, ◌<◌, length};
 ghost use Rattle.slh_params.specs.AdrsType.{type_number};
-ghost use Rattle.slh_params.specs.Params.{Params, len, w};
+ghost use Rattle.slh_params.specs.Params.{len, w};
 ghost use Rattle.slh_params.specs.ParamSet.{params};
-ghost use Rattle.slh_hash.specs.Hash.{T};
-ghost use Rattle.slh_hash.specs.Stream.{HasAbsorbed, IsSeededTree};
-ghost use Rattle.slh_hash.specs.declared.t_stream.TStream.{TStream};
 ghost use Rattle.slh_lanes.specs.Lanes.{HasAddress, IsSeededLanes, value_at};
-ghost use Rattle.slh_lanes.specs.LaneStreams.{HasAbsorbedAt};
 ghost use Rattle.slh_few.specs.KeptChains.{kept_chain_len as chain_len, kept_chains_len as chains_len, kept_chain, kept_chains};
-ghost use Rattle.slh_few.specs.KeyStreams.{HasAbsorbedKey};
 ghost use Rattle.slh_few.specs.Parts.{part};
 ghost use Rattle.slh_few.specs.Wots.{wots_address, chain as chain_of, secret, whole_chain, wots_sig};
 ghost use Rattle.slh_few.specs.Xmss.{AreKeysFrom, place};
 
 use crate::kept_chains::{kept_count, put_value, spacing};
-use crate::nodes::{first_nodes, put_part};
+use crate::key_streams::{absorb_lanes, absorb_two, finished, key_streams};
+use crate::nodes::put_part;
 use crate::place::{Place, Seeds};
 use crate::two_chains::{two_chain_ends, two_chain_ends_keeping, two_chain_ends_signing};
 use crate::wots::{wots_adrs, wots_pk};
 use crate::wots_digits::digits_of;
-use slh_hash::{SeededTreeHash, TStream};
 use slh_lanes::{
-    LaneAdrs, LaneNodes, LaneStream, SeededLanes, SeededTreeLanes, Words, adrs_lanes, consecutive,
-    lane_node, set_pairs,
+    GROUP, LaneAdrs, LaneNodes, SeededLanes, Words, adrs_lanes, consecutive, lane_node, set_pairs,
 };
 use slh_params::{AdrsType, Node};
 use slh_tree::Leaves;
 
-/// T over the ends of the chains of each of eight keys, as far as they were absorbed: in lanes, or where PK.seed has
-/// another length than n, one after the other.
-#[derive(Drop)]
-enum KeyStreams {
-    Lanes(LaneStream),
-    Alone([TStream; 8]),
-}
-
 /// The addresses of chain `c` of eight keys, of which the first is at this place.
 pub(crate) fn key_adrs(at: Place, kind: AdrsType, c: u32) -> LaneAdrs
-    requires { at.pair + 8 ≤ 2 ^ 32 }
-    ensures { (j : ℕ) → j < 8
+    requires { at.pair + GROUP ≤ 2 ^ 32 }
+    ensures { (j : ℕ) → j < GROUP
         → HasAddress result j (wots_address (place at.layer at.tree (at.pair + j)) (type_number kind) c 0) }
 {
     let mut adrs = adrs_lanes(&wots_adrs(at, kind, c, 0));
@@ -52,8 +36,8 @@ pub(crate) fn key_adrs(at: Place, kind: AdrsType, c: u32) -> LaneAdrs
 /// The ends of chain `c` of eight keys, of which the first is at this place.
 fn chain_ends(lanes: &SeededLanes, seeds: &Seeds, at: Place, c: u32) -> LaneNodes
     requires lanes { IsSeededLanes lanes.now (params seeds.now.set) seeds.now.pk_seed.now }
-    requires pairs { at.pair + 8 ≤ 2 ^ 32 }
-    ensures { let p = params seeds.now.set in (j : ℕ) → j < 8 → value_at result j p.n
+    requires pairs { at.pair + GROUP ≤ 2 ^ 32 }
+    ensures { let p = params seeds.now.set in (j : ℕ) → j < GROUP → value_at result j p.n
         ≡ whole_chain p seeds.now.sk_seed.now seeds.now.pk_seed.now (place at.layer at.tree (at.pair + j)) c }
 {
     let secrets = lanes.prf(seeds.sk_seed, &key_adrs(at, AdrsType::WotsPrf, c));
@@ -65,138 +49,11 @@ fn chain_ends(lanes: &SeededLanes, seeds: &Seeds, at: Place, c: u32) -> LaneNode
     )
 }
 
-/// T at the address of the key `j` leaves after this place, before any end.
-fn key_stream(seeded: &SeededTreeHash, at: Place, j: u32) -> TStream
-    requires { at.pair + j < 2 ^ 32 }
-    ensures { (p : Params) (pk_seed : List ℕ) → IsSeededTree seeded.now p pk_seed
-        → HasAbsorbed result p pk_seed (wots_address (place at.layer at.tree (at.pair + j)) WOTS_PK 0 0) [] }
-{
-    let key = Place {
-        layer: at.layer,
-        tree: at.tree,
-        pair: at.pair + j,
-    };
-    seeded.stream(&wots_adrs(key, AdrsType::WotsPk, 0, 0))
-}
-
-/// T at the addresses of eight keys in lanes, of which the first is at this place, before any end.
-fn lane_stream(seeds: &Seeds, at: Place) -> LaneStream
-    requires pairs { at.pair + 8 ≤ 2 ^ 32 }
-    requires len { length seeds.now.pk_seed.now ≡ (params seeds.now.set).n }
-    ensures { (j : ℕ) → j < 8 → HasAbsorbedAt result j (params seeds.now.set) seeds.now.pk_seed.now
-        (wots_address (place at.layer at.tree (at.pair + j)) WOTS_PK 0 0) [] }
-{
-    let lanes = SeededTreeLanes::new(&SeededLanes::new(seeds.set, seeds.pk_seed));
-    LaneStream::new(&lanes, &key_adrs(at, AdrsType::WotsPk, 0))
-}
-
-/// T at the addresses of eight keys one after the other, of which the first is at this place, before any end.
-fn streams_alone(seeds: &Seeds, at: Place) -> [TStream; 8]
-    requires { at.pair + 8 ≤ 2 ^ 32 }
-    ensures { (j : ℕ) (d : TStream) → j < 8
-        → HasAbsorbed (slice_index_or result j d) (params seeds.now.set) seeds.now.pk_seed.now
-        (wots_address (place at.layer at.tree (at.pair + j)) WOTS_PK 0 0) [] }
-{
-    let seeded = SeededTreeHash::new(seeds.set, seeds.pk_seed);
-    [
-        key_stream(&seeded, at, 0),
-        key_stream(&seeded, at, 1),
-        key_stream(&seeded, at, 2),
-        key_stream(&seeded, at, 3),
-        key_stream(&seeded, at, 4),
-        key_stream(&seeded, at, 5),
-        key_stream(&seeded, at, 6),
-        key_stream(&seeded, at, 7),
-    ]
-}
-
-/// T at the addresses of eight keys, of which the first is at this place, before any end.
-fn key_streams(seeds: &Seeds, at: Place) -> KeyStreams
-    requires { at.pair + 8 ≤ 2 ^ 32 }
-    ensures { (j : ℕ) → j < 8 → HasAbsorbedKey result j (params seeds.now.set) seeds.now.pk_seed.now
-        (wots_address (place at.layer at.tree (at.pair + j)) WOTS_PK 0 0) [] }
-{
-    if seeds.pk_seed.len() == seeds.set.n() {
-        KeyStreams::Lanes(lane_stream(seeds, at))
-    } else {
-        KeyStreams::Alone(streams_alone(seeds, at))
-    }
-}
-
-/// Adds to each T of eight the value of n bytes in its lane.
-fn absorb_alone(streams: &mut [TStream; 8], nodes: &LaneNodes, n: usize)
-    requires { n ≤ 32 }
-    ensures { (p : Params) (pk_seed : List ℕ) (a : Address) (x : List ℕ) (j : ℕ) (d : TStream) → j < 8
-        → HasAbsorbed (slice_index_or streams.old j d) p pk_seed a x
-        → HasAbsorbed (slice_index_or streams.new j d) p pk_seed a (x ++ value_at nodes.now j n) }
-{
-    for j in 0..8 {
-        streams[j].absorb(&lane_node(nodes, j, n));
-    }
-}
-
-/// Adds to each key's T the value of n bytes in its lane.
-fn absorb_lanes(streams: &mut KeyStreams, nodes: &LaneNodes, n: usize)
-    requires { n ≤ 32 }
-    ensures { (p : Params) (pk_seed : List ℕ) (a : Address) (x : List ℕ) (j : ℕ) → j < 8 → p.n ≡ n
-        → HasAbsorbedKey streams.old j p pk_seed a x
-        → HasAbsorbedKey streams.new j p pk_seed a (x ++ value_at nodes.now j n) }
-{
-    match streams {
-        KeyStreams::Lanes(stream) => stream.absorb(nodes),
-        KeyStreams::Alone(streams) => absorb_alone(streams, nodes, n),
-    }
-}
-
-/// Adds to each key's T the value of n bytes in its lane of `x`, and then that in its lane of `y`.
-fn absorb_two(streams: &mut KeyStreams, x: &LaneNodes, y: &LaneNodes, n: usize)
-    requires { n ≤ 32 }
-    ensures { (p : Params) (pk_seed : List ℕ) (a : Address) (m : List ℕ) (j : ℕ) → j < 8 → p.n ≡ n
-        → HasAbsorbedKey streams.old j p pk_seed a m
-        → HasAbsorbedKey streams.new j p pk_seed a ((m ++ value_at x.now j n) ++ value_at y.now j n) }
-{
-    absorb_lanes(streams, x, n);
-    absorb_lanes(streams, y, n);
-}
-
-/// T of what each of eight absorbed.
-fn finished_alone(streams: [TStream; 8]) -> Leaves
-    ensures len { length result.items ≡ 8 }
-    ensures values { (p : Params) (pk_seed : List ℕ) (a : Address) (x : List ℕ) (j : ℕ) (e : ArrayVec ℕ) → j < 8
-        → ((d : TStream) → HasAbsorbed (slice_index_or streams j d) p pk_seed a x)
-        → (slice_index_or result.items j e).items ≡ T p pk_seed a x }
-{
-    let [a, b, c, d, e, f, g, h] = streams;
-    Leaves::from([
-        a.finish(),
-        b.finish(),
-        c.finish(),
-        d.finish(),
-        e.finish(),
-        f.finish(),
-        g.finish(),
-        h.finish(),
-    ])
-}
-
-/// T of what each key's absorbed, of less than 2^28 bytes.
-fn finished(streams: KeyStreams) -> Leaves
-    ensures len { length result.items ≡ 8 }
-    ensures values { (p : Params) (pk_seed : List ℕ) (a : Address) (x : List ℕ) (j : ℕ) (e : ArrayVec ℕ) → j < 8
-        → HasAbsorbedKey streams j p pk_seed a x → length x < 2 ^ 28
-        → (slice_index_or result.items j e).items ≡ T p pk_seed a x }
-{
-    match streams {
-        KeyStreams::Lanes(stream) => first_nodes(&stream.finish(), stream.set().n(), 8),
-        KeyStreams::Alone(streams) => finished_alone(streams),
-    }
-}
-
 /// The public keys at eight places, of which this is the first: n bytes each (Algorithm 6). Two chains of each are run
 /// at once.
 fn eight_pks(seeds: &Seeds, at: Place) -> Leaves
-    requires { at.pair + 8 ≤ 2 ^ 32 }
-    ensures len { length result.items ≡ 8 }
+    requires { at.pair + GROUP ≤ 2 ^ 32 }
+    ensures len { length result.items ≡ GROUP }
     ensures keys { AreKeysFrom (params seeds.now.set) seeds.now.sk_seed.now seeds.now.pk_seed.now at result.items }
 {
     let lanes = SeededLanes::new(seeds.set, seeds.pk_seed);
@@ -227,11 +84,11 @@ fn chain_ends_signing(
     out: &mut [u8],
 ) -> LaneNodes
     requires lanes { IsSeededLanes lanes.now (params seeds.now.set) seeds.now.pk_seed.now }
-    requires pairs { at.pair + 8 ≤ 2 ^ 32 }
+    requires pairs { at.pair + GROUP ≤ 2 ^ 32 }
     requires steps { steps ≤ w (params seeds.now.set) - 1 }
-    requires lane { lane < 8 }
+    requires lane { lane < GROUP }
     requires out { c * (params seeds.now.set).n + (params seeds.now.set).n ≤ length out.old }
-    ensures ends { let p = params seeds.now.set in (j : ℕ) → j < 8 → value_at result j p.n
+    ensures ends { let p = params seeds.now.set in (j : ℕ) → j < GROUP → value_at result j p.n
         ≡ whole_chain p seeds.now.sk_seed.now seeds.now.pk_seed.now (place at.layer at.tree (at.pair + j)) c }
     ensures set { let p = params seeds.now.set in let sk_seed = seeds.now.sk_seed.now in
         let pk_seed = seeds.now.pk_seed.now in
@@ -250,12 +107,12 @@ fn chain_ends_signing(
 
 /// The place of the first of the eight keys that stand below the same node of height 3 as the key at this place.
 pub(crate) fn first_of_eight(at: Place) -> Place
-    ensures { result ≡ place at.layer at.tree (at.pair - at.pair % 8) }
+    ensures { result ≡ place at.layer at.tree (at.pair - at.pair % GROUP) }
 {
     Place {
         layer: at.layer,
         tree: at.tree,
-        pair: at.pair - at.pair % 8,
+        pair: at.pair - at.pair % GROUP as u32,
     }
 }
 
@@ -270,12 +127,12 @@ pub(crate) fn sign_among_eight(seeds: &Seeds, at: Place, msg: &Node, out: &mut [
     ensures signature { let p = params seeds.now.set in let sk_seed = seeds.now.sk_seed.now in
         let pk_seed = seeds.now.pk_seed.now in
         out.new ≡ wots_sig p sk_seed pk_seed at msg.now.items }
-    ensures len { length result.items ≡ 8 }
+    ensures len { length result.items ≡ GROUP }
     ensures keys { AreKeysFrom (params seeds.now.set) seeds.now.sk_seed.now seeds.now.pk_seed.now
-        (place at.layer at.tree (at.pair - at.pair % 8)) result.items }
+        (place at.layer at.tree (at.pair - at.pair % GROUP)) result.items }
 {
     let first = first_of_eight(at);
-    let lane = (at.pair % 8) as usize;
+    let lane = (at.pair % GROUP as u32) as usize;
     let digits = digits_of(seeds.set, msg);
     let lanes = SeededLanes::new(seeds.set, seeds.pk_seed);
     let mut streams = key_streams(seeds, first);
@@ -310,11 +167,11 @@ fn chain_ends_keeping(
     kept: &mut [u8],
 ) -> LaneNodes
     requires lanes { IsSeededLanes lanes.now (params seeds.now.set) seeds.now.pk_seed.now }
-    requires pairs { at.pair + 8 ≤ 2 ^ 32 }
+    requires pairs { at.pair + GROUP ≤ 2 ^ 32 }
     requires chain { c < len (params seeds.now.set) }
-    requires lane { lane < 8 }
+    requires lane { lane < GROUP }
     requires kept { length kept.old ≡ chains_len (params seeds.now.set) }
-    ensures ends { let p = params seeds.now.set in (j : ℕ) → j < 8 → value_at result j p.n
+    ensures ends { let p = params seeds.now.set in (j : ℕ) → j < GROUP → value_at result j p.n
         ≡ whole_chain p seeds.now.sk_seed.now seeds.now.pk_seed.now (place at.layer at.tree (at.pair + j)) c }
     ensures kept { let p = params seeds.now.set in let sk_seed = seeds.now.sk_seed.now in
         let pk_seed = seeds.now.pk_seed.now in
@@ -344,15 +201,15 @@ fn chain_ends_keeping(
 /// steps.
 pub(crate) fn eight_pks_keeping(seeds: &Seeds, at: Place, kept: &mut [u8]) -> Leaves
     requires { length kept.old ≡ chains_len (params seeds.now.set) }
-    ensures len { length result.items ≡ 8 }
+    ensures len { length result.items ≡ GROUP }
     ensures keys { AreKeysFrom (params seeds.now.set) seeds.now.sk_seed.now seeds.now.pk_seed.now
-        (place at.layer at.tree (at.pair - at.pair % 8)) result.items }
+        (place at.layer at.tree (at.pair - at.pair % GROUP)) result.items }
     ensures kept { let p = params seeds.now.set in let sk_seed = seeds.now.sk_seed.now in
         let pk_seed = seeds.now.pk_seed.now in
         kept.new ≡ kept_chains p sk_seed pk_seed at }
 {
     let first = first_of_eight(at);
-    let lane = (at.pair % 8) as usize;
+    let lane = (at.pair % GROUP as u32) as usize;
     let lanes = SeededLanes::new(seeds.set, seeds.pk_seed);
     let mut streams = key_streams(seeds, first);
     let mut x = [Words::splat(0); 8];
@@ -371,7 +228,7 @@ pub(crate) fn eight_pks_keeping(seeds: &Seeds, at: Place, kept: &mut [u8]) -> Le
 
 /// The public keys at as many places as `count`, of which this is the first, one after another.
 fn pks_in_turn(seeds: &Seeds, at: Place, count: u32) -> Leaves
-    requires few { count ≤ 8 }
+    requires few { count ≤ GROUP }
     requires pairs { at.pair + count ≤ 2 ^ 32 }
     ensures len { length result.items ≡ count }
     ensures keys { AreKeysFrom (params seeds.now.set) seeds.now.sk_seed.now seeds.now.pk_seed.now at result.items }
@@ -391,12 +248,12 @@ fn pks_in_turn(seeds: &Seeds, at: Place, count: u32) -> Leaves
 /// The public keys at as many places as `count`, of which this is the first: n bytes each (Algorithm 6). Eight are made
 /// at once.
 pub(crate) fn wots_pks(seeds: &Seeds, at: Place, count: u32) -> Leaves
-    requires few { count ≤ 8 }
+    requires few { count ≤ GROUP }
     requires pairs { at.pair + count ≤ 2 ^ 32 }
     ensures len { length result.items ≡ count }
     ensures keys { AreKeysFrom (params seeds.now.set) seeds.now.sk_seed.now seeds.now.pk_seed.now at result.items }
 {
-    if count == 8 {
+    if count == GROUP as u32 {
         eight_pks(seeds, at)
     } else {
         pks_in_turn(seeds, at, count)

@@ -15,18 +15,22 @@ mod fors_tree;
 mod hypertree;
 mod kept_chains;
 mod key_lanes;
+mod key_streams;
+mod known_leaves;
 mod nodes;
 mod path_bytes;
 mod place;
 mod ranges;
+mod seeded_trees;
 mod two_chains;
 mod wots;
 mod wots_digits;
 mod xmss;
+mod xmss_tree;
 
 pub use fors::{fors_node, fors_part_len, fors_pk_from_sig, fors_root_from_sig, fors_sign};
 pub use fors_parts::{MOST_TREES, fors_indices, fors_roots, fors_secret};
-pub use fors_tree::{ForsHashes, ForsTree, SeededForsTree};
+pub use fors_tree::ForsTree;
 pub use hypertree::{
     MOST_LAYERS, MOST_XMSS_SIG_LEN, ht_sign, ht_verify, layer_place, layer_places, xmss_sig_len,
 };
@@ -34,6 +38,8 @@ pub use kept_chains::{kept_chains_len, wots_pk_keeping, wots_sign_kept};
 pub use path_bytes::put_path;
 pub use place::{Place, Public, Seeds};
 pub use ranges::{fors_range, xmss_range, xmss_range_keeping};
+pub use seeded_trees::{ForsHashes, SeededForsTree, SeededXmssTree};
 pub use wots::{chain, wots_pk, wots_pk_from_sig, wots_sig_len, wots_sign};
 pub use wots_digits::digits;
-pub use xmss::{SeededXmssTree, XmssTree, xmss_node, xmss_pk_from_sig, xmss_sign};
+pub use xmss::{xmss_node, xmss_pk_from_sig, xmss_sign};
+pub use xmss_tree::XmssTree;

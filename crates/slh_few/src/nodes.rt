@@ -4,7 +4,7 @@ ghost use Rattle.slh_params.specs.Bits.{AllBytes};
 ghost use Rattle.slh_few.specs.LaneValues.{HasValues};
 ghost use Rattle.slh_few.specs.Parts.{part};
 
-use slh_lanes::{LaneNodes, lane_node};
+use slh_lanes::{GROUP, LaneNodes, lane_node};
 use slh_params::{Node, node_of};
 use slh_tree::Leaves;
 
@@ -53,7 +53,7 @@ pub(crate) fn bytes_of(node: &Node) -> &[u8]
 /// The values of n bytes in the first `count` lanes.
 pub(crate) fn first_nodes(nodes: &LaneNodes, n: usize, count: usize) -> Leaves
     requires n { n ≤ 32 }
-    requires lanes { count ≤ 8 }
+    requires lanes { count ≤ GROUP }
     ensures len { length result.items ≡ count }
     ensures values { HasValues result.items nodes.now n }
 {

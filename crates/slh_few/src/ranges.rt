@@ -11,13 +11,13 @@ ghost use Rattle.slh_few.specs.Xmss.{xmss_tree};
 ghost use Rattle.slh_few.specs.Fors.{fors_tree};
 
 use crate::fors_blocks::block_height;
-use crate::fors_tree::{ForsHashes, SeededForsTree};
 use crate::kept_chains::wots_pk_keeping;
 use crate::key_lanes::{eight_pks_keeping, first_of_eight};
+use crate::known_leaves::KnownLeavesTree;
 use crate::place::{Place, Seeds};
-use crate::xmss::{KnownLeavesTree, SeededXmssTree};
+use crate::seeded_trees::{ForsHashes, SeededForsTree, SeededXmssTree};
 use slh_hash::SeededTreeHash;
-use slh_lanes::SeededTreeLanes;
+use slh_lanes::{GROUP, SeededTreeLanes};
 use slh_tree::{Cover, Leaves, PathRec, hash_range};
 
 /// The cover of the leaves from `lo` to `hi`, `hi` left out, of tree `tree` of layer `layer`. The record, of a leaf of
@@ -47,7 +47,7 @@ pub fn xmss_range(seeds: &Seeds, layer: u8, tree: u64, lo: u32, hi: u32, rec: &m
 /// leaves has no such range.
 fn has_eight_in_range(at: Place, lo: u32, hi: u32) -> bool {
     let first = first_of_eight(at).pair;
-    lo <= first && first <= hi && hi - first >= 8
+    lo <= first && first <= hi && hi - first >= GROUP as u32
 }
 
 /// The tree over a place, with the leaf at the place made here. What `wots_pk_keeping` keeps of that leaf's key is

@@ -13,7 +13,7 @@ use crate::kept_chains::{kept_count, put_value, spacing};
 use crate::key_lanes::key_adrs;
 use crate::nodes::put_part;
 use crate::place::{Place, Seeds};
-use slh_lanes::{LaneNodes, SeededLanes, lane_node};
+use slh_lanes::{GROUP, LaneNodes, SeededLanes, lane_node};
 use slh_params::{AdrsType, ParamSet};
 
 /// The ends of two chains of eight keys, of which the first is at this place: those of chain `c` are written into `x`,
@@ -27,7 +27,7 @@ pub(crate) fn two_chain_ends(
     y: &mut LaneNodes,
 )
     requires lanes { IsSeededLanes lanes.now (params seeds.now.set) seeds.now.pk_seed.now }
-    requires pairs { at.pair + 8 ≤ 2 ^ 32 }
+    requires pairs { at.pair + GROUP ≤ 2 ^ 32 }
     requires chains { c + 1 < 2 ^ 32 }
     ensures x { AreEnds (params seeds.now.set) seeds.now.sk_seed.now seeds.now.pk_seed.now at c x.new }
     ensures y { AreEnds (params seeds.now.set) seeds.now.sk_seed.now seeds.now.pk_seed.now at (c + 1) y.new }
@@ -54,7 +54,7 @@ fn put_two_values(
     requires kept { length kept.old ≡ chains_len (params set) }
     requires chains { c + 1 < len (params set) }
     requires number { j < kept_count_of (params set) }
-    requires lane { lane < 8 }
+    requires lane { lane < GROUP }
     ensures x { part (params set).n (part (chain_len (params set)) kept.new c) j ≡ value_at x.now lane (params set).n }
     ensures y { part (params set).n (part (chain_len (params set)) kept.new (c + 1)) j
         ≡ value_at y.now lane (params set).n }
@@ -84,9 +84,9 @@ pub(crate) fn two_chain_ends_keeping(
     kept: &mut [u8],
 )
     requires lanes { IsSeededLanes lanes.now (params seeds.now.set) seeds.now.pk_seed.now }
-    requires pairs { at.pair + 8 ≤ 2 ^ 32 }
+    requires pairs { at.pair + GROUP ≤ 2 ^ 32 }
     requires chains { c + 1 < len (params seeds.now.set) }
-    requires lane { lane < 8 }
+    requires lane { lane < GROUP }
     requires kept { length kept.old ≡ chains_len (params seeds.now.set) }
     ensures x { AreEnds (params seeds.now.set) seeds.now.sk_seed.now seeds.now.pk_seed.now at c x.new }
     ensures y { AreEnds (params seeds.now.set) seeds.now.sk_seed.now seeds.now.pk_seed.now at (c + 1) y.new }
@@ -139,11 +139,11 @@ fn ends_signing_in_order(
     out: &mut [u8],
 )
     requires lanes { IsSeededLanes lanes.now (params seeds.now.set) seeds.now.pk_seed.now }
-    requires pairs { at.pair + 8 ≤ 2 ^ 32 }
+    requires pairs { at.pair + GROUP ≤ 2 ^ 32 }
     requires two { x_chain.c ≢ y_chain.c }
     requires order { x_chain.steps ≤ y_chain.steps }
     requires steps { y_chain.steps ≤ w (params seeds.now.set) - 1 }
-    requires lane { lane < 8 }
+    requires lane { lane < GROUP }
     requires x_part { x_chain.c * (params seeds.now.set).n + (params seeds.now.set).n ≤ length out.old }
     requires y_part { y_chain.c * (params seeds.now.set).n + (params seeds.now.set).n ≤ length out.old }
     ensures x { AreEnds (params seeds.now.set) seeds.now.sk_seed.now seeds.now.pk_seed.now at x_chain.c x.new }
@@ -193,11 +193,11 @@ pub(crate) fn two_chain_ends_signing(
     out: &mut [u8],
 )
     requires lanes { IsSeededLanes lanes.now (params seeds.now.set) seeds.now.pk_seed.now }
-    requires pairs { at.pair + 8 ≤ 2 ^ 32 }
+    requires pairs { at.pair + GROUP ≤ 2 ^ 32 }
     requires chains { c + 1 < 2 ^ 32 }
     requires x_steps { x_steps ≤ w (params seeds.now.set) - 1 }
     requires y_steps { y_steps ≤ w (params seeds.now.set) - 1 }
-    requires lane { lane < 8 }
+    requires lane { lane < GROUP }
     requires out { (c + 1) * (params seeds.now.set).n + (params seeds.now.set).n ≤ length out.old }
     ensures x { AreEnds (params seeds.now.set) seeds.now.sk_seed.now seeds.now.pk_seed.now at c x.new }
     ensures y { AreEnds (params seeds.now.set) seeds.now.sk_seed.now seeds.now.pk_seed.now at (c + 1) y.new }

@@ -13,7 +13,7 @@ ghost use Rattle.slh_few.specs.declared.wots.TheConstants.{MOST_WOTS_SIG_LEN};
 use crate::chain_lanes::{ChainNumbers, run_secrets, run_values};
 use crate::nodes::node_at;
 use crate::place::{Place, Public, Seeds};
-use crate::wots_digits::{MOST_DIGITS, digits_of};
+use crate::wots_digits::{MOST_CHAINS, MOST_DIGITS, digits_of};
 use slh_hash::{SeededHash, TStream};
 use slh_params::{Adrs, AdrsType, Node, ParamSet, copy_of};
 
@@ -32,7 +32,7 @@ pub(crate) fn wots_adrs(at: Place, kind: AdrsType, chain: u32, hash: u32) -> Adr
 }
 
 /// The most steps of a chain in any set: w is at most 256.
-pub(crate) const MOST_STEPS: u32 = 255;
+pub(crate) const MOST_STEPS: u32 = 256 - 1;
 
 /// Runs chain `c` on from `x`, which is its value after `from` steps.
 pub(crate) fn run_chain(
@@ -74,8 +74,8 @@ pub fn chain(public: &Public, at: Place, chain_no: u32, x: &Node, from: u32, ste
     run_chain(&seeded, at, chain_no, copy_of(x), from, steps)
 }
 
-/// At least the length of a signature in any set, and so of a value of each chain of a key: 133 values of 32 bytes.
-pub(crate) const MOST_WOTS_SIG_LEN: usize = 133 * 32;
+/// At least the length of a signature in any set, and so of a value of each chain of a key: of 32 bytes each.
+pub(crate) const MOST_WOTS_SIG_LEN: usize = MOST_CHAINS * 32;
 
 /// T over the ends of all chains: the public key, n bytes (Algorithm 6, lines 10 to 13).
 pub(crate) fn compressed_ends(public: &Public, at: Place, ends: &[u8]) -> Node
@@ -134,8 +134,7 @@ pub fn wots_sign(seeds: &Seeds, at: Place, msg: &Node, out: &mut [u8])
     run_secrets(seeds, at, &digits_of(seeds.set, msg), out);
 }
 
-/// How many steps each chain has left from its digit to its end, with zeros after them: a lane without a chain of the
-/// key takes no steps.
+/// How many steps each chain has left from its digit to its end, with zeros after them.
 fn steps_left(set: ParamSet, digits: &ChainNumbers) -> ChainNumbers
     requires { (c : ℕ) → slice_index digits.now c ≤ w (params set) - 1 }
     ensures left { (c : ℕ) → c < len (params set) → slice_index result c

@@ -6,13 +6,17 @@ ghost use Rattle.slh_params.specs.Bits.{AllBytes};
 ghost use Rattle.slh_few.specs.Wots.{digits as digits_of, digit, checksum, checksum_digits, NowhereBelow};
 
 use crate::nodes::bytes_of;
+use slh_lanes::GROUP;
 use slh_params::{Node, ParamSet, base_2b, to_byte};
 
-/// At least the digits that a message of any set has, with its checksum: whole groups of eight.
-pub(crate) const MOST_DIGITS: usize = 136;
+/// The most chains of a key in any set: 128 digits of a message, where n is 32 and lg_w 2, and 5 of its checksum.
+pub(crate) const MOST_CHAINS: usize = 128 + 5;
+
+/// At least as many, and whole groups.
+pub(crate) const MOST_DIGITS: usize = 17 * GROUP;
 
 /// No checksum is larger: at most 128 digits of a message, each at most 255 below w - 1.
-const MOST_CHECKSUM: u32 = 32640;
+const MOST_CHECKSUM: u32 = 128 * 255;
 
 /// How far below w - 1 the digits of a message are, in all.
 #[tactic(auto, using(crate::proofs::Checksum::digit_bounds))]

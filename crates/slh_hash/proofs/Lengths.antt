@@ -5,7 +5,7 @@ use Rattle.slh_params.specs.Address.{Address}
 use Rattle.slh_params.specs.Params.{Params}
 use Rattle.slh_hash.specs.HashFunctions.{HashFunction, IsSized, SHA_256, SHA_512, category_function, sized_256, sized_512}
 use Rattle.slh_hash.specs.Hash.{F, PRF, T, tweaked, tweaked_hash}
-use Rattle.slh_hash.specs.Keyed.{hmac, key_block, xor_each, PRF_msg}
+use Rattle.slh_hash.specs.Keyed.{hmac, hmac_message, PRF_msg}
 
 pub sized_category : (p : Params) → IsSized (category_function p)
 sized_category p = elim (p.n == 16) as (λ b. IsSized (if b then SHA_256 else SHA_512)) [ true ↦ sized_256 | false ↦ sized_512 ]
@@ -27,7 +27,10 @@ length-T p pk a x h = length-tweaked_hash (category_function p) (sized_category 
 
 length-hmac : (f : HashFunction) → IsSized f → (key text : List ℕ) → length (hmac f key text) ≡ f.size
 unfolding hmac
-length-hmac f h key text = h.digests (xor_each 0x5c (key_block f key) ++ f.hash (xor_each 0x36 (key_block f key) ++ text))
+length-hmac f h key text = h.digests (hmac_message f key text)
+
+pub category_hmac_size : (p : Params) (key text : List ℕ) → length (hmac (category_function p) key text) ≡ (category_function p).size
+category_hmac_size p key text = length-hmac (category_function p) (sized_category p) key text
 
 -- an HMAC that is cut to n bytes
 pub length-cut_hmac : (p : Params) (key text : List ℕ) → p.n ≤ 32 → length (take p.n (hmac (category_function p) key text)) ≡ p.n

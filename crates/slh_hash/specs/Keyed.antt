@@ -23,9 +23,13 @@ key_block f key = if nat_le (length key) f.block then filled f.block key else fi
 abbrev pub xor_each : ℕ → List ℕ → List ℕ
 xor_each pad bytes = map (λ b. bit_xor b pad) bytes
 
+-- (K0 xor opad) ‖ Hash((K0 xor ipad) ‖ text)
+abbrev pub hmac_message : HashFunction → List ℕ → List ℕ → List ℕ
+hmac_message f key text = xor_each 0x5c (key_block f key) ++ f.hash (xor_each 0x36 (key_block f key) ++ text)
+
 -- HMAC: Hash((K0 xor opad) ‖ Hash((K0 xor ipad) ‖ text))
 unfoldable pub hmac : HashFunction → List ℕ → List ℕ → List ℕ
-hmac f key text = f.hash (xor_each 0x5c (key_block f key) ++ f.hash (xor_each 0x36 (key_block f key) ++ text))
+hmac f key text = f.hash (hmac_message f key text)
 
 -- Hash(seed ‖ toByte(0, 4)) ‖ .. ‖ Hash(seed ‖ toByte(count - 1, 4))
 abbrev pub mgf1_blocks : HashFunction → List ℕ → ℕ → List ℕ

@@ -3,10 +3,11 @@ ghost use Rattle.std.specs.Prelude.{◌≡◌, ◌++◌, ℕ, List, [], take, le
 ghost use Rattle.slh_params.specs.Params.{Params};
 ghost use Rattle.slh_params.specs.ParamSet.{params};
 ghost use Rattle.slh_hash.specs.HashFunctions.{category_function};
-ghost use Rattle.slh_hash.specs.Keyed.{key_block, hmac};
-ghost use Rattle.slh_hash.specs.Stream.{IsKeyed};
+ghost use Rattle.slh_hash.specs.Keyed.{joined, key_block, hmac_message, hmac};
+ghost use Rattle.slh_hash.specs.Stream.{HoldsFor, IsKeyed};
 
 use crate::category_hasher::CategoryHasher;
+use crate::hash_function::DigestBytes;
 use crate::hmac::{Block, key_block, xor_each};
 use sha2::{Sha256, Sha512};
 use slh_params::{Node, ParamSet};
@@ -43,6 +44,16 @@ impl CategoryHmac {
         self.inner.update(bytes);
     }
 
+    /// Adds the parts to the text.
+    pub(crate) fn absorb(&mut self, parts: &[&[u8]])
+        ensures { (p : Params) (key text : List ℕ) → IsKeyed self.old p key text
+            → IsKeyed self.new p key (text ++ joined parts.now) }
+    {
+        for part in parts {
+            self.update(part);
+        }
+    }
+
     /// A copy, after the same text.
     pub fn copy(&self) -> Self
         ensures { result ≡ self.now }
@@ -54,19 +65,37 @@ impl CategoryHmac {
         }
     }
 
+    /// The outer hasher after the digest of the inner one: it holds what the HMAC of the text is the digest of.
+    fn into_outer(self) -> CategoryHasher
+        ensures { (p : Params) (key text : List ℕ) → IsKeyed self p key text
+            → HoldsFor result p (hmac_message (category_function p) key text) }
+    {
+        let CategoryHmac {
+            set: _,
+            inner,
+            mut outer,
+        } = self;
+        outer.update(inner.digest().as_slice());
+        outer
+    }
+
+    /// The HMAC of the text.
+    #[tactic(auto, unfolding(crate::specs::Keyed::hmac))]
+    pub(crate) fn digest(self) -> DigestBytes
+        ensures { (p : Params) (key text : List ℕ) → IsKeyed self p key text
+            → result.items ≡ hmac (category_function p) key text }
+    {
+        self.into_outer().digest()
+    }
+
     /// The first n bytes of the HMAC of the text.
     pub fn finish(self) -> Node
         ensures value { (p : Params) (key text : List ℕ) → IsKeyed self p key text
             → result.items ≡ take p.n (hmac (category_function p) key text) }
         ensures len { (p : Params) (key text : List ℕ) → IsKeyed self p key text → length result.items ≡ p.n }
     {
-        let CategoryHmac {
-            set,
-            inner,
-            mut outer,
-        } = self;
-        outer.update(inner.digest().as_slice());
-        outer.finish(set.n())
+        let set = self.set;
+        self.into_outer().finish(set.n())
     }
 }
 

@@ -1,54 +1,48 @@
 //! HMAC (FIPS 198-1) over SHA-256 and SHA-512.
 ghost use Rattle.std.specs.Prelude.{◌≡◌, ◌+◌, ◌≤◌, ◌++◌, length};
-ghost use Rattle.slh_hash.specs.HashFunctions.{SHA_256, SHA_512};
+ghost use Rattle.slh_params.specs.ParamSet.{params};
+ghost use Rattle.slh_hash.specs.HashFunctions.{SHA_256, SHA_512, category_function};
 ghost use Rattle.slh_hash.specs.Keyed.{joined, filled, key_block, xor_each, hmac};
 ghost use Rattle.slh_hash.specs.declared.hash_function.TheConstants.{MOST_BLOCK_LEN};
 
-use crate::hash_function::{DigestBytes, HashFunctionOf, MOST_BLOCK_LEN, absorb};
+use crate::category_hmac::CategoryHmac;
+use crate::hash_function::{DigestBytes, HashFunctionOf, MOST_BLOCK_LEN};
 use crate::tweakable::zeros;
 use arrayvec::ArrayVec;
-use sha2::{Digest, Sha256, Sha512};
+use slh_params::ParamSet;
 
 /// One block of a hash function.
 pub(crate) type Block = ArrayVec<u8, MOST_BLOCK_LEN>;
 
 /// HMAC-SHA-256 (FIPS 198-1) of the parts put end to end, under a key of any length.
+#[tactic(auto, unfolding(slh_params::specs::ParamSet::params))]
 pub fn hmac_sha256(key: &[u8], parts: &[&[u8]]) -> [u8; 32]
     ensures { result ≡ hmac SHA_256 key.now (joined parts.now) }
 {
     let mut out = [0; 32];
-    out.copy_from_slice(hmac_of::<Sha256>(key, &[], parts).as_slice());
+    out.copy_from_slice(hmac_of(ParamSet::S128s, key, parts).as_slice());
     out
 }
 
 /// HMAC-SHA-512 (FIPS 198-1) of the parts put end to end, under a key of any length.
+#[tactic(auto, unfolding(slh_params::specs::ParamSet::params))]
 pub fn hmac_sha512(key: &[u8], parts: &[&[u8]]) -> [u8; 64]
     ensures { result ≡ hmac SHA_512 key.now (joined parts.now) }
 {
     let mut out = [0; 64];
-    out.copy_from_slice(hmac_of::<Sha512>(key, &[], parts).as_slice());
+    out.copy_from_slice(hmac_of(ParamSet::S256s, key, parts).as_slice());
     out
 }
 
-/// HMAC of the parts put end to end, those of `front` first.
-#[tactic(auto, unfolding(crate::specs::Keyed::hmac))]
-pub(crate) fn hmac_of<D: HashFunctionOf>(
-    key: &[u8],
-    front: &[&[u8]],
-    parts: &[&[u8]],
-) -> DigestBytes
-    ensures value { result.items ≡ hmac D.function key.now (joined front.now ++ joined parts.now) }
-    ensures len { length result.items ≡ D.function.size }
+/// HMAC of the parts put end to end, with the hash function of the set's category.
+#[tactic(auto, using(crate::proofs::Lengths::category_hmac_size))]
+fn hmac_of(set: ParamSet, key: &[u8], parts: &[&[u8]]) -> DigestBytes
+    ensures value { result.items ≡ hmac (category_function (params set)) key.now (joined parts.now) }
+    ensures len { length result.items ≡ (category_function (params set)).size }
 {
-    let block = key_block::<D>(key);
-    let mut inner = D::new();
-    inner.update(xor_each(&block, 0x36).as_slice());
-    absorb(&mut inner, front);
-    absorb(&mut inner, parts);
-    let mut outer = D::new();
-    outer.update(xor_each(&block, 0x5c).as_slice());
-    outer.update(inner.finish().as_slice());
-    outer.finish()
+    let mut keyed = CategoryHmac::new(set, key);
+    keyed.absorb(parts);
+    keyed.digest()
 }
 
 /// K0: the key, or its digest where it is longer than a block, and zeros up to a block.

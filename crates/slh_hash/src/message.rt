@@ -6,23 +6,19 @@ ghost use Rattle.slh_params.specs.Params.{Params, m};
 ghost use Rattle.slh_params.specs.ParamSet.{params};
 
 use crate::category_hasher::CategoryHasher;
-use crate::hmac::hmac_of;
-use crate::tweakable::truncated;
-use sha2::{Sha256, Sha512};
+use crate::category_hmac::CategoryHmac;
 use slh_params::{Node, ParamSet};
 
 /// PRF_msg (FIPS 205, section 11.2): R of a message, whose bytes are the parts put end to end.
-#[tactic(auto, using(slh_params::proofs::Bounds::n_high), unfolding(crate::specs::Keyed::PRF_msg))]
+#[tactic(auto, unfolding(crate::specs::Keyed::PRF_msg))]
 pub fn prf_msg(set: ParamSet, sk_prf: &[u8], opt_rand: &[u8], parts: &[&[u8]]) -> Node
     ensures value { result.items ≡ PRF_msg (params set) sk_prf.now opt_rand.now (joined parts.now) }
     ensures len { length result.items ≡ (params set).n }
 {
-    let front = [opt_rand];
-    if set.n() == 16 {
-        truncated(hmac_of::<Sha256>(sk_prf, &front, parts).as_slice(), set.n())
-    } else {
-        truncated(hmac_of::<Sha512>(sk_prf, &front, parts).as_slice(), set.n())
-    }
+    let mut keyed = CategoryHmac::new(set, sk_prf);
+    keyed.update(opt_rand);
+    keyed.absorb(parts);
+    keyed.finish()
 }
 
 /// H_msg (section 11.2) of a message that comes in pieces, none of which is held.

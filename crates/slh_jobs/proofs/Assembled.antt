@@ -18,7 +18,7 @@ use Rattle.slh_few.proofs.ForsLaw.{index_lt, fors_root-part}
 use Rattle.slh_few.proofs.Layers.{layer_place-layer, layer_place-pair, layer_place-tree}
 use Rattle.slh_few.proofs.Sizes.{top_layer}
 use Rattle.slh_few.proofs.XmssLaw.{xmss_pk_from_sig-xmss_sig}
-use Rattle.slh_core.specs.Cut.{md, idx_tree, idx_leaf}
+use Rattle.slh_core.specs.DigestParts.{md, idx_tree, idx_leaf}
 use Rattle.slh_core.specs.Keys.{Key, sk_seed, public_of, pk_seed, pk_root, IsGeneratedKey, top_root}
 use Rattle.slh_core.proofs.Assembled.{signed_parts}
 use Rattle.slh_core.proofs.Valid.{idx_tree_lt}

@@ -11,7 +11,7 @@ use Rattle.slh_tree.specs.declared.cover.Placed.{Placed}
 use Rattle.slh_tree.specs.Record.{KnownPath, Gains, LiesInRange}
 use Rattle.slh_tree.proofs.Blocks.{lies_inside, first_left_half, past_right_half}
 use Rattle.slh_tree.proofs.Branch.{half_shr, xor_even, xor_odd}
-use Rattle.slh_subtrees.specs.Joined.{IsHashed}
+use Rattle.slh_subtrees.specs.Gathered.{IsHashed}
 use Rattle.slh_subtrees.proofs.PathLaw.{Knows}
 
 -- a leaf lies in the block of its branch

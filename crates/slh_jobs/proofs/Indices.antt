@@ -6,7 +6,7 @@ use Rattle.std.proofs.lemmas.Bool.{cases_lt}
 use Rattle.slh_params.specs.Params.{Params}
 use Rattle.slh_params.specs.declared.param_set.ParamSet.{ParamSet}
 use Rattle.slh_few.specs.Fors.{fors_part_len}
-use Rattle.slh_core.specs.Cut.{idx_leaf}
+use Rattle.slh_core.specs.DigestParts.{idx_leaf}
 use Rattle.std.proofs.Math.Pow.{pow_mono}
 use Rattle.slh_tree.proofs.Branch.{branch_below}
 use Rattle.slh_subtrees.specs.Jobs.{IsTreeOf, height_of}

@@ -11,7 +11,7 @@ use Rattle.slh_few.specs.Hypertree.{root_below, ht_root_from_sig}
 use Rattle.slh_few.specs.Parts.{part}
 use Rattle.slh_few.specs.Xmss.{xmss_pk_from_sig, xmss_sig_len}
 use Rattle.slh_few.proofs.Ends.{end_to_end-same, part-end_to_end, length-end_to_end}
-use Rattle.slh_core.specs.Cut.{md, idx_tree, idx_leaf}
+use Rattle.slh_core.specs.DigestParts.{md, idx_tree, idx_leaf}
 use Rattle.slh_core.specs.Keys.{Key, public_of, pk_seed, pk_root}
 use Rattle.slh_core.specs.Signatures.{r_by, digest_of, fors_sig_len, root_of_parts, IsValid}
 use Rattle.slh_core.specs.declared.randomizer.Randomizer.{Randomizer}

@@ -6,7 +6,7 @@ use Rattle.slh_hash.specs.Stream.{IsKeyed}
 use Rattle.slh_hash.specs.declared.category_hmac.CategoryHmac.{CategoryHmac}
 use Rattle.slh_tree.specs.Cover.{first_leaf, past_leaf}
 use Rattle.slh_few.specs.KeptChains.{kept_chains_len}
-use Rattle.slh_core.specs.Cut.{md, idx_tree, idx_leaf}
+use Rattle.slh_core.specs.DigestParts.{md, idx_tree, idx_leaf}
 use Rattle.slh_core.specs.Keys.{Key, sk_seed, sk_prf, public_of, pk_seed}
 use Rattle.slh_subtrees.specs.CutTrees.{CutTrees}
 use Rattle.slh_subtrees.specs.Points.{level_points}

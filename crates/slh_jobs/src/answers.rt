@@ -5,7 +5,7 @@ ghost use Rattle.slh_tree.specs.Tree.{node};
 ghost use Rattle.slh_tree.specs.Climb.{path_below};
 ghost use Rattle.slh_tree.specs.Cover.{first_leaf, past_leaf};
 ghost use Rattle.slh_tree.specs.declared.cover.Placed.{Placed};
-ghost use Rattle.slh_subtrees.specs.Joined.{IsHashed};
+ghost use Rattle.slh_subtrees.specs.Gathered.{IsHashed};
 ghost use Rattle.slh_subtrees.specs.Jobs.{IsTreeOf, height_of};
 ghost use Rattle.slh_subtrees.specs.SigningTrees.{source_of, tree_in, leaf_in};
 ghost use Rattle.slh_jobs.specs.Ranges.{below, own_part};

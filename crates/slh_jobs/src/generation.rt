@@ -18,6 +18,7 @@ use slh_core::SecretKey;
 use slh_few::{SeededXmssTree, Seeds, xmss_node};
 use slh_hash::SeededTreeHash;
 use slh_params::{Node, ParamSet};
+use slh_subtrees::top_layer;
 
 /// How the tree of the top layer is cut.
 fn key_shape(levels: &Levels) -> Shape
@@ -60,8 +61,7 @@ fn key_node(levels: &Levels, sk_seed: &[u8], pk_seed: &[u8], range: u32) -> Node
         sk_seed,
         pk_seed,
     };
-    let top = set.d() as u8 - 1;
-    xmss_node(&seeds, top, 0, key_shape(levels).below(), range)
+    xmss_node(&seeds, top_layer(set), 0, key_shape(levels).below(), range)
 }
 
 /// Writes the answer of a job of the generation of the key of three seeds of n bytes each, 2n bytes. It is a function
@@ -120,7 +120,7 @@ fn judged_root(
         pk_seed,
     };
     let joins = SeededTreeHash::new(set, pk_seed);
-    let tree = SeededXmssTree::new(&joins, &seeds, set.d() as u8 - 1, 0);
+    let tree = SeededXmssTree::new(&joins, &seeds, top_layer(set), 0);
     Some(top_root(&tree, &nodes))
 }
 

@@ -3,9 +3,7 @@ ghost use Rattle.std.specs.Prelude.{◌≡◌, ◌↔◌, ◌≤◌, IsSome, IfS
 ghost use Rattle.slh_params.specs.ParamSet.{params};
 
 use slh_params::ParamSet;
-
-/// The most levels by which a tree is cut.
-const MOST_LEVELS: u32 = 8;
+use slh_subtrees::MOST_LEVELS;
 
 /// How the trees of a signature are cut into jobs: each XMSS tree into 2^xmss ranges of its leaves, and each FORS tree
 /// into 2^fors.

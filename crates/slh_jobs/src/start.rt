@@ -6,7 +6,7 @@ ghost use Rattle.slh_core.specs.Keys.{public_of};
 ghost use Rattle.slh_core.specs.Messages.{message_in_form};
 ghost use Rattle.slh_core.specs.Randomizers.{HasLength};
 ghost use Rattle.slh_jobs.specs.Starts.{begun_by, start_by, IsStart};
-ghost use Rattle.slh_core.specs.declared.cut.TheConstants.{MOST_DIGEST_LEN};
+ghost use Rattle.slh_core.specs.declared.digest_parts.TheConstants.{MOST_DIGEST_LEN};
 ghost use Rattle.slh_jobs.specs.Tags.{begun_len, start_len};
 ghost use Rattle.slh_jobs.specs.declared.start.TheConstants.{MOST_START_LEN};
 

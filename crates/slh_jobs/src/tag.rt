@@ -31,6 +31,9 @@ const ENCODING: u8 = 2;
 /// The last byte of the key of the tags. It is not zero, so that no shorter key is this one when HMAC fills it up.
 const KEY_END: u8 = 1;
 
+/// No key of the tags is longer: three seeds of 32 bytes and the last byte.
+const MOST_KEY_LEN: usize = 3 * 32 + 1;
+
 /// A law: no two different things have one text, where their parts have the lengths that the kind and the record fix.
 pub fn texts_differ()
     ensures { (p q : Params) (this other : Tagged) → IsSized p this → IsSized q other → text p this ≡ text q other
@@ -47,7 +50,7 @@ pub fn keys_differ()
 {}
 
 /// The key of the tags, SK.prf ‖ SK.seed ‖ PK.seed ‖ 1.
-fn key_of_tags(sk_seed: &[u8], sk_prf: &[u8], pk_seed: &[u8]) -> ArrayVec<u8, 97>
+fn key_of_tags(sk_seed: &[u8], sk_prf: &[u8], pk_seed: &[u8]) -> ArrayVec<u8, MOST_KEY_LEN>
     requires sk_seed { length sk_seed.now ≤ 32 }
     requires sk_prf { length sk_prf.now ≤ 32 }
     requires pk_seed { length pk_seed.now ≤ 32 }

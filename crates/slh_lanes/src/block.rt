@@ -6,11 +6,11 @@ ghost use Rattle.slh_lanes.specs.Columns.{column, HasWords};
 
 use crate::lane_adrs::LaneAdrs;
 use crate::lane_nodes::LaneNodes;
-use crate::words::{Words, halves, high, tell_all};
+use crate::words::{GROUP, Words, halves, high, tell_all};
 
 /// The initial hash value (FIPS 180-4, section 5.3.3) in each lane.
 pub(crate) fn initial() -> [Words; 8]
-    ensures { (j : ℕ) → j < 8 → column j result ≡ initial_hash_256 }
+    ensures { (j : ℕ) → j < GROUP → column j result ≡ initial_hash_256 }
 {
     [
         Words::splat(0x6a09_e667),
@@ -44,7 +44,7 @@ pub(crate) fn first_lane(words: &[Words; 8]) -> [u32; 8]
 /// Eight words, each in all eight lanes.
 #[inline(always)]
 pub(crate) fn splat_all(words: &[u32; 8]) -> [Words; 8]
-    ensures { (j : ℕ) → j < 8 → column j result ≡ words.now }
+    ensures { (j : ℕ) → j < GROUP → column j result ≡ words.now }
 {
     let [a, b, c, d, e, f, g, h] = *words;
     [
@@ -59,10 +59,13 @@ pub(crate) fn splat_all(words: &[u32; 8]) -> [Words; 8]
     ]
 }
 
+/// The bytes before a value in what is hashed (FIPS 205, section 11.2): the block of PK.seed, and an address.
+pub(crate) const TWEAK_LEN: u32 = 64 + 22;
+
 /// The words of a value of n bytes, the word that begins the padding, and zeros.
 #[inline(always)]
 fn marked(x: &LaneNodes, n: usize) -> [Words; 9]
-    ensures { (j : ℕ) → j < 8 → column j result ≡ marked n (column j x.now) }
+    ensures { (j : ℕ) → j < GROUP → column j result ≡ marked n (column j x.now) }
 {
     let [a, b, c, d, e, f, g, h] = *x;
     let mark = Words::splat(0x8000_0000);
@@ -80,7 +83,7 @@ fn marked(x: &LaneNodes, n: usize) -> [Words; 9]
 #[inline(always)]
 pub(crate) fn second_block(n: usize, adrs: &LaneAdrs, x: &LaneNodes) -> [Words; 16]
     requires { (n ≡ 16) ⊎ (n ≡ 24) ⊎ (n ≡ 32) }
-    ensures { (j : ℕ) → j < 8 → HasWords
+    ensures { (j : ℕ) → j < GROUP → HasWords
         (second_block (take 22 (digest_bytes (column j adrs.now) 6)) (take n (digest_bytes (column j x.now) 8)))
         (column j result) }
 {
@@ -103,6 +106,6 @@ pub(crate) fn second_block(n: usize, adrs: &LaneAdrs, x: &LaneNodes) -> [Words; 
         halves(m[6], m[7]),
         halves(m[7], m[8]),
         Words::splat(0),
-        Words::splat((86 + n as u32) * 8),
+        Words::splat((TWEAK_LEN + n as u32) * 8),
     ]
 }

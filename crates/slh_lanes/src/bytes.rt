@@ -6,7 +6,7 @@ ghost use Rattle.sha2.specs.Sha512.{word_at as long_word_at};
 ghost use Rattle.slh_lanes.specs.Columns.{column};
 
 use crate::long_words::LongWords;
-use crate::words::Words;
+use crate::words::{GROUP, Words};
 
 /// The word at byte `i`.
 #[inline(always)]
@@ -22,7 +22,7 @@ pub(crate) fn load_be(bytes: &[u8], i: usize) -> u32
 pub(crate) fn load_all(words: &mut [Words], bytes: &[u8])
     requires { 4 * length words.old ≤ length bytes.now }
     ensures len { length words.new ≡ length words.old }
-    ensures words { (j : ℕ) → j < 8 → (k : ℕ) → k < length words.old
+    ensures words { (j : ℕ) → j < GROUP → (k : ℕ) → k < length words.old
         → slice_index (column j words.new) k ≡ word_at bytes.now (4 * k) }
     ensures bytes { (k : ℕ) → slice_index bytes.now k < 2 ^ 8 }
 {
@@ -54,7 +54,7 @@ pub(crate) fn load_be_long(bytes: &[u8], i: usize) -> u64
 pub(crate) fn load_all_long(words: &mut [LongWords], bytes: &[u8])
     requires { 8 * length words.old ≤ length bytes.now }
     ensures len { length words.new ≡ length words.old }
-    ensures words { (j : ℕ) → j < 8 → (k : ℕ) → k < length words.old
+    ensures words { (j : ℕ) → j < GROUP → (k : ℕ) → k < length words.old
         → slice_index (column j words.new) k ≡ long_word_at bytes.now (8 * k) }
 {
     'words: for k in 0..words.len() {
@@ -65,7 +65,7 @@ pub(crate) fn load_all_long(words: &mut [LongWords], bytes: &[u8])
 /// Writes the bytes of lane `j`.
 #[inline(always)]
 pub(crate) fn store_lane(words: &[Words], j: usize, out: &mut [u8])
-    requires lane { j < 8 }
+    requires lane { j < GROUP }
     requires out { length out.old ≡ 4 * length words.now }
     ensures { out.new ≡ digest_bytes (column j words.now) (length words.now) }
 {

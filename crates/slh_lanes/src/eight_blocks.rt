@@ -3,18 +3,18 @@ ghost use Rattle.std.specs.Prelude.{◌≡◌, ◌⊎◌, ℕ, ◌+◌, ◌<◌,
 ghost use Rattle.sha2.specs.Sha256.{compress, digest_bytes};
 ghost use Rattle.slh_lanes.specs.Columns.{column, lane_column, HasWords};
 
-use crate::lanes::Part;
+use crate::part::Part;
 use crate::sha256_lanes;
-use crate::words::{Words, tell_all};
+use crate::words::{GROUP, Words, tell_all};
 use slh_width::{Width, build_widths};
 use std::simd::prelude::*;
 
 /// Eight compressions of SHA-256 at once: column `j` of the state takes in the block whose words are column `j` of
 /// `block`.
 pub fn compress(state: &mut [Words; 8], block: &[Words; 16])
-    ensures words { (j : ℕ) → j < 8 → (b : List ℕ) → HasWords b (column j block.now)
+    ensures words { (j : ℕ) → j < GROUP → (b : List ℕ) → HasWords b (column j block.now)
         → column j state.new ≡ compress (column j state.old) b }
-    ensures bytes { (j : ℕ) → j < 8
+    ensures bytes { (j : ℕ) → j < GROUP
         → column j state.new ≡ compress (column j state.old) (digest_bytes (column j block.now) 16) }
 {
     tell_all(block);
@@ -24,7 +24,7 @@ pub fn compress(state: &mut [Words; 8], block: &[Words; 16])
 /// The same in the lanes that have a step left, whose number in `counts` is above `step`. Of other lanes nothing is
 /// said.
 pub(crate) fn compress_each(state: &mut [Words; 8], block: &[Words; 16], step: u32, counts: Words)
-    ensures { (j : ℕ) → j < 8 → step < slice_index counts j → (b : List ℕ) → HasWords b (column j block.now)
+    ensures { (j : ℕ) → j < GROUP → step < slice_index counts j → (b : List ℕ) → HasWords b (column j block.now)
         → column j state.new ≡ compress (column j state.old) b }
 {
     match build_widths().short {
@@ -35,16 +35,16 @@ pub(crate) fn compress_each(state: &mut [Words; 8], block: &[Words; 16], step: u
 }
 
 fn in_ones(state: &mut [Words; 8], block: &[Words; 16], step: u32, counts: Words)
-    ensures { (j : ℕ) → j < 8 → step < slice_index counts j → (b : List ℕ) → HasWords b (column j block.now)
+    ensures { (j : ℕ) → j < GROUP → step < slice_index counts j → (b : List ℕ) → HasWords b (column j block.now)
         → column j state.new ≡ compress (column j state.old) b }
 {
-    'lanes: for first in 0..8usize {
+    'lanes: for first in 0..GROUP {
         compress_part::<u32>(state, block, first, step, counts);
     }
 }
 
 fn in_fours(state: &mut [Words; 8], block: &[Words; 16], step: u32, counts: Words)
-    ensures { (j : ℕ) → j < 8 → step < slice_index counts j → (b : List ℕ) → HasWords b (column j block.now)
+    ensures { (j : ℕ) → j < GROUP → step < slice_index counts j → (b : List ℕ) → HasWords b (column j block.now)
         → column j state.new ≡ compress (column j state.old) b }
 {
     compress_part::<u32x4>(state, block, 0, step, counts);
@@ -59,7 +59,7 @@ fn compress_part<W: Part>(
     step: u32,
     counts: Words,
 )
-    requires { first + W.LANES ≤ 8 }
+    requires { first + W.LANES ≤ GROUP }
     ensures words { (j : ℕ) → j < W.LANES → step < slice_index counts (first + j) → (b : List ℕ)
         → HasWords b (column (first + j) block.now)
         → column (first + j) state.new ≡ compress (column (first + j) state.old) b }
@@ -75,7 +75,7 @@ fn compress_part<W: Part>(
 
 #[inline(always)]
 fn part_of_state<W: Part>(state: &[Words; 8], first: usize) -> [W; 8]
-    requires { first + W.LANES ≤ 8 }
+    requires { first + W.LANES ≤ GROUP }
     ensures { (j : ℕ) → j < W.LANES → lane_column W.lane j result ≡ column (first + j) state.now }
 {
     let [a, b, c, d, e, f, g, h] = *state;
@@ -93,7 +93,7 @@ fn part_of_state<W: Part>(state: &[Words; 8], first: usize) -> [W; 8]
 
 #[inline(always)]
 fn part_of_block<W: Part>(block: &[Words; 16], first: usize) -> [W; 16]
-    requires { first + W.LANES ≤ 8 }
+    requires { first + W.LANES ≤ GROUP }
     ensures { (j : ℕ) → j < W.LANES → lane_column W.lane j result ≡ column (first + j) block.now }
 {
     let [a, b, c, d, e, f, g, h, i, j, k, l, m, n, o, p] = *block;
@@ -119,7 +119,7 @@ fn part_of_block<W: Part>(block: &[Words; 16], first: usize) -> [W; 16]
 
 #[inline(always)]
 fn put_part<W: Part>(state: &mut [Words; 8], part: [W; 8], first: usize)
-    requires { first + W.LANES ≤ 8 }
+    requires { first + W.LANES ≤ GROUP }
     ensures put { (j : ℕ) → j < W.LANES → column (first + j) state.new ≡ lane_column W.lane j part }
     ensures others { (i : ℕ) → (i < first) ⊎ (first + W.LANES ≤ i) → column i state.new ≡ column i state.old }
 {

@@ -4,7 +4,7 @@ ghost use Rattle.slh_params.specs.Address.{Address, compressed};
 ghost use Rattle.slh_lanes.specs.Lanes.{HasAddress};
 
 use crate::bytes::{load_all, store_lane};
-use crate::words::{Words, halves, high, low, tell_all};
+use crate::words::{GROUP, Words, halves, high, low, tell_all};
 use slh_params::Adrs;
 
 /// The addresses of eight hash calls, one in each lane: the 22 bytes of the compressed form as six words, of which the
@@ -13,7 +13,7 @@ pub type LaneAdrs = [Words; 6];
 
 /// One address in all eight lanes.
 pub fn adrs_lanes(adrs: &Adrs) -> LaneAdrs
-    ensures { (j : ℕ) → j < 8 → HasAddress result j adrs.now }
+    ensures { (j : ℕ) → j < GROUP → HasAddress result j adrs.now }
 {
     let mut bytes = [0; 24];
     bytes[..22].copy_from_slice(adrs.compressed());
@@ -24,7 +24,7 @@ pub fn adrs_lanes(adrs: &Adrs) -> LaneAdrs
 
 /// setKeyPairAddress in each lane: the leaf of a tree.
 pub fn set_pairs(adrs: &mut LaneAdrs, pairs: Words)
-    ensures { (j : ℕ) → j < 8 → (a : Address) → HasAddress adrs.old j a
+    ensures { (j : ℕ) → j < GROUP → (a : Address) → HasAddress adrs.old j a
         → HasAddress adrs.new j (record a { key_pair = slice_index pairs j }) }
 {
     tell_all(adrs);
@@ -34,7 +34,7 @@ pub fn set_pairs(adrs: &mut LaneAdrs, pairs: Words)
 
 /// setChainAddress in each lane: the chain of a WOTS+ key, or the height of a node.
 pub fn set_chains(adrs: &mut LaneAdrs, chains: Words)
-    ensures { (j : ℕ) → j < 8 → (a : Address) → HasAddress adrs.old j a
+    ensures { (j : ℕ) → j < GROUP → (a : Address) → HasAddress adrs.old j a
         → HasAddress adrs.new j (record a { chain = slice_index chains j }) }
 {
     tell_all(adrs);
@@ -45,7 +45,7 @@ pub fn set_chains(adrs: &mut LaneAdrs, chains: Words)
 /// setHashAddress in each lane: the step of a chain, or the index of a node.
 #[inline(always)]
 pub fn set_hashes(adrs: &mut LaneAdrs, hashes: Words)
-    ensures { (j : ℕ) → j < 8 → (a : Address) → HasAddress adrs.old j a
+    ensures { (j : ℕ) → j < GROUP → (a : Address) → HasAddress adrs.old j a
         → HasAddress adrs.new j (record a { hash = slice_index hashes j }) }
 {
     tell_all(adrs);
@@ -55,7 +55,7 @@ pub fn set_hashes(adrs: &mut LaneAdrs, hashes: Words)
 
 /// The 22 bytes of the address in lane `j`.
 pub(crate) fn lane_compressed(adrs: &LaneAdrs, j: usize) -> [u8; 22]
-    requires { j < 8 }
+    requires { j < GROUP }
     ensures { (a : Address) → HasAddress adrs.now j a → result ≡ compressed a }
 {
     let mut bytes = [0; 24];

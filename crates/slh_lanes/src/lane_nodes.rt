@@ -3,7 +3,7 @@ ghost use Rattle.std.specs.Prelude.{◌≡◌, ◌≢◌, ℕ, ◌+◌, ◌*◌,
 ghost use Rattle.slh_lanes.specs.Lanes.{value_at};
 
 use crate::bytes::{load_all, load_be, store_lane};
-use crate::words::{Words, evens, odds, pick, with_lane};
+use crate::words::{GROUP, Words, evens, odds, pick, with_lane};
 use slh_params::{Node, node_of};
 
 /// Eight values of n bytes, one in each lane: of eight words the first, as many as n bytes fill.
@@ -12,7 +12,7 @@ pub type LaneNodes = [Words; 8];
 /// One value in all eight lanes.
 pub fn node_lanes(value: &[u8]) -> LaneNodes
     requires { length value.now ≤ 32 }
-    ensures { (j : ℕ) → j < 8 → length value.now % 4 ≡ 0 → value_at result j (length value.now) ≡ value.now }
+    ensures { (j : ℕ) → j < GROUP → length value.now % 4 ≡ 0 → value_at result j (length value.now) ≡ value.now }
 {
     let mut lanes = [Words::splat(0); 8];
     load_all(&mut lanes[..value.len() / 4], value);
@@ -21,7 +21,7 @@ pub fn node_lanes(value: &[u8]) -> LaneNodes
 
 /// Puts a value into lane `j`.
 pub fn set_lane(nodes: &mut LaneNodes, j: usize, value: &[u8])
-    requires lane { j < 8 }
+    requires lane { j < GROUP }
     requires few { length value.now ≤ 32 }
     requires whole { length value.now % 4 ≡ 0 }
     ensures set { value_at nodes.new j (length value.now) ≡ value.now }
@@ -34,7 +34,7 @@ pub fn set_lane(nodes: &mut LaneNodes, j: usize, value: &[u8])
 
 /// The value of n bytes in lane `j`.
 pub fn lane_node(nodes: &LaneNodes, j: usize, n: usize) -> Node
-    requires lane { j < 8 }
+    requires lane { j < GROUP }
     requires few { n ≤ 32 }
     ensures value { result.items ≡ value_at nodes.now j n }
     ensures len { length result.items ≡ n }
@@ -47,7 +47,7 @@ pub fn lane_node(nodes: &LaneNodes, j: usize, n: usize) -> Node
 /// Two values of 16 bytes end to end in each lane.
 #[inline(always)]
 pub(crate) fn two_short(left: &LaneNodes, right: &LaneNodes) -> LaneNodes
-    ensures { (j : ℕ) → j < 8 → value_at result j 32 ≡ value_at left.now j 16 ++ value_at right.now j 16 }
+    ensures { (j : ℕ) → j < GROUP → value_at result j 32 ≡ value_at left.now j 16 ++ value_at right.now j 16 }
 {
     [
         left[0], left[1], left[2], left[3], right[0], right[1], right[2], right[3],
@@ -91,8 +91,8 @@ pub fn odd_lanes(left: &LaneNodes, right: &LaneNodes) -> LaneNodes
 /// In each lane the value of `x` where the number `a` is below `b`, else the value of `y`.
 #[inline(always)]
 pub fn pick_nodes(a: Words, b: Words, x: &LaneNodes, y: &LaneNodes) -> LaneNodes
-    ensures below { (j n : ℕ) → j < 8 → slice_index a j < slice_index b j → value_at result j n ≡ value_at x.now j n }
-    ensures others { (j n : ℕ) → j < 8 → slice_index b j ≤ slice_index a j → value_at result j n ≡ value_at y.now j n }
+    ensures below { (j n : ℕ) → j < GROUP → slice_index a j < slice_index b j → value_at result j n ≡ value_at x.now j n }
+    ensures others { (j n : ℕ) → j < GROUP → slice_index b j ≤ slice_index a j → value_at result j n ≡ value_at y.now j n }
 {
     [
         pick(a, b, x[0], y[0]),

@@ -15,6 +15,7 @@ use crate::long_block::{splat_all as splat_all_long, truncated};
 use crate::long_stream::LongStream;
 use crate::seeded_tree_lanes::SeededTreeLanes;
 use crate::short_stream::ShortStream;
+use crate::words::GROUP;
 use slh_params::ParamSet;
 
 /// The hash function of T in eight lanes: SHA-256 where n is 16, else SHA-512.
@@ -37,7 +38,7 @@ impl LaneStream {
     /// T at the address in each lane, before any node. Where PK.seed has another length than n, nothing is said.
     pub fn new(lanes: &SeededTreeLanes, adrs: &LaneAdrs) -> Self
         ensures { (p : Params) (pk_seed : List ℕ) → IsSeededTreeLanes lanes.now p pk_seed → length pk_seed ≡ p.n
-            → (j : ℕ) → j < 8 → (a : Address) → HasAddress adrs.now j a → HasAbsorbedAt result j p pk_seed a [] }
+            → (j : ℕ) → j < GROUP → (a : Address) → HasAddress adrs.now j a → HasAbsorbedAt result j p pk_seed a [] }
     {
         let set = lanes.lanes.set;
         let stream = if set.n() == 16 {
@@ -58,7 +59,7 @@ impl LaneStream {
 
     /// Adds the node of n bytes in each lane.
     pub fn absorb(&mut self, nodes: &LaneNodes)
-        ensures { (p : Params) (pk_seed : List ℕ) (j : ℕ) (a : Address) (x : List ℕ) → j < 8
+        ensures { (p : Params) (pk_seed : List ℕ) (j : ℕ) (a : Address) (x : List ℕ) → j < GROUP
             → HasAbsorbedAt self.old j p pk_seed a x
             → HasAbsorbedAt self.new j p pk_seed a (x ++ value_at nodes.now j p.n) }
     {
@@ -71,7 +72,7 @@ impl LaneStream {
 
     /// T of the nodes absorbed, in their order, in each lane. Of 2^28 bytes or more nothing is said.
     pub fn finish(self) -> LaneNodes
-        ensures { (p : Params) (pk_seed : List ℕ) (j : ℕ) (a : Address) (x : List ℕ) → j < 8
+        ensures { (p : Params) (pk_seed : List ℕ) (j : ℕ) (a : Address) (x : List ℕ) → j < GROUP
             → HasAbsorbedAt self j p pk_seed a x → length x < 2 ^ 28 → value_at result j p.n ≡ T p pk_seed a x }
     {
         match self.stream {

@@ -12,8 +12,10 @@ mod lanes;
 mod long_block;
 mod long_eight_blocks;
 mod long_lanes;
+mod long_part;
 mod long_stream;
 mod long_words;
+mod part;
 mod seeded_lanes;
 mod seeded_tree_lanes;
 mod sha256_lanes;
@@ -30,4 +32,4 @@ pub use lane_nodes::{
 pub use lane_stream::LaneStream;
 pub use seeded_lanes::SeededLanes;
 pub use seeded_tree_lanes::SeededTreeLanes;
-pub use words::{Words, consecutive, half, parity};
+pub use words::{GROUP, Words, consecutive, half, parity};

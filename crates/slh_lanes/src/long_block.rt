@@ -9,11 +9,11 @@ ghost use Rattle.slh_lanes.specs.LongBlock.{HasLongWords, long_second_block, mar
 use crate::lane_adrs::LaneAdrs;
 use crate::lane_nodes::LaneNodes;
 use crate::long_words::{LongWords, high_words, joined, joined_halves, low_words};
-use crate::words::{Words, halves, high, tell_all};
+use crate::words::{GROUP, Words, halves, high, tell_all};
 
 /// The initial hash value of SHA-512 (FIPS 180-4, section 5.3.5) in each lane.
 pub(crate) fn initial() -> [LongWords; 8]
-    ensures { (j : ℕ) → j < 8 → column j result ≡ initial_hash_512 }
+    ensures { (j : ℕ) → j < GROUP → column j result ≡ initial_hash_512 }
 {
     [
         LongWords::splat(0x6a09_e667_f3bc_c908),
@@ -47,7 +47,7 @@ pub(crate) fn first_lane(words: &[LongWords; 8]) -> [u64; 8]
 /// Eight words, each in all eight lanes.
 #[inline(always)]
 pub(crate) fn splat_all(words: &[u64; 8]) -> [LongWords; 8]
-    ensures { (j : ℕ) → j < 8 → column j result ≡ words.now }
+    ensures { (j : ℕ) → j < GROUP → column j result ≡ words.now }
 {
     let [a, b, c, d, e, f, g, h] = *words;
     [
@@ -65,7 +65,7 @@ pub(crate) fn splat_all(words: &[u64; 8]) -> [LongWords; 8]
 /// The words of two nodes of n bytes, the word that begins the padding, and zeros.
 #[inline(always)]
 fn marked_pair(left: &LaneNodes, right: &LaneNodes, n: usize) -> [Words; 17]
-    ensures { (j : ℕ) → j < 8 → column j result ≡ marked_pair n (column j left.now) (column j right.now) }
+    ensures { (j : ℕ) → j < GROUP → column j result ≡ marked_pair n (column j left.now) (column j right.now) }
 {
     let [a, b, c, d, e, f, g, h] = *left;
     let [k, l, m, o, p, q, r, s] = *right;
@@ -80,6 +80,9 @@ fn marked_pair(left: &LaneNodes, right: &LaneNodes, n: usize) -> [Words; 17]
     }
 }
 
+/// The bytes before a value in what SHA-512 hashes: the block of PK.seed, and an address.
+pub(crate) const LONG_TWEAK_LEN: u32 = 128 + 22;
+
 /// The 22 bytes of the address, the two nodes of n bytes, and the padding.
 #[inline(always)]
 pub(crate) fn second_block(
@@ -89,7 +92,7 @@ pub(crate) fn second_block(
     right: &LaneNodes,
 ) -> [LongWords; 16]
     requires { (n ≡ 24) ⊎ (n ≡ 32) }
-    ensures { (j : ℕ) → j < 8 → HasLongWords (long_second_block (take 22 (digest_bytes (column j adrs.now) 6))
+    ensures { (j : ℕ) → j < GROUP → HasLongWords (long_second_block (take 22 (digest_bytes (column j adrs.now) 6))
         (value_at left.now j n ++ value_at right.now j n)) (column j result) }
 {
     tell_all(adrs);
@@ -113,14 +116,14 @@ pub(crate) fn second_block(
         zero,
         zero,
         zero,
-        LongWords::splat((150 + 2 * n as u64) * 8),
+        LongWords::splat((LONG_TWEAK_LEN as u64 + 2 * n as u64) * 8),
     ]
 }
 
 /// The first 32 bytes of eight digests.
 #[inline(always)]
 pub(crate) fn truncated(state: &[LongWords; 8]) -> LaneNodes
-    ensures { (j n : ℕ) → j < 8 → n ≤ 32 → value_at result j n ≡ take n (long_digest_bytes (column j state.now) 8) }
+    ensures { (j n : ℕ) → j < GROUP → n ≤ 32 → value_at result j n ≡ take n (long_digest_bytes (column j state.now) 8) }
 {
     [
         high_words(state[0]),

@@ -4,16 +4,17 @@ ghost use Rattle.sha2.specs.Sha512.{compress};
 ghost use Rattle.slh_lanes.specs.Columns.{column, lane_column};
 ghost use Rattle.slh_lanes.specs.LongBlock.{HasLongWords};
 
-use crate::long_lanes::LongPart;
+use crate::long_part::LongPart;
 use crate::long_words::LongWords;
 use crate::sha512_lanes;
+use crate::words::GROUP;
 use slh_width::{Width, build_widths};
 use std::simd::prelude::*;
 
 /// Eight compressions of SHA-512 at once: column `j` of the state takes in the block whose words are column `j` of
 /// `block`.
 pub(crate) fn compress(state: &mut [LongWords; 8], block: &[LongWords; 16])
-    ensures { (j : ℕ) → j < 8 → (b : List ℕ) → HasLongWords b (column j block.now)
+    ensures { (j : ℕ) → j < GROUP → (b : List ℕ) → HasLongWords b (column j block.now)
         → column j state.new ≡ compress (column j state.old) b }
 {
     match build_widths().long {
@@ -24,16 +25,16 @@ pub(crate) fn compress(state: &mut [LongWords; 8], block: &[LongWords; 16])
 }
 
 fn in_ones(state: &mut [LongWords; 8], block: &[LongWords; 16])
-    ensures { (j : ℕ) → j < 8 → (b : List ℕ) → HasLongWords b (column j block.now)
+    ensures { (j : ℕ) → j < GROUP → (b : List ℕ) → HasLongWords b (column j block.now)
         → column j state.new ≡ compress (column j state.old) b }
 {
-    'lanes: for first in 0..8usize {
+    'lanes: for first in 0..GROUP {
         compress_part::<u64>(state, block, first);
     }
 }
 
 fn in_fours(state: &mut [LongWords; 8], block: &[LongWords; 16])
-    ensures { (j : ℕ) → j < 8 → (b : List ℕ) → HasLongWords b (column j block.now)
+    ensures { (j : ℕ) → j < GROUP → (b : List ℕ) → HasLongWords b (column j block.now)
         → column j state.new ≡ compress (column j state.old) b }
 {
     compress_part::<u64x4>(state, block, 0);
@@ -42,7 +43,7 @@ fn in_fours(state: &mut [LongWords; 8], block: &[LongWords; 16])
 
 /// The compressions in the lanes from `first` on.
 fn compress_part<W: LongPart>(state: &mut [LongWords; 8], block: &[LongWords; 16], first: usize)
-    requires { first + W.LANES ≤ 8 }
+    requires { first + W.LANES ≤ GROUP }
     ensures words { (j : ℕ) → j < W.LANES → (b : List ℕ) → HasLongWords b (column (first + j) block.now)
         → column (first + j) state.new ≡ compress (column (first + j) state.old) b }
     ensures others { (i : ℕ) → (i < first) ⊎ (first + W.LANES ≤ i) → column i state.new ≡ column i state.old }
@@ -55,7 +56,7 @@ fn compress_part<W: LongPart>(state: &mut [LongWords; 8], block: &[LongWords; 16
 
 #[inline(always)]
 fn part_of_state<W: LongPart>(state: &[LongWords; 8], first: usize) -> [W; 8]
-    requires { first + W.LANES ≤ 8 }
+    requires { first + W.LANES ≤ GROUP }
     ensures { (j : ℕ) → j < W.LANES → lane_column W.lane j result ≡ column (first + j) state.now }
 {
     let [a, b, c, d, e, f, g, h] = *state;
@@ -73,7 +74,7 @@ fn part_of_state<W: LongPart>(state: &[LongWords; 8], first: usize) -> [W; 8]
 
 #[inline(always)]
 fn part_of_block<W: LongPart>(block: &[LongWords; 16], first: usize) -> [W; 16]
-    requires { first + W.LANES ≤ 8 }
+    requires { first + W.LANES ≤ GROUP }
     ensures { (j : ℕ) → j < W.LANES → lane_column W.lane j result ≡ column (first + j) block.now }
 {
     let [a, b, c, d, e, f, g, h, i, j, k, l, m, n, o, p] = *block;
@@ -99,7 +100,7 @@ fn part_of_block<W: LongPart>(block: &[LongWords; 16], first: usize) -> [W; 16]
 
 #[inline(always)]
 fn put_part<W: LongPart>(state: &mut [LongWords; 8], part: [W; 8], first: usize)
-    requires { first + W.LANES ≤ 8 }
+    requires { first + W.LANES ≤ GROUP }
     ensures put { (j : ℕ) → j < W.LANES → column (first + j) state.new ≡ lane_column W.lane j part }
     ensures others { (i : ℕ) → (i < first) ⊎ (first + W.LANES ≤ i) → column i state.new ≡ column i state.old }
 {

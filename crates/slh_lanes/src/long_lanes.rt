@@ -1,10 +1,8 @@
 //! Words of 64 bits side by side, one in each lane, and SHA-512's functions on them (FIPS 180-4, section 4.1.3).
-ghost use Rattle.std.specs.Prelude.{◌≡◌, ◌⊎◌, ℕ, ◌+◌, ◌/◌, ◌^◌, ◌<◌, ◌≤◌, bit_and, bit_xor, slice_index};
+ghost use Rattle.std.specs.Prelude.{◌≡◌, ℕ, ◌+◌, ◌/◌, ◌^◌, ◌<◌, bit_and, bit_xor, slice_index};
 ghost use Rattle.std.specs.Int.{w64, rotate_right};
 ghost use Rattle.sha2.specs.Sha512.{add64, big_sigma0, big_sigma1, ch, maj, small_sigma0, small_sigma1};
-ghost use Rattle.slh_lanes.specs.Room.{HasRoom};
 
-use crate::long_words::LongWords;
 use std::simd::prelude::*;
 
 /// Words of 64 bits side by side, one in each lane: all that SHA-512 does with them, lane by lane.
@@ -45,24 +43,6 @@ pub trait LongLanes: Copy {
         requires some { 0 < bits }
         requires few { bits < 64 }
         ensures { (j : ℕ) → j < LANES → lane result j ≡ rotate_right w64 (lane self j) bits };
-}
-
-/// Lanes that are a part of eight.
-pub(crate) trait LongPart: LongLanes {
-    /// The type's own fact about its size. It runs no code.
-    fn room()
-        ensures { HasRoom Self.row };
-
-    /// The lanes from `first` on.
-    fn part(words: LongWords, first: usize) -> Self
-        requires { first + Self.LANES ≤ 8 }
-        ensures { (j : ℕ) → j < Self.LANES → Self.lane result j ≡ slice_index words (first + j) };
-
-    /// The eight lanes with these from `first` on.
-    fn put(self, words: LongWords, first: usize) -> LongWords
-        requires { first + Self.LANES ≤ 8 }
-        ensures put { (j : ℕ) → j < Self.LANES → slice_index result (first + j) ≡ Self.lane self j }
-        ensures others { (i : ℕ) → (i < first) ⊎ (first + Self.LANES ≤ i) → slice_index result i ≡ slice_index words i };
 }
 
 impl LongLanes for u64 {
@@ -184,84 +164,6 @@ impl LongLanes for u64x8 {
     fn rotate(self, bits: u32) -> Self {
         rotate_lanes(self, bits)
     }
-}
-
-impl LongPart for u64 {
-    #[inline(always)]
-    fn room() {}
-
-    #[inline(always)]
-    fn part(words: LongWords, first: usize) -> Self {
-        one_of(words, first)
-    }
-
-    #[inline(always)]
-    fn put(self, words: LongWords, first: usize) -> LongWords {
-        with_one(words, first, self)
-    }
-}
-
-impl LongPart for u64x4 {
-    #[inline(always)]
-    fn room() {}
-
-    #[inline(always)]
-    fn part(words: LongWords, first: usize) -> Self {
-        four_of(words, first)
-    }
-
-    #[inline(always)]
-    fn put(self, words: LongWords, first: usize) -> LongWords {
-        with_four(words, first, self)
-    }
-}
-
-#[inline(always)]
-fn one_of(words: LongWords, first: usize) -> u64
-    requires { first + 1 ≤ 8 }
-    ensures { (j : ℕ) → j < 1 → result ≡ slice_index words (first + j) }
-{
-    words.to_array()[first]
-}
-
-#[inline(always)]
-fn with_one(words: LongWords, first: usize, word: u64) -> LongWords
-    requires { first + 1 ≤ 8 }
-    ensures put { (j : ℕ) → j < 1 → slice_index result (first + j) ≡ word }
-    ensures others { (i : ℕ) → (i < first) ⊎ (first + 1 ≤ i) → slice_index result i ≡ slice_index words i }
-{
-    let mut lanes = words.to_array();
-    lanes[first] = word;
-    LongWords::from_array(lanes)
-}
-
-#[inline(always)]
-fn four_of(words: LongWords, first: usize) -> u64x4
-    requires { first + 4 ≤ 8 }
-    ensures { (j : ℕ) → j < 4 → slice_index result j ≡ slice_index words (first + j) }
-{
-    let lanes = words.to_array();
-    u64x4::from_array([
-        lanes[first],
-        lanes[first + 1],
-        lanes[first + 2],
-        lanes[first + 3],
-    ])
-}
-
-#[inline(always)]
-fn with_four(words: LongWords, first: usize, four: u64x4) -> LongWords
-    requires { first + 4 ≤ 8 }
-    ensures put { (j : ℕ) → j < 4 → slice_index result (first + j) ≡ slice_index four j }
-    ensures others { (i : ℕ) → (i < first) ⊎ (first + 4 ≤ i) → slice_index result i ≡ slice_index words i }
-{
-    let [a, b, c, d] = four.to_array();
-    let mut lanes = words.to_array();
-    lanes[first] = a;
-    lanes[first + 1] = b;
-    lanes[first + 2] = c;
-    lanes[first + 3] = d;
-    LongWords::from_array(lanes)
 }
 
 #[inline(always)]

@@ -11,10 +11,11 @@ ghost use Rattle.slh_lanes.specs.Streams.{HoldsLongAt, half_on, long_vectors, ve
 
 use crate::lane_adrs::LaneAdrs;
 use crate::lane_nodes::LaneNodes;
+use crate::long_block::LONG_TWEAK_LEN;
 use crate::long_eight_blocks::compress;
 use crate::long_words::{LongVector, LongWords, joined_halves};
 use crate::short_stream::address_words;
-use crate::words::{Vector, Words, high, low, tell_words};
+use crate::words::{GROUP, Vector, Words, high, low, tell_words};
 
 /// SHA-512 of eight messages of the same length, as far as they have come.
 ///
@@ -60,7 +61,7 @@ fn wrapped(state: &[LongWords; 8]) -> [LongVector; 8]
 /// The block whose words begin in the middle of these.
 #[inline(always)]
 fn shifted(words: &[Vector; 33]) -> [LongWords; 16]
-    ensures { (j : ℕ) → j < 8 → HasLongWords (take 128 (half_on (column j (vectors words.now)) 33)) (column j result) }
+    ensures { (j : ℕ) → j < GROUP → HasLongWords (take 128 (half_on (column j (vectors words.now)) 33)) (column j result) }
 {
     let mut block = [LongWords::splat(0); 16];
     'words: for k in 0..16 {
@@ -77,7 +78,7 @@ fn shifted(words: &[Vector; 33]) -> [LongWords; 16]
 
 /// The words of the address, each begun by the second half of the word before it.
 fn long_address_words(adrs: &LaneAdrs) -> [Vector; 33]
-    ensures { (j : ℕ) → j < 8 → (a : Address) → HasAddress adrs.now j a
+    ensures { (j : ℕ) → j < GROUP → (a : Address) → HasAddress adrs.now j a
         → half_on (column j (vectors result)) 6 ≡ compressed a }
 {
     let mut words = [Vector {
@@ -87,22 +88,26 @@ fn long_address_words(adrs: &LaneAdrs) -> [Vector; 33]
     words
 }
 
+/// Where the zeros of the padding end in the second of two blocks: before the 16 bytes of the length. The byte that
+/// begins the padding is counted off.
+const ZEROS_END: u32 = 2 * 128 - 16 - 1;
+
 impl LongStream {
     /// The messages of one block and an address, from the hash value after the block.
     pub(crate) fn new(state: &[LongWords; 8], adrs: &LaneAdrs) -> Self
-        ensures { (j : ℕ) → j < 8 → (a : Address) → HasAddress adrs.now j a → (s : List ℕ) → length s ≡ 128
+        ensures { (j : ℕ) → j < GROUP → (a : Address) → HasAddress adrs.now j a → (s : List ℕ) → length s ≡ 128
             → column j state.now ≡ compress initial_hash_512 s → HoldsLongAt result j (s ++ compressed a) }
     {
         LongStream {
             state: wrapped(state),
             words: long_address_words(adrs),
-            len: 150,
+            len: LONG_TWEAK_LEN,
         }
     }
 
     /// Adds to each message the word in its lane.
     fn push(&mut self, word: Words)
-        ensures { (j : ℕ) → j < 8 → (m : List ℕ) → HoldsLongAt self.old j m
+        ensures { (j : ℕ) → j < GROUP → (m : List ℕ) → HoldsLongAt self.old j m
             → HoldsLongAt self.new j (m ++ to_be_bytes w32 (slice_index word j)) }
     {
         let used = (self.len % 128 + 2) / 4;
@@ -118,7 +123,7 @@ impl LongStream {
     fn take_block(&mut self)
         ensures len { self.new.len ≡ self.old.len }
         ensures words { self.new.words ≡ self.old.words }
-        ensures state { (j : ℕ) → j < 8 → column j (long_vectors self.new.state)
+        ensures state { (j : ℕ) → j < GROUP → column j (long_vectors self.new.state)
             ≡ compress (column j (long_vectors self.old.state))
             (take 128 (half_on (column j (vectors self.old.words)) 33)) }
     {
@@ -130,7 +135,7 @@ impl LongStream {
     /// Adds to each message the first words in its lane, as many as `count`.
     pub(crate) fn absorb(&mut self, nodes: &LaneNodes, count: usize)
         requires { count ≤ 8 }
-        ensures { (j : ℕ) → j < 8 → (m : List ℕ) → HoldsLongAt self.old j m
+        ensures { (j : ℕ) → j < GROUP → (m : List ℕ) → HoldsLongAt self.old j m
             → HoldsLongAt self.new j (m ++ digest_bytes (column j nodes.now) count) }
     {
         'words: for k in 0..count {
@@ -140,12 +145,12 @@ impl LongStream {
 
     /// The digest of each message (FIPS 180-4, section 5.1.2: a bit 1, zeros, and the length in bits).
     pub(crate) fn finish(mut self) -> [LongWords; 8]
-        ensures { (j : ℕ) → j < 8 → (m : List ℕ) → HoldsLongAt self j m → length m < 2 ^ 29
+        ensures { (j : ℕ) → j < GROUP → (m : List ℕ) → HoldsLongAt self j m → length m < 2 ^ 29
             → long_digest_bytes (column j result) 8 ≡ sha512 m }
     {
         let bits = Words::splat(self.len.wrapping_mul(8));
         // The length has 16 bytes, of which the first twelve are zeros.
-        let zeros = (239 - self.len % 128) % 128;
+        let zeros = (ZEROS_END - self.len % 128) % 128;
         self.push(Words::splat(0x8000_0000));
         'zeros: for _ in 0..zeros / 4 + 2 {
             self.push(Words::splat(0));

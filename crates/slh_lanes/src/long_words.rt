@@ -2,7 +2,7 @@
 ghost use Rattle.std.specs.Prelude.{◌≡◌, ℕ, ◌/◌, ◌%◌, ◌^◌, ◌<◌, slice_index};
 ghost use Rattle.slh_lanes.specs.LongBlock.{joined, joined_halves};
 
-use crate::words::{Words, halves};
+use crate::words::{GROUP, Words, halves};
 use std::simd::prelude::*;
 
 /// Eight words of 64 bits, one in each lane.
@@ -17,7 +17,7 @@ pub(crate) struct LongVector {
 // Each word of `p` above that of `q`.
 #[inline(always)]
 pub(crate) fn joined(p: Words, q: Words) -> LongWords
-    ensures { (j : ℕ) → j < 8 → slice_index result j ≡ joined (slice_index p j) (slice_index q j) }
+    ensures { (j : ℕ) → j < GROUP → slice_index result j ≡ joined (slice_index p j) (slice_index q j) }
 {
     (p.cast::<u64>() << 32) + q.cast::<u64>()
 }
@@ -25,7 +25,7 @@ pub(crate) fn joined(p: Words, q: Words) -> LongWords
 // The low half of each word of `p`, the word of `q`, and the high half of that of `r`.
 #[inline(always)]
 pub(crate) fn joined_halves(p: Words, q: Words, r: Words) -> LongWords
-    ensures { (j : ℕ) → j < 8 → slice_index result j
+    ensures { (j : ℕ) → j < GROUP → slice_index result j
         ≡ joined_halves (slice_index p j) (slice_index q j) (slice_index r j) }
 {
     joined(halves(p, q), halves(q, r))
@@ -34,7 +34,7 @@ pub(crate) fn joined_halves(p: Words, q: Words, r: Words) -> LongWords
 // The high 32 bits of each word.
 #[inline(always)]
 pub(crate) fn high_words(x: LongWords) -> Words
-    ensures { (j : ℕ) → j < 8 → slice_index result j ≡ slice_index x j / 2 ^ 32 }
+    ensures { (j : ℕ) → j < GROUP → slice_index result j ≡ slice_index x j / 2 ^ 32 }
 {
     (x >> 32).cast::<u32>()
 }
@@ -42,7 +42,7 @@ pub(crate) fn high_words(x: LongWords) -> Words
 // The low 32 bits of each word.
 #[inline(always)]
 pub(crate) fn low_words(x: LongWords) -> Words
-    ensures { (j : ℕ) → j < 8 → slice_index result j ≡ slice_index x j % 2 ^ 32 }
+    ensures { (j : ℕ) → j < GROUP → slice_index result j ≡ slice_index x j % 2 ^ 32 }
 {
     ((x << 32) >> 32).cast::<u32>()
 }

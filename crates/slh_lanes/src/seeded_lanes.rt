@@ -17,7 +17,7 @@ use crate::eight_blocks::{compress, compress_each};
 use crate::lane_adrs::{LaneAdrs, lane_compressed, set_hashes};
 use crate::lane_nodes::{LaneNodes, lane_node, node_lanes, pick_nodes, set_lane, two_short};
 use crate::sixteen_blocks::compress_two;
-use crate::words::{Words, add, most};
+use crate::words::{GROUP, Words, add, most};
 use sha2::{Digest, Sha256};
 use slh_params::ParamSet;
 
@@ -48,7 +48,7 @@ impl<'a> SeededLanes<'a> {
     /// F (FIPS 205, section 11.2) in each lane: the hash of its value of n bytes at its address.
     pub fn f(&self, adrs: &LaneAdrs, x: &LaneNodes) -> LaneNodes
         ensures { (p : Params) (pk_seed : List ℕ) → IsSeededLanes self.now p pk_seed
-            → (j : ℕ) → j < 8 → (a : Address) → HasAddress adrs.now j a
+            → (j : ℕ) → j < GROUP → (a : Address) → HasAddress adrs.now j a
             → value_at result j p.n ≡ F p pk_seed a (value_at x.now j p.n) }
     {
         if self.pk_seed.len() == self.set.n() {
@@ -61,7 +61,7 @@ impl<'a> SeededLanes<'a> {
     /// PRF (section 11.2) in each lane: the secret at its address, from SK.seed of n bytes.
     pub fn prf(&self, sk_seed: &[u8], adrs: &LaneAdrs) -> LaneNodes
         ensures { (p : Params) (pk_seed : List ℕ) → IsSeededLanes self.now p pk_seed
-            → (j : ℕ) → j < 8 → (a : Address) → HasAddress adrs.now j a
+            → (j : ℕ) → j < GROUP → (a : Address) → HasAddress adrs.now j a
             → value_at result j p.n ≡ PRF p pk_seed sk_seed.now a }
     {
         if self.pk_seed.len() == self.set.n() && sk_seed.len() == self.set.n() {
@@ -82,10 +82,10 @@ impl<'a> SeededLanes<'a> {
         y: &mut LaneNodes,
     )
         ensures x { (p : Params) (pk_seed : List ℕ) → IsSeededLanes self.now p pk_seed
-            → (j : ℕ) → j < 8 → (a : Address) → HasAddress x_adrs.now j a
+            → (j : ℕ) → j < GROUP → (a : Address) → HasAddress x_adrs.now j a
             → value_at x.new j p.n ≡ PRF p pk_seed sk_seed.now a }
         ensures y { (p : Params) (pk_seed : List ℕ) → IsSeededLanes self.now p pk_seed
-            → (j : ℕ) → j < 8 → (a : Address) → HasAddress y_adrs.now j a
+            → (j : ℕ) → j < GROUP → (a : Address) → HasAddress y_adrs.now j a
             → value_at y.new j p.n ≡ PRF p pk_seed sk_seed.now a }
     {
         if self.pk_seed.len() == self.set.n() && sk_seed.len() == self.set.n() {
@@ -102,7 +102,7 @@ impl<'a> SeededLanes<'a> {
     /// where PK.seed has another length, nothing is said.
     pub fn h(&self, adrs: &LaneAdrs, left: &LaneNodes, right: &LaneNodes) -> LaneNodes
         ensures { (p : Params) (pk_seed : List ℕ) → IsSeededLanes self.now p pk_seed → p.n ≡ 16 → length pk_seed ≡ 16
-            → (j : ℕ) → j < 8 → (a : Address) → HasAddress adrs.now j a
+            → (j : ℕ) → j < GROUP → (a : Address) → HasAddress adrs.now j a
             → value_at result j p.n ≡ H p pk_seed a (value_at left.now j p.n) (value_at right.now j p.n) }
     {
         self.digests(adrs, &two_short(left, right), 32)
@@ -112,7 +112,7 @@ impl<'a> SeededLanes<'a> {
     pub fn chains(&self, adrs: &LaneAdrs, x: &LaneNodes, from: u32, count: u32) -> LaneNodes
         requires { from + count ≤ 2 ^ 32 }
         ensures { (p : Params) (pk_seed : List ℕ) → IsSeededLanes self.now p pk_seed
-            → (j : ℕ) → j < 8 → (a : Address) → HasAddress adrs.now j a
+            → (j : ℕ) → j < GROUP → (a : Address) → HasAddress adrs.now j a
             → value_at result j p.n ≡ steps p pk_seed a (value_at x.now j p.n) from count }
     {
         let mut nodes = *x;
@@ -137,10 +137,10 @@ impl<'a> SeededLanes<'a> {
     )
         requires { from + count ≤ 2 ^ 32 }
         ensures x { (p : Params) (pk_seed : List ℕ) → IsSeededLanes self.now p pk_seed
-            → (j : ℕ) → j < 8 → (a : Address) → HasAddress x_adrs.now j a
+            → (j : ℕ) → j < GROUP → (a : Address) → HasAddress x_adrs.now j a
             → value_at x.new j p.n ≡ steps p pk_seed a (value_at x.old j p.n) from count }
         ensures y { (p : Params) (pk_seed : List ℕ) → IsSeededLanes self.now p pk_seed
-            → (j : ℕ) → j < 8 → (a : Address) → HasAddress y_adrs.now j a
+            → (j : ℕ) → j < GROUP → (a : Address) → HasAddress y_adrs.now j a
             → value_at y.new j p.n ≡ steps p pk_seed a (value_at y.old j p.n) from count }
     {
         for step in 0..count {
@@ -162,9 +162,9 @@ impl<'a> SeededLanes<'a> {
         from: Words,
         counts: Words,
     ) -> LaneNodes
-        requires { (j : ℕ) → j < 8 → slice_index from j + slice_index counts j ≤ 2 ^ 32 }
+        requires { (j : ℕ) → j < GROUP → slice_index from j + slice_index counts j ≤ 2 ^ 32 }
         ensures { (p : Params) (pk_seed : List ℕ) → IsSeededLanes self.now p pk_seed
-            → (j : ℕ) → j < 8 → (a : Address) → HasAddress adrs.now j a
+            → (j : ℕ) → j < GROUP → (a : Address) → HasAddress adrs.now j a
             → value_at result j p.n
             ≡ steps p pk_seed a (value_at x.now j p.n) (slice_index from j) (slice_index counts j) }
     {
@@ -182,7 +182,7 @@ impl<'a> SeededLanes<'a> {
     /// F in each lane that has a step left, whose number in `counts` is above `step`. Of other lanes nothing is said.
     fn f_each(&self, adrs: &LaneAdrs, x: &LaneNodes, step: u32, counts: Words) -> LaneNodes
         ensures { (p : Params) (pk_seed : List ℕ) → IsSeededLanes self.now p pk_seed
-            → (j : ℕ) → j < 8 → step < slice_index counts j → (a : Address) → HasAddress adrs.now j a
+            → (j : ℕ) → j < GROUP → step < slice_index counts j → (a : Address) → HasAddress adrs.now j a
             → value_at result j p.n ≡ F p pk_seed a (value_at x.now j p.n) }
     {
         let n = self.set.n();
@@ -199,7 +199,7 @@ impl<'a> SeededLanes<'a> {
     fn digests(&self, adrs: &LaneAdrs, x: &LaneNodes, len: usize) -> LaneNodes
         requires { (len ≡ 16) ⊎ (len ≡ 24) ⊎ (len ≡ 32) }
         ensures { (p : Params) (pk_seed : List ℕ) → IsSeededLanes self.now p pk_seed → length pk_seed ≡ p.n
-            → (j : ℕ) → j < 8 → (a : Address) → HasAddress adrs.now j a
+            → (j : ℕ) → j < GROUP → (a : Address) → HasAddress adrs.now j a
             → value_at result j p.n ≡ tweaked_hash SHA_256 p pk_seed a (value_at x.now j len) }
     {
         let mut state = splat_all(&self.state);
@@ -211,10 +211,10 @@ impl<'a> SeededLanes<'a> {
     /// `y_adrs`.
     fn f_two(&self, x_adrs: &LaneAdrs, y_adrs: &LaneAdrs, x: &mut LaneNodes, y: &mut LaneNodes)
         ensures x { (p : Params) (pk_seed : List ℕ) → IsSeededLanes self.now p pk_seed
-            → (j : ℕ) → j < 8 → (a : Address) → HasAddress x_adrs.now j a
+            → (j : ℕ) → j < GROUP → (a : Address) → HasAddress x_adrs.now j a
             → value_at x.new j p.n ≡ F p pk_seed a (value_at x.old j p.n) }
         ensures y { (p : Params) (pk_seed : List ℕ) → IsSeededLanes self.now p pk_seed
-            → (j : ℕ) → j < 8 → (a : Address) → HasAddress y_adrs.now j a
+            → (j : ℕ) → j < GROUP → (a : Address) → HasAddress y_adrs.now j a
             → value_at y.new j p.n ≡ F p pk_seed a (value_at y.old j p.n) }
     {
         if self.pk_seed.len() == self.set.n() {
@@ -236,10 +236,10 @@ impl<'a> SeededLanes<'a> {
     )
         requires { (len ≡ 16) ⊎ (len ≡ 24) ⊎ (len ≡ 32) }
         ensures x { (p : Params) (pk_seed : List ℕ) → IsSeededLanes self.now p pk_seed → length pk_seed ≡ p.n
-            → (j : ℕ) → j < 8 → (a : Address) → HasAddress x_adrs.now j a
+            → (j : ℕ) → j < GROUP → (a : Address) → HasAddress x_adrs.now j a
             → value_at x.new j p.n ≡ tweaked_hash SHA_256 p pk_seed a (value_at x.old j len) }
         ensures y { (p : Params) (pk_seed : List ℕ) → IsSeededLanes self.now p pk_seed → length pk_seed ≡ p.n
-            → (j : ℕ) → j < 8 → (a : Address) → HasAddress y_adrs.now j a
+            → (j : ℕ) → j < GROUP → (a : Address) → HasAddress y_adrs.now j a
             → value_at y.new j p.n ≡ tweaked_hash SHA_256 p pk_seed a (value_at y.old j len) }
     {
         let x_block = second_block(len, x_adrs, x);
@@ -252,11 +252,11 @@ impl<'a> SeededLanes<'a> {
     /// F in one lane after the other, for a PK.seed of another length than n.
     fn f_alone(&self, adrs: &LaneAdrs, x: &LaneNodes) -> LaneNodes
         ensures { (p : Params) (pk_seed : List ℕ) → IsSeededLanes self.now p pk_seed
-            → (j : ℕ) → j < 8 → (a : Address) → HasAddress adrs.now j a
+            → (j : ℕ) → j < GROUP → (a : Address) → HasAddress adrs.now j a
             → value_at result j p.n ≡ F p pk_seed a (value_at x.now j p.n) }
     {
         let mut nodes = *x;
-        for j in 0..8 {
+        for j in 0..GROUP {
             let digest = self.digest_alone(adrs, j, &lane_node(x, j, self.set.n()));
             set_lane(&mut nodes, j, &digest);
         }
@@ -266,11 +266,11 @@ impl<'a> SeededLanes<'a> {
     /// PRF in one lane after the other, for a seed of another length than n.
     fn prf_alone(&self, sk_seed: &[u8], adrs: &LaneAdrs) -> LaneNodes
         ensures { (p : Params) (pk_seed : List ℕ) → IsSeededLanes self.now p pk_seed
-            → (j : ℕ) → j < 8 → (a : Address) → HasAddress adrs.now j a
+            → (j : ℕ) → j < GROUP → (a : Address) → HasAddress adrs.now j a
             → value_at result j p.n ≡ PRF p pk_seed sk_seed.now a }
     {
         let mut nodes = [Words::splat(0); 8];
-        for j in 0..8 {
+        for j in 0..GROUP {
             let digest = self.digest_alone(adrs, j, sk_seed);
             set_lane(&mut nodes, j, &digest);
         }
@@ -279,7 +279,7 @@ impl<'a> SeededLanes<'a> {
 
     /// The digest of PK.seed, zeros, the address in lane `j` and the bytes.
     fn digest_alone(&self, adrs: &LaneAdrs, j: usize, x: &[u8]) -> [u8; 32]
-        requires { j < 8 }
+        requires { j < GROUP }
         ensures { (p : Params) (pk_seed : List ℕ) → IsSeededLanes self.now p pk_seed → (a : Address)
             → HasAddress adrs.now j a
             → result ≡ sha256 (tweaked 64 p pk_seed a x.now) }

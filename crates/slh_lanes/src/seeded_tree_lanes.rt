@@ -16,6 +16,7 @@ use crate::long_block::{first_lane, initial, second_block, splat_all, truncated}
 use crate::long_eight_blocks::compress;
 use crate::long_words::LongWords;
 use crate::seeded_lanes::SeededLanes;
+use crate::words::GROUP;
 use slh_params::ParamSet;
 
 /// H of eight pairs of nodes under one PK.seed: in eight lanes SHA-256, or where n is 24 or 32 SHA-512, after its first
@@ -53,7 +54,7 @@ impl<'a> SeededTreeLanes<'a> {
     /// has another length than n, nothing is said.
     pub fn h(&self, adrs: &LaneAdrs, left: &LaneNodes, right: &LaneNodes) -> LaneNodes
         ensures { (p : Params) (pk_seed : List ℕ) → IsSeededTreeLanes self.now p pk_seed → length pk_seed ≡ p.n
-            → (j : ℕ) → j < 8 → (a : Address) → HasAddress adrs.now j a
+            → (j : ℕ) → j < GROUP → (a : Address) → HasAddress adrs.now j a
             → value_at result j p.n ≡ H p pk_seed a (value_at left.now j p.n) (value_at right.now j p.n) }
     {
         let n = self.lanes.set.n();
@@ -76,7 +77,7 @@ fn long_digests(
     requires { (n ≡ 24) ⊎ (n ≡ 32) }
     ensures { (p : Params) (pk_seed : List ℕ) → p.n ≡ n → length pk_seed ≡ p.n
         → state.now ≡ compress initial_hash_512 (long_first_block p pk_seed)
-        → (j : ℕ) → j < 8 → (a : Address) → HasAddress adrs.now j a
+        → (j : ℕ) → j < GROUP → (a : Address) → HasAddress adrs.now j a
         → value_at result j p.n ≡ H p pk_seed a (value_at left.now j p.n) (value_at right.now j p.n) }
 {
     let mut lanes = splat_all(state);

@@ -7,10 +7,11 @@ ghost use Rattle.slh_lanes.specs.Columns.{column, HasWords};
 ghost use Rattle.slh_lanes.specs.Lanes.{HasAddress};
 ghost use Rattle.slh_lanes.specs.Streams.{HoldsAt, half_on, vectors};
 
+use crate::block::TWEAK_LEN;
 use crate::eight_blocks::compress;
 use crate::lane_adrs::LaneAdrs;
 use crate::lane_nodes::LaneNodes;
-use crate::words::{Vector, Words, halves, high, low, tell_all, tell_words};
+use crate::words::{GROUP, Vector, Words, halves, high, low, tell_all, tell_words};
 
 /// SHA-256 of eight messages of the same length, as far as they have come.
 ///
@@ -56,7 +57,7 @@ fn wrapped(state: &[Words; 8]) -> [Vector; 8]
 /// The block whose words begin in the middle of these.
 #[inline(always)]
 fn shifted(words: &[Vector; 17]) -> [Words; 16]
-    ensures { (j : ℕ) → j < 8 → HasWords (take 64 (half_on (column j (vectors words.now)) 17)) (column j result) }
+    ensures { (j : ℕ) → j < GROUP → HasWords (take 64 (half_on (column j (vectors words.now)) 17)) (column j result) }
 {
     let mut block = [Words::splat(0); 16];
     'words: for k in 0..16 {
@@ -69,7 +70,7 @@ fn shifted(words: &[Vector; 17]) -> [Words; 16]
 
 /// The words of the address, each begun by the second half of the word before it.
 pub(crate) fn address_words(adrs: &LaneAdrs) -> [Vector; 17]
-    ensures { (j : ℕ) → j < 8 → (a : Address) → HasAddress adrs.now j a
+    ensures { (j : ℕ) → j < GROUP → (a : Address) → HasAddress adrs.now j a
         → half_on (column j (vectors result)) 6 ≡ compressed a }
 {
     tell_all(adrs);
@@ -97,22 +98,26 @@ pub(crate) fn address_words(adrs: &LaneAdrs) -> [Vector; 17]
     words
 }
 
+/// Where the zeros of the padding end in the second of two blocks: before the 8 bytes of the length. The byte that
+/// begins the padding is counted off.
+const ZEROS_END: u32 = 2 * 64 - 8 - 1;
+
 impl ShortStream {
     /// The messages of one block and an address, from the hash value after the block.
     pub(crate) fn new(state: &[Words; 8], adrs: &LaneAdrs) -> Self
-        ensures { (j : ℕ) → j < 8 → (a : Address) → HasAddress adrs.now j a → (s : List ℕ) → length s ≡ 64
+        ensures { (j : ℕ) → j < GROUP → (a : Address) → HasAddress adrs.now j a → (s : List ℕ) → length s ≡ 64
             → column j state.now ≡ compress initial_hash_256 s → HoldsAt result j (s ++ compressed a) }
     {
         ShortStream {
             state: wrapped(state),
             words: address_words(adrs),
-            len: 86,
+            len: TWEAK_LEN,
         }
     }
 
     /// Adds to each message the word in its lane.
     fn push(&mut self, word: Words)
-        ensures { (j : ℕ) → j < 8 → (m : List ℕ) → HoldsAt self.old j m
+        ensures { (j : ℕ) → j < GROUP → (m : List ℕ) → HoldsAt self.old j m
             → HoldsAt self.new j (m ++ to_be_bytes w32 (slice_index word j)) }
     {
         let used = (self.len % 64 + 2) / 4;
@@ -128,7 +133,7 @@ impl ShortStream {
     fn take_block(&mut self)
         ensures len { self.new.len ≡ self.old.len }
         ensures words { self.new.words ≡ self.old.words }
-        ensures state { (j : ℕ) → j < 8 → column j (vectors self.new.state)
+        ensures state { (j : ℕ) → j < GROUP → column j (vectors self.new.state)
             ≡ compress (column j (vectors self.old.state)) (take 64 (half_on (column j (vectors self.old.words)) 17)) }
     {
         let mut state = bare(&self.state);
@@ -139,7 +144,7 @@ impl ShortStream {
     /// Adds to each message the first words in its lane, as many as `count`.
     pub(crate) fn absorb(&mut self, nodes: &LaneNodes, count: usize)
         requires { count ≤ 8 }
-        ensures { (j : ℕ) → j < 8 → (m : List ℕ) → HoldsAt self.old j m
+        ensures { (j : ℕ) → j < GROUP → (m : List ℕ) → HoldsAt self.old j m
             → HoldsAt self.new j (m ++ digest_bytes (column j nodes.now) count) }
     {
         'words: for k in 0..count {
@@ -149,11 +154,11 @@ impl ShortStream {
 
     /// The digest of each message (FIPS 180-4, section 5.1.1: a bit 1, zeros, and the length in bits).
     pub(crate) fn finish(mut self) -> [Words; 8]
-        ensures { (j : ℕ) → j < 8 → (m : List ℕ) → HoldsAt self j m → length m < 2 ^ 29
+        ensures { (j : ℕ) → j < GROUP → (m : List ℕ) → HoldsAt self j m → length m < 2 ^ 29
             → digest_bytes (column j result) 8 ≡ sha256 m }
     {
         let bits = Words::splat(self.len.wrapping_mul(8));
-        let zeros = (119 - self.len % 64) % 64;
+        let zeros = (ZEROS_END - self.len % 64) % 64;
         self.push(Words::splat(0x8000_0000));
         'zeros: for _ in 0..zeros / 4 {
             self.push(Words::splat(0));

@@ -3,7 +3,7 @@ ghost use Rattle.std.specs.Prelude.{◌≡◌, ℕ, ◌+◌, ◌<◌, List, slic
 ghost use Rattle.sha2.specs.Sha256.{compress};
 ghost use Rattle.slh_lanes.specs.Columns.{column, lane_column, HasWords};
 
-use crate::words::Words;
+use crate::words::{GROUP, Words};
 use crate::{eight_blocks, sha256_lanes};
 use slh_width::{Width, build_widths};
 use std::simd::prelude::*;
@@ -19,9 +19,9 @@ pub(crate) fn compress_two(
     x_block: &[Words; 16],
     y_block: &[Words; 16],
 )
-    ensures x { (j : ℕ) → j < 8 → (b : List ℕ) → HasWords b (column j x_block.now)
+    ensures x { (j : ℕ) → j < GROUP → (b : List ℕ) → HasWords b (column j x_block.now)
         → column j x.new ≡ compress (column j x.old) b }
-    ensures y { (j : ℕ) → j < 8 → (b : List ℕ) → HasWords b (column j y_block.now)
+    ensures y { (j : ℕ) → j < GROUP → (b : List ℕ) → HasWords b (column j y_block.now)
         → column j y.new ≡ compress (column j y.old) b }
 {
     match build_widths().short {
@@ -31,9 +31,9 @@ pub(crate) fn compress_two(
 }
 
 fn in_sixteen(x: &mut [Words; 8], y: &mut [Words; 8], x_block: &[Words; 16], y_block: &[Words; 16])
-    ensures x { (j : ℕ) → j < 8 → (b : List ℕ) → HasWords b (column j x_block.now)
+    ensures x { (j : ℕ) → j < GROUP → (b : List ℕ) → HasWords b (column j x_block.now)
         → column j x.new ≡ compress (column j x.old) b }
-    ensures y { (j : ℕ) → j < 8 → (b : List ℕ) → HasWords b (column j y_block.now)
+    ensures y { (j : ℕ) → j < GROUP → (b : List ℕ) → HasWords b (column j y_block.now)
         → column j y.new ≡ compress (column j y.old) b }
 {
     let mut state = join_states(x, y);
@@ -43,9 +43,9 @@ fn in_sixteen(x: &mut [Words; 8], y: &mut [Words; 8], x_block: &[Words; 16], y_b
 }
 
 fn in_eights(x: &mut [Words; 8], y: &mut [Words; 8], x_block: &[Words; 16], y_block: &[Words; 16])
-    ensures x { (j : ℕ) → j < 8 → (b : List ℕ) → HasWords b (column j x_block.now)
+    ensures x { (j : ℕ) → j < GROUP → (b : List ℕ) → HasWords b (column j x_block.now)
         → column j x.new ≡ compress (column j x.old) b }
-    ensures y { (j : ℕ) → j < 8 → (b : List ℕ) → HasWords b (column j y_block.now)
+    ensures y { (j : ℕ) → j < GROUP → (b : List ℕ) → HasWords b (column j y_block.now)
         → column j y.new ≡ compress (column j y.old) b }
 {
     eight_blocks::compress(x, x_block);
@@ -55,8 +55,8 @@ fn in_eights(x: &mut [Words; 8], y: &mut [Words; 8], x_block: &[Words; 16], y_bl
 /// The lanes of `x`, and after them those of `y`.
 #[inline(always)]
 fn join(x: Words, y: Words) -> TwoWords
-    ensures low { (j : ℕ) → j < 8 → slice_index result j ≡ slice_index x j }
-    ensures high { (j : ℕ) → j < 8 → slice_index result (8 + j) ≡ slice_index y j }
+    ensures low { (j : ℕ) → j < GROUP → slice_index result j ≡ slice_index x j }
+    ensures high { (j : ℕ) → j < GROUP → slice_index result (GROUP + j) ≡ slice_index y j }
 {
     let [a, b, c, d, e, f, g, h] = x.to_array();
     let [i, j, k, l, m, n, o, p] = y.to_array();
@@ -66,7 +66,7 @@ fn join(x: Words, y: Words) -> TwoWords
 /// The first eight lanes.
 #[inline(always)]
 fn low(words: TwoWords) -> Words
-    ensures { (j : ℕ) → j < 8 → slice_index result j ≡ slice_index words j }
+    ensures { (j : ℕ) → j < GROUP → slice_index result j ≡ slice_index words j }
 {
     let [a, b, c, d, e, f, g, h, ..] = words.to_array();
     Words::from_array([a, b, c, d, e, f, g, h])
@@ -75,7 +75,7 @@ fn low(words: TwoWords) -> Words
 /// The last eight lanes.
 #[inline(always)]
 fn high(words: TwoWords) -> Words
-    ensures { (j : ℕ) → j < 8 → slice_index result j ≡ slice_index words (8 + j) }
+    ensures { (j : ℕ) → j < GROUP → slice_index result j ≡ slice_index words (GROUP + j) }
 {
     let [.., i, j, k, l, m, n, o, p] = words.to_array();
     Words::from_array([i, j, k, l, m, n, o, p])
@@ -83,8 +83,8 @@ fn high(words: TwoWords) -> Words
 
 #[inline(always)]
 fn join_states(x: &[Words; 8], y: &[Words; 8]) -> [TwoWords; 8]
-    ensures low { (j : ℕ) → j < 8 → column j result ≡ column j x.now }
-    ensures high { (j : ℕ) → j < 8 → column (8 + j) result ≡ column j y.now }
+    ensures low { (j : ℕ) → j < GROUP → column j result ≡ column j x.now }
+    ensures high { (j : ℕ) → j < GROUP → column (GROUP + j) result ≡ column j y.now }
 {
     [
         join(x[0], y[0]),
@@ -100,8 +100,8 @@ fn join_states(x: &[Words; 8], y: &[Words; 8]) -> [TwoWords; 8]
 
 #[inline(always)]
 fn join_blocks(x: &[Words; 16], y: &[Words; 16]) -> [TwoWords; 16]
-    ensures low { (j : ℕ) → j < 8 → column j result ≡ column j x.now }
-    ensures high { (j : ℕ) → j < 8 → column (8 + j) result ≡ column j y.now }
+    ensures low { (j : ℕ) → j < GROUP → column j result ≡ column j x.now }
+    ensures high { (j : ℕ) → j < GROUP → column (GROUP + j) result ≡ column j y.now }
 {
     [
         join(x[0], y[0]),
@@ -125,7 +125,7 @@ fn join_blocks(x: &[Words; 16], y: &[Words; 16]) -> [TwoWords; 16]
 
 #[inline(always)]
 fn low_lanes(state: &[TwoWords; 8]) -> [Words; 8]
-    ensures { (j : ℕ) → j < 8 → column j result ≡ column j state.now }
+    ensures { (j : ℕ) → j < GROUP → column j result ≡ column j state.now }
 {
     [
         low(state[0]),
@@ -141,7 +141,7 @@ fn low_lanes(state: &[TwoWords; 8]) -> [Words; 8]
 
 #[inline(always)]
 fn high_lanes(state: &[TwoWords; 8]) -> [Words; 8]
-    ensures { (j : ℕ) → j < 8 → column j result ≡ column (8 + j) state.now }
+    ensures { (j : ℕ) → j < GROUP → column j result ≡ column (GROUP + j) state.now }
 {
     [
         high(state[0]),

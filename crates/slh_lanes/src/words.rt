@@ -6,7 +6,10 @@ ghost use Rattle.slh_lanes.specs.Columns.{column};
 
 use std::simd::prelude::*;
 
-/// Eight words of 32 bits, one in each lane.
+/// How many messages are hashed side by side: a group, each in a lane of its own.
+pub const GROUP: usize = 8;
+
+/// The words of 32 bits of a group, one in each lane.
 pub type Words = u32x8;
 
 /// A vector in a struct: the borrow checker covers no struct with an array of bare vectors.
@@ -17,7 +20,7 @@ pub(crate) struct Vector {
 
 #[inline(always)]
 pub(crate) fn add(x: Words, y: Words) -> Words
-    ensures { (j : ℕ) → j < 8 → slice_index result j ≡ add32 (slice_index x j) (slice_index y j) }
+    ensures { (j : ℕ) → j < GROUP → slice_index result j ≡ add32 (slice_index x j) (slice_index y j) }
 {
     x + y
 }
@@ -25,29 +28,29 @@ pub(crate) fn add(x: Words, y: Words) -> Words
 // The low half of each word of `p` above the high half of `q`'s.
 #[inline(always)]
 pub(crate) fn halves(p: Words, q: Words) -> Words
-    ensures { (j : ℕ) → j < 8 → slice_index result j ≡ halves (slice_index p j) (slice_index q j) }
+    ensures { (j : ℕ) → j < GROUP → slice_index result j ≡ halves (slice_index p j) (slice_index q j) }
 {
     (p << 16) + (q >> 16)
 }
 
 #[inline(always)]
 pub(crate) fn high(p: Words) -> Words
-    ensures { (j : ℕ) → j < 8 → slice_index result j ≡ slice_index p j / 2 ^ 16 }
+    ensures { (j : ℕ) → j < GROUP → slice_index result j ≡ slice_index p j / 2 ^ 16 }
 {
     p >> 16
 }
 
 #[inline(always)]
 pub(crate) fn low(p: Words) -> Words
-    ensures { (j : ℕ) → j < 8 → slice_index result j ≡ slice_index p j * 2 ^ 16 % 2 ^ 32 }
+    ensures { (j : ℕ) → j < GROUP → slice_index result j ≡ slice_index p j * 2 ^ 16 % 2 ^ 32 }
 {
     p << 16
 }
 
 /// The numbers from `first` on, one in each lane.
 pub fn consecutive(first: u32) -> Words
-    requires { first + 8 ≤ 2 ^ 32 }
-    ensures { (j : ℕ) → j < 8 → slice_index result j ≡ first + j }
+    requires { first + GROUP ≤ 2 ^ 32 }
+    ensures { (j : ℕ) → j < GROUP → slice_index result j ≡ first + j }
 {
     add(
         Words::splat(first),
@@ -58,7 +61,7 @@ pub fn consecutive(first: u32) -> Words
 /// Half of each word, without the rest.
 #[inline(always)]
 pub fn half(x: Words) -> Words
-    ensures { (j : ℕ) → j < 8 → slice_index result j ≡ slice_index x j / 2 }
+    ensures { (j : ℕ) → j < GROUP → slice_index result j ≡ slice_index x j / 2 }
 {
     x >> 1
 }
@@ -66,7 +69,7 @@ pub fn half(x: Words) -> Words
 /// 1 for each odd word, and 0 for each even one.
 #[inline(always)]
 pub fn parity(x: Words) -> Words
-    ensures { (j : ℕ) → j < 8 → slice_index result j ≡ slice_index x j % 2 }
+    ensures { (j : ℕ) → j < GROUP → slice_index result j ≡ slice_index x j % 2 }
 {
     x & Words::splat(1)
 }
@@ -74,7 +77,7 @@ pub fn parity(x: Words) -> Words
 // The vector with another word in lane `j`.
 #[inline(always)]
 pub(crate) fn with_lane(words: Words, j: usize, word: u32) -> Words
-    requires { j < 8 }
+    requires { j < GROUP }
     ensures set { slice_index result j ≡ word }
     ensures others { (i : ℕ) → i ≢ j → slice_index result i ≡ slice_index words i }
 {
@@ -108,15 +111,15 @@ pub(crate) fn odds(x: Words, y: Words) -> Words
 // In each lane the word of `x` where that of `a` is below that of `b`, else the word of `y`.
 #[inline(always)]
 pub(crate) fn pick(a: Words, b: Words, x: Words, y: Words) -> Words
-    ensures below { (j : ℕ) → j < 8 → slice_index a j < slice_index b j → slice_index result j ≡ slice_index x j }
-    ensures others { (j : ℕ) → j < 8 → slice_index b j ≤ slice_index a j → slice_index result j ≡ slice_index y j }
+    ensures below { (j : ℕ) → j < GROUP → slice_index a j < slice_index b j → slice_index result j ≡ slice_index x j }
+    ensures others { (j : ℕ) → j < GROUP → slice_index b j ≤ slice_index a j → slice_index result j ≡ slice_index y j }
 {
     a.simd_lt(b).select(x, y)
 }
 
 // The largest word of all lanes.
 pub(crate) fn most(words: Words) -> u32
-    ensures { (j : ℕ) → j < 8 → slice_index words j ≤ result }
+    ensures { (j : ℕ) → j < GROUP → slice_index words j ≤ result }
 {
     let mut most = 0;
     for word in words.to_array() {
@@ -128,13 +131,13 @@ pub(crate) fn most(words: Words) -> u32
 // The type's own fact about a vector: each lane is a word.
 #[inline(always)]
 pub(crate) fn tell_words(_x: Words)
-    ensures { (j : ℕ) → j < 8 → slice_index _x j < 2 ^ 32 }
+    ensures { (j : ℕ) → j < GROUP → slice_index _x j < 2 ^ 32 }
 {}
 
 // The same of each vector of a list. This runs no code.
 #[inline(always)]
 pub(crate) fn tell_all(vectors: &[Words])
-    ensures { (j : ℕ) → j < 8 → (k : ℕ) → slice_index (column j vectors.now) k < 2 ^ 32 }
+    ensures { (j : ℕ) → j < GROUP → (k : ℕ) → slice_index (column j vectors.now) k < 2 ^ 32 }
 {
     'told: for k in 0..vectors.len() {
         tell_words(vectors[k]);

@@ -1,114 +1,128 @@
--- What the jobs keep of chains: the layers' own, and of each layer something.
-use Rattle.std.proofs.Common.{◌≡◌, ℕ, zero, suc, ◌+◌, ◌^◌, ◌<◌, ◌≤◌, List, [], ◌∷◌, Option, Some, None, Bool, true, false, ◌&&◌, if◌then◌else◌, length, get_or, refl, arith, sym, ◌∙◌, ap, subst, inl, inr}
-use Rattle.std.specs.List.{slice_get, flat_map, All, Contains}
-use Rattle.std.proofs.lemmas.Bool.{cases_lt, lt-ltb, le-leb}
-use Rattle.std.proofs.lemmas.List.{get_or-map, length-map}
-use Rattle.std.proofs.lemmas.List.Elements.{All-append, All-push, All-contains, Contains-append_left, Contains-append_right}
-use Rattle.std.proofs.lemmas.Option.{slice_get_within, slice_get-get_or}
+-- What the jobs keep of chains: in their order, the layers' own, from layer 0 on.
+use Rattle.std.proofs.Common.{◌≡◌, ℕ, suc, ◌^◌, ◌<◌, ◌≤◌, List, [], ◌∷◌, ◌++◌, Some, None, Bool, true, false, ◌&&◌, if◌then◌else◌, length, map, get_or, refl, arith, ◌∙◌, ap, inl, inr}
+use Rattle.std.specs.List.{flat_map, range_with_len}
+use Rattle.std.specs.Prelude.{nat_le, nat_lt}
+use Rattle.std.proofs.Math.Bool.{and-false}
+use Rattle.std.proofs.lemmas.Bool.{cases_lt, lt-ltb, le-ltb, le-leb, lt-leb}
+use Rattle.std.proofs.lemmas.Grind.{flat_map-append}
+use Rattle.std.proofs.lemmas.List.{append-nil}
+use Rattle.std.proofs.lemmas.List.Concat.{flat_map_single}
+use Rattle.std.proofs.lemmas.List.FromFn.{length-map-range_with_len, get_or-map-range_with_len}
+use Rattle.std.proofs.lemmas.Option.{slice_get-get_or}
 use Rattle.slh_params.specs.ParamSet.{params}
 use Rattle.slh_few.proofs.Layers.{layer_place-pair}
 use Rattle.slh_subtrees.specs.Points.{EndToEnd}
 use Rattle.slh_subtrees.specs.CutTrees.{CutTrees}
-use Rattle.slh_subtrees.specs.Jobs.{IsTreeOf, tree_ranges, tree_jobs, signing_jobs, first_job_of}
-use Rattle.slh_subtrees.specs.declared.range.JobTree.{JobTree}
+use Rattle.slh_subtrees.specs.Jobs.{tree_ranges, tree_jobs, signing_jobs}
 use Rattle.slh_subtrees.specs.declared.range.JobTree.TheVariants.{Xmss, Fors}
 use Rattle.slh_subtrees.specs.declared.range.JobRange.{JobRange}
-use Rattle.slh_subtrees.proofs.Numbered.{slice_get-tree}
-use Rattle.slh_workers.specs.Answers.{Covers, InPlace, numbers}
 use Rattle.slh_subtrees.specs.SigningTrees.{source_of, chains_in, signs_in, leaf_in}
-use Rattle.slh_par.specs.JobAnswers.{kept_in, as_list}
 use Rattle.slh_subtrees.specs.declared.signing_trees.SigningTrees.{SigningTrees}
-use Rattle.slh_par.specs.JoinedTrees.{AreChains}
-use Rattle.slh_par.proofs.SplitAnswers.{Answer, AllRight, nothing}
-use Rattle.slh_par.proofs.Parts.{job_of, job_at}
+use Rattle.slh_par.specs.JobAnswers.{kept_by, as_list, AreChains}
+use Rattle.slh_par.proofs.SplitAnswers.{Answer, AllRight}
+use Rattle.slh_subtrees.proofs.Numbered.{in_tree}
 
-both : (b c : Bool) → b ≡ true → c ≡ true → (b && c) ≡ true
-both b c e f = rw (e, f) refl
+-- two lists of which any two elements in one place give the same
+flat_map_same : {X Y Z : Type 0} (f : X → List Z) (g : Y → List Z) (xs : List X) (ys : List Y) → length xs ≡ length ys
+    → ((n : ℕ) (d : X) (e : Y) → n < length xs → f (get_or xs n d) ≡ g (get_or ys n e)) → flat_map f xs ≡ flat_map g ys
+flat_map_same f g [] [] len each = refl
+flat_map_same f g [] (y ∷ ys) len each = absurd (omega arith)
+flat_map_same f g (x ∷ xs) [] len each = absurd (omega arith)
+flat_map_same f g (x ∷ xs) (y ∷ ys) len each =
+    ap (λ v. v ++ flat_map f xs) (each 0 x y (omega arith))
+    ∙ ap (λ v. g y ++ v) (flat_map_same f g xs ys (omega arith) (λ n d e below. each (suc n) d e (omega arith)))
 
--- the range of a leaf, among ranges that lie end to end
-pub record HasLeaf (rs : List (ℕ × ℕ)) (x : ℕ) : Type 0 where
-  pub k : ℕ
-  pub range : ℕ × ℕ
-  pub read : slice_get rs k ≡ Some range
-  pub from : range.0 ≤ x
-  pub to : x < range.1
+-- functions that give the same of each element
+flat_map_each : {X Z : Type 0} (f g : X → List Z) → ((x : X) → f x ≡ g x) → (xs : List X) → flat_map f xs ≡ flat_map g xs
+flat_map_each f g same [] = refl
+flat_map_each f g same (x ∷ xs) = ap (λ v. v ++ flat_map f xs) (same x) ∙ ap (λ v. g x ++ v) (flat_map_each f g same xs)
 
-pub leaf_somewhere : (lo hi : ℕ) (rs : List (ℕ × ℕ)) (x : ℕ) → EndToEnd lo hi rs → lo ≤ x → x < hi → HasLeaf rs x
-leaf_somewhere lo hi [] x ends from to = absurd (omega arith)
-leaf_somewhere lo hi (r ∷ rs) x ends from to =
-    elim (cases_lt x r.1) [
-      | inl here ↦ record { k = 0; range = r; read = refl; from = omega (arith, ends.0); to = here }
+-- nothing of each element
+flat_map_none : {X Z : Type 0} (f : X → List Z) → ((x : X) → f x ≡ []) → (xs : List X) → flat_map f xs ≡ []
+flat_map_none f none [] = refl
+flat_map_none f none (x ∷ xs) = ap (λ v. v ++ flat_map f xs) (none x) ∙ flat_map_none f none xs
+
+-- the parts of parts
+flat_map_parts : {X Y Z : Type 0} (g : Y → List Z) (h : X → List Y) (xs : List X) → flat_map g (flat_map h xs) ≡ flat_map (λ x. flat_map g (h x)) xs
+flat_map_parts g h [] = refl
+flat_map_parts g h (x ∷ xs) = flat_map-append g (h x) (flat_map h xs) ∙ ap (λ v. flat_map g (h x) ++ v) (flat_map_parts g h xs)
+
+-- what a job keeps, as a list
+abbrev kept_list : SigningTrees → JobRange → List (List ℕ)
+kept_list s job = as_list (kept_by s job)
+
+-- what the ranges of an XMSS tree keep
+abbrev kept_xmss : SigningTrees → ℕ → List (ℕ × ℕ) → List (List ℕ)
+kept_xmss s l rs = flat_map (kept_list s) (map (in_tree (Xmss l)) rs)
+
+-- one range more, whether or not the leaf that signs is one of it
+abbrev one_more : (s : SigningTrees) (l : ℕ) (rs : List (ℕ × ℕ)) → Bool → List (List ℕ)
+one_more s l rs signs = as_list (if signs then Some (chains_in s l) else None) ++ kept_xmss s l rs
+
+-- ranges after that leaf keep nothing
+kept_after : (s : SigningTrees) (l lo hi : ℕ) (rs : List (ℕ × ℕ)) → EndToEnd lo hi rs → leaf_in s (Xmss l) < lo → kept_xmss s l rs ≡ []
+kept_after s l lo hi [] ends before = refl
+kept_after s l lo hi (r ∷ rs) ends before =
+    let apart : signs_in s l r.0 r.1 ≡ false
+    = ap (λ b. b && nat_lt (leaf_in s (Xmss l)) r.1) (lt-leb r.0 (leaf_in s (Xmss l)) (omega (arith, ends.0))) in
+    ap (one_more s l rs) apart ∙ kept_after s l r.1 hi rs ends.2 (omega (arith, ends.0, ends.1))
+
+-- ranges around it keep the chains of its key once
+kept_once : (s : SigningTrees) (l lo hi : ℕ) (rs : List (ℕ × ℕ)) → EndToEnd lo hi rs → lo ≤ leaf_in s (Xmss l) → leaf_in s (Xmss l) < hi
+    → kept_xmss s l rs ≡ chains_in s l ∷ []
+kept_once s l lo hi [] ends from to = absurd (omega arith)
+kept_once s l lo hi (r ∷ rs) ends from to =
+    elim (cases_lt (leaf_in s (Xmss l)) r.1) [
+      | inl here ↦
+          let signs : signs_in s l r.0 r.1 ≡ true
+          = ap (λ b. b && nat_lt (leaf_in s (Xmss l)) r.1) (le-leb r.0 (leaf_in s (Xmss l)) (omega (arith, ends.0))) ∙ lt-ltb (leaf_in s (Xmss l)) r.1 here in
+          ap (one_more s l rs) signs ∙ ap (λ v. chains_in s l ∷ v) (kept_after s l r.1 hi rs ends.2 here)
       | inr later ↦
-          let rest = leaf_somewhere r.1 hi rs x ends.2 later to in
-          record { k = suc rest.k; range = rest.range; read = rest.read; from = rest.from; to = rest.to }
+          let apart : signs_in s l r.0 r.1 ≡ false
+          = ap (λ b. nat_le r.0 (leaf_in s (Xmss l)) && b) (le-ltb (leaf_in s (Xmss l)) r.1 later) ∙ and-false (nat_le r.0 (leaf_in s (Xmss l))) in
+          ap (one_more s l rs) apart ∙ kept_once s l r.1 hi rs ends.2 later to
     ]
 
--- what holds of the parts of a `flat_map` holds of the whole, and what one part contains the whole does
-all_flat_map : {X Y : Type 0} (P : Y → Type 0) (f : X → List Y) (xs : List X) → ((n : ℕ) (d : X) → n < length xs → All P (f (get_or xs n d))) → All P (flat_map f xs)
-all_flat_map P f [] each = λ k d h. absurd (omega arith)
-all_flat_map P f (x ∷ xs) each =
-    All-append P (f x) (flat_map f xs) (each 0 x (omega arith)) (all_flat_map P f xs (λ n d h. each (suc n) d (omega arith)))
+-- the ranges of a FORS tree keep nothing
+kept_fors : (s : SigningTrees) (j : ℕ) (rs : List (ℕ × ℕ)) → flat_map (kept_list s) (map (in_tree (Fors j)) rs) ≡ []
+kept_fors s j [] = refl
+kept_fors s j (r ∷ rs) = kept_fors s j rs
 
-in_flat_map : {X Y : Type 0} (f : X → List Y) (xs : List X) (n : ℕ) (d : X) (y : Y) → n < length xs → Contains (f (get_or xs n d)) y → Contains (flat_map f xs) y
-in_flat_map f [] n d y below has = absurd (omega arith)
-in_flat_map f (x ∷ xs) zero d y below has = Contains-append_left (f x) (flat_map f xs) y has
-in_flat_map f (x ∷ xs) (suc n) d y below has = Contains-append_right (f x) (flat_map f xs) y (in_flat_map f xs n d y (omega arith) has)
+-- all jobs keep the chains of each layer, from 0 on
+kept_all : (s : SigningTrees) (cut : CutTrees) → cut.set ≡ s.seeds.set → EndToEnd 0 (2 ^ (params cut.set).hp) (tree_ranges cut (Xmss 0))
+    → flat_map (kept_list s) (signing_jobs cut) ≡ map (chains_in s) (range_with_len 0 (params cut.set).d)
+kept_all s cut same ends =
+    let keeps = kept_list s in
+    let layers = range_with_len 0 (params cut.set).d in
+    let trees = range_with_len 0 (params cut.set).k in
+    let xmss : List JobRange = flat_map (λ l. tree_jobs cut (Xmss l)) layers in
+    let fors : List JobRange = flat_map (λ j. tree_jobs cut (Fors j)) trees in
+    let no_fors : flat_map keeps fors ≡ []
+    = flat_map_parts keeps (λ j. tree_jobs cut (Fors j)) trees
+    ∙ flat_map_none (λ j. flat_map keeps (tree_jobs cut (Fors j))) (λ j. kept_fors s j (tree_ranges cut (Fors j))) trees in
+    let there : (l : ℕ) → leaf_in s (Xmss l) < 2 ^ (params cut.set).hp
+    = λ l. rw same (layer_place-pair (params s.seeds.set) s.idx_tree s.idx_leaf l s.leaf) in
+    let each : (l : ℕ) → flat_map keeps (tree_jobs cut (Xmss l)) ≡ chains_in s l ∷ []
+    = λ l. kept_once s l 0 (2 ^ (params cut.set).hp) (tree_ranges cut (Xmss l)) ends (omega arith) (there l) in
+    flat_map-append keeps xmss fors
+    ∙ ap (λ v. flat_map keeps xmss ++ v) no_fors
+    ∙ append-nil (flat_map keeps xmss)
+    ∙ flat_map_parts keeps (λ l. tree_jobs cut (Xmss l)) layers
+    ∙ flat_map_each (λ l. flat_map keeps (tree_jobs cut (Xmss l))) (λ l. chains_in s l ∷ []) each layers
+    ∙ flat_map_single (chains_in s) layers
 
--- an element's number is among the numbers
-number_among : {X : Type 0} (xs : List (ℕ × X)) (n : ℕ) (x : X) → Contains xs (n, x) → Contains (numbers xs) n
-number_among {X} xs n x has =
-    let number : ℕ × X → ℕ = λ a. a.0 in
-    (has.0, omega (arith, has.1, length-map xs number), get_or-map number xs has.0 (n, x) n has.1 ∙ ap number has.2)
-
--- what all jobs keep
-abbrev pub kept_of : List Answer → List (ℕ × List ℕ)
-kept_of xs = flat_map (λ x. as_list x.1) xs
-
--- it is of a layer, and that layer's own
-abbrev pub IsOwn : SigningTrees → ℕ × List ℕ → Type 0
-IsOwn s a = (a.0 < (params s.seeds.set).d) × (a.1 ≡ chains_in s a.0)
-
-own_if : (s : SigningTrees) (l : ℕ) (b : Bool) → l < (params s.seeds.set).d → All (IsOwn s) (as_list (if b then Some (l, chains_in s l) else None))
-own_if s l true below = All-push (IsOwn s) [] (l, chains_in s l) (λ k d h. absurd (omega arith)) (below, refl)
-own_if s l false below = λ k d h. absurd (omega arith)
-
-own_in : (s : SigningTrees) (tree : JobTree) (lo hi : ℕ) → IsTreeOf (params s.seeds.set) tree → All (IsOwn s) (as_list (kept_in s tree lo hi))
-own_in s (Xmss l) lo hi of = own_if s l (signs_in s l lo hi) of
-own_in s (Fors j) lo hi of = λ k d h. absurd (omega arith)
-
-module _ (s : SigningTrees) (cut : CutTrees) (xs : List Answer) (count : length xs ≡ length (signing_jobs cut)) (right : AllRight s cut xs) where
-  pub kept_own : All (IsOwn s) (kept_of xs)
-  kept_own = all_flat_map (IsOwn s) (λ x. as_list x.1) xs (λ n d below.
-      let none : JobRange = record { tree = Xmss 0; lo = 0; hi = 0 } in
-      let job = get_or (signing_jobs cut) n none in
-      let own = right n d below job (slice_get-get_or (signing_jobs cut) n none (omega (arith, count))) in
-      let Of : Option (ℕ × List ℕ) → Type 0 = λ o. All (IsOwn s) (as_list o) in
-      subst Of (sym own.1) (own_in s job.tree job.lo job.hi own.2))
-
-  -- the job whose range has the leaf that signs on a layer keeps something
-  pub kept_covers : cut.set ≡ s.seeds.set → EndToEnd 0 (2 ^ (params cut.set).hp) (tree_ranges cut (Xmss 0)) → Covers (params s.seeds.set).d (kept_of xs)
-  kept_covers same ends = λ l below.
-      let leaf : ℕ = leaf_in s (Xmss l) in
-      let there : leaf_in s (Xmss l) < 2 ^ (params cut.set).hp =
-      rw same (layer_place-pair (params s.seeds.set) s.idx_tree s.idx_leaf l s.leaf) in
-      let at = leaf_somewhere 0 (2 ^ (params cut.set).hp) (tree_ranges cut (Xmss l)) leaf ends (omega arith) there in
-      let job = job_of (Xmss l) at.range in
-      let in_tree : slice_get (tree_jobs cut (Xmss l)) at.k ≡ Some job = job_at cut (Xmss l) at.k at.range at.read in
-      let n : ℕ = first_job_of cut (Xmss l) + at.k in
-      let read : slice_get (signing_jobs cut) n ≡ Some job =
-      slice_get-tree cut (Xmss l) at.k (rw same below) (slice_get_within (tree_jobs cut (Xmss l)) at.k job in_tree) ∙ in_tree in
-      let within : n < length xs = omega (arith, count, slice_get_within (signing_jobs cut) n job read) in
-      let signs : signs_in s l at.range.0 at.range.1 ≡ true = both _ _ (le-leb at.range.0 leaf at.from) (lt-ltb leaf at.range.1 at.to) in
-      let kept : (get_or xs n nothing).1 ≡ Some (l, chains_in s l) =
-      (right n nothing within job read).1 ∙ ap (λ (b : Bool). if b then Some (l, chains_in s l) else None) signs in
-      let Has : Option (ℕ × List ℕ) → Type 0 = λ o. Contains (as_list o) (l, chains_in s l) in
-      let has : Contains (as_list (get_or xs n nothing).1) (l, chains_in s l) = subst Has (sym kept) (0, omega arith, refl) in
-      number_among (kept_of xs) l (chains_in s l) (in_flat_map (λ x. as_list x.1) xs n nothing (l, chains_in s l) within has)
-
--- put at the places of their layers, they are the chains of all layers
-pub chains_in_place : (s : SigningTrees) (xs : List (ℕ × List ℕ)) (outs : List (List ℕ)) → All (IsOwn s) xs → InPlace (params s.seeds.set).d xs outs
-    → AreChains (source_of s) outs
-chains_in_place s xs outs own placed = record {
-  len = placed.len;
-  each = λ l d below. (All-contains (IsOwn s) xs (l, get_or outs l d) own (placed.each l d below)).1;
-}
+-- so what all answers keep is what each layer signs from
+pub chains_kept : (s : SigningTrees) (cut : CutTrees) (xs : List Answer) (kept : List (List ℕ)) → length xs ≡ length (signing_jobs cut) → AllRight s cut xs
+    → cut.set ≡ s.seeds.set → EndToEnd 0 (2 ^ (params cut.set).hp) (tree_ranges cut (Xmss 0)) → kept ≡ flat_map (λ x. as_list x.1) xs → AreChains (source_of s) kept
+chains_kept s cut xs kept count right same ends is =
+    let own : (n : ℕ) (d : Answer) (job : JobRange) → n < length xs → as_list (get_or xs n d).1 ≡ kept_list s (get_or (signing_jobs cut) n job)
+    = λ n d job below.
+    ap (λ o. as_list o) (right n d below (get_or (signing_jobs cut) n job) (slice_get-get_or (signing_jobs cut) n job (omega (arith, count)))).1 in
+    let all : kept ≡ map (chains_in s) (range_with_len 0 (params cut.set).d)
+    = is ∙ flat_map_same (λ (x : Answer). as_list x.1) (kept_list s) xs (signing_jobs cut) count own ∙ kept_all s cut same ends in
+    record {
+      len = ap (λ (v : List (List ℕ)). length v) all ∙ length-map-range_with_len (chains_in s) 0 (params cut.set).d ∙ ap (λ x. (params x).d) same;
+      each = λ l d below.
+          ap (λ (v : List (List ℕ)). get_or v l d) all
+          ∙ get_or-map-range_with_len (chains_in s) 0 (params cut.set).d l l d (rw same below) (omega arith);
+    }

@@ -1,7 +1,5 @@
 pub mod SplitAnswers
-pub mod Joined
 pub mod Kept
-pub mod Numbering
 pub mod Parts
-pub mod Places
+pub mod Unique
 pub mod TopCovers

@@ -13,9 +13,9 @@ use Rattle.slh_subtrees.specs.Points.{EndToEnd}
 use Rattle.slh_subtrees.specs.CutTrees.{CutTrees}
 use Rattle.slh_subtrees.specs.Jobs.{height_of, tree_ranges, tree_jobs, signing_jobs}
 use Rattle.slh_subtrees.specs.declared.range.JobTree.{JobTree}
-use Rattle.slh_subtrees.specs.declared.range.JobRange.{JobRange}
-use Rattle.slh_subtrees.specs.Joined.{AreHashed}
+use Rattle.slh_subtrees.specs.Gathered.{AreHashed}
 use Rattle.slh_subtrees.specs.SigningTrees.{source_of, tree_in, leaf_in}
+use Rattle.slh_subtrees.proofs.Numbered.{in_tree}
 use Rattle.slh_subtrees.proofs.TreeLaw.{tree-height}
 use Rattle.slh_par.specs.JobAnswers.{IsAnswer, AreRangeAnswers}
 use Rattle.slh_subtrees.specs.declared.signing_trees.SigningTrees.{SigningTrees}
@@ -67,11 +67,8 @@ no_path : KnownPath
 no_path = record { height = 0; leaf = 0; nodes = [] }
 
 -- the job of a range of the tree
-abbrev pub job_of : JobTree → ℕ × ℕ → JobRange
-job_of tree r = record { tree = tree; lo = r.0; hi = r.1 }
-
-pub job_at : (cut : CutTrees) (tree : JobTree) (k : ℕ) (r : ℕ × ℕ) → slice_get (tree_ranges cut tree) k ≡ Some r → slice_get (tree_jobs cut tree) k ≡ Some (job_of tree r)
-job_at cut tree k r read = slice_get-map (job_of tree) (tree_ranges cut tree) k ∙ ap (option_map (job_of tree)) read
+pub job_at : (cut : CutTrees) (tree : JobTree) (k : ℕ) (r : ℕ × ℕ) → slice_get (tree_ranges cut tree) k ≡ Some r → slice_get (tree_jobs cut tree) k ≡ Some (in_tree tree r)
+job_at cut tree k r read = slice_get-map (in_tree tree) (tree_ranges cut tree) k ∙ ap (option_map (in_tree tree)) read
 
 -- the jobs of one tree among all jobs, from the job `first` on
 pub record AreJobsOf (cut : CutTrees) (tree : JobTree) (first count : ℕ) : Type 0 where
@@ -83,16 +80,16 @@ pub record AreJobsOf (cut : CutTrees) (tree : JobTree) (first count : ℕ) : Typ
 module _ (s : SigningTrees) (cut : CutTrees) (tree : JobTree) (cs : List Cover) (rs : List KnownPath) (first count : ℕ) (same_set : cut.set ≡ s.seeds.set) (answers : AreRangeAnswers s cut cs rs) (jobs : AreJobsOf cut tree first count) where
   -- they are some of all jobs
   pub jobs_fit : first + count ≤ length (signing_jobs cut)
-  jobs_fit = omega (arith, part_within (signing_jobs cut) (tree_jobs cut tree) first (job_of tree (0, 0)) jobs.at (omega (arith, jobs.all, jobs.some)), jobs.all)
+  jobs_fit = omega (arith, part_within (signing_jobs cut) (tree_jobs cut tree) first (in_tree tree (0, 0)) jobs.at (omega (arith, jobs.all, jobs.some)), jobs.all)
 
   -- what the job of the range k gave
-  answer_at : (k : ℕ) (r : ℕ × ℕ) (c : Cover) (p : KnownPath) → slice_get (tree_ranges cut tree) k ≡ Some r → IsAnswer s (job_of tree r) (get_or (take count (drop first cs)) k c) (get_or (take count (drop first rs)) k p)
+  answer_at : (k : ℕ) (r : ℕ × ℕ) (c : Cover) (p : KnownPath) → slice_get (tree_ranges cut tree) k ≡ Some r → IsAnswer s (in_tree tree r) (get_or (take count (drop first cs)) k c) (get_or (take count (drop first rs)) k p)
   answer_at k r c p read =
-      let within : k < length (tree_jobs cut tree) = omega (arith, slice_get_within (tree_ranges cut tree) k r read, length-map (tree_ranges cut tree) (job_of tree)) in
+      let within : k < length (tree_jobs cut tree) = omega (arith, slice_get_within (tree_ranges cut tree) k r read, length-map (tree_ranges cut tree) (in_tree tree)) in
       let below : k < count = omega (arith, jobs.all) in
-      let given = answers.each (first + k) (job_of tree r) c p (jobs.at k within ∙ job_at cut tree k r read) in
-      let Of : Cover → Type 0 = λ x. IsAnswer s (job_of tree r) x (get_or rs (first + k) p) in
-      subst (IsAnswer s (job_of tree r) (get_or (take count (drop first cs)) k c)) (sym (read_part rs first count k p below))
+      let given = answers.each (first + k) (in_tree tree r) c p (jobs.at k within ∙ job_at cut tree k r read) in
+      let Of : Cover → Type 0 = λ x. IsAnswer s (in_tree tree r) x (get_or rs (first + k) p) in
+      subst (IsAnswer s (in_tree tree r) (get_or (take count (drop first cs)) k c)) (sym (read_part rs first count k p below))
       (subst Of (sym (read_part cs first count k c below)) given)
 
   length_covers : length (take count (drop first cs)) ≡ count
@@ -106,7 +103,7 @@ module _ (s : SigningTrees) (cut : CutTrees) (tree : JobTree) (cs : List Cover) 
   tree_hashed =
       let t = tree_in s tree in
       let ranges = tree_ranges cut tree in
-      let ranges_count : length ranges ≡ count = sym (length-map ranges (job_of tree)) ∙ sym jobs.all in
+      let ranges_count : length ranges ≡ count = sym (length-map ranges (in_tree tree)) ∙ sym jobs.all in
       let whole : 2 ^ height_of (params cut.set) tree ≡ 2 ^ t.height = ap (λ x. 2 ^ height_of (params x) tree) same_set ∙ ap (λ (h : ℕ). 2 ^ h) (tree-height (source_of s) tree) in
       record {
         span = spans_tree t 0 (2 ^ height_of (params cut.set) tree) ranges (take count (drop first cs)) jobs.ends whole (length_covers ∙ sym ranges_count)

@@ -1,13 +1,12 @@
 -- The answers of all jobs, with the covers, the records and the kept chains apart.
-use Rattle.std.proofs.Common.{◌≡◌, ℕ, ◌<◌, List, [], Option, Some, None, length, map, get_or, arith, sym, ◌∙◌, ap, subst}
+use Rattle.std.proofs.Common.{◌≡◌, ℕ, ◌<◌, List, Option, Some, None, length, map, get_or, arith, sym, ◌∙◌, ap, subst}
 use Rattle.std.specs.List.{slice_get}
 use Rattle.std.proofs.lemmas.List.{get_or-map, length-map}
 use Rattle.std.proofs.lemmas.Option.{slice_get_within}
 use Rattle.slh_tree.specs.Record.{KnownPath}
 use Rattle.slh_tree.specs.declared.cover.Cover.{Cover}
 use Rattle.slh_subtrees.specs.CutTrees.{CutTrees}
-use Rattle.slh_params.specs.ParamSet.{params}
-use Rattle.slh_subtrees.specs.Jobs.{IsTreeOf, signing_jobs}
+use Rattle.slh_subtrees.specs.Jobs.{signing_jobs}
 use Rattle.slh_subtrees.specs.declared.range.JobRange.{JobRange}
 use Rattle.slh_par.specs.JobAnswers.{IsAnswer, AreRangeAnswers, kept_by}
 use Rattle.slh_subtrees.specs.declared.hashed_range.HashedRange.{HashedRange}
@@ -15,17 +14,13 @@ use Rattle.slh_subtrees.specs.declared.signing_trees.SigningTrees.{SigningTrees}
 
 -- what the answers of jobs are, as contracts see them
 abbrev pub Answer : Type 0
-Answer = HashedRange × Option (ℕ × List ℕ)
+Answer = HashedRange × Option (List ℕ)
 
--- one without leaves
-pub nothing : Answer
-nothing = (record { cover = record { lo = 0; hi = 0; nodes = record { items = [] } }; path = record { height = 0; leaf = 0; nodes = [] } }, None)
-
--- each answer is right for its job, which is one of a tree of the signature
+-- each answer is right for its job
 abbrev pub AllRight : SigningTrees → CutTrees → List Answer → Type 0
 AllRight s cut xs =
     (n : ℕ) (d : Answer) → n < length xs → (job : JobRange) → slice_get (signing_jobs cut) n ≡ Some job
-    → IsAnswer s job (get_or xs n d).0.cover (get_or xs n d).0.path × ((get_or xs n d).1 ≡ kept_by s job) × IsTreeOf (params s.seeds.set) job.tree
+    → IsAnswer s job (get_or xs n d).0.cover (get_or xs n d).0.path × ((get_or xs n d).1 ≡ kept_by s job)
 
 pub answers_split :
     (s : SigningTrees) (cut : CutTrees) (xs : List Answer) (cs : List Cover) (rs : List KnownPath) →

@@ -13,7 +13,8 @@ use Rattle.slh_subtrees.specs.declared.range.JobTree.{JobTree}
 use Rattle.slh_subtrees.specs.declared.range.JobTree.TheVariants.{Xmss}
 use Rattle.slh_subtrees.specs.declared.range.JobRange.{JobRange}
 use Rattle.slh_par.specs.TopTree.{top_tree, IsTopAnswer}
-use Rattle.slh_par.proofs.Parts.{spans_tree, job_of, job_at}
+use Rattle.slh_subtrees.proofs.Numbered.{in_tree}
+use Rattle.slh_par.proofs.Parts.{spans_tree, job_at}
 
 -- they span it
 pub top_covers :
@@ -26,5 +27,5 @@ pub top_covers :
 top_covers s cut cs same ends count each =
     let tree : JobTree = Xmss ((params cut.set).d - 1) in
     let whole : 2 ^ (params cut.set).hp ≡ 2 ^ (params s.set).hp = ap (λ x. 2 ^ (params x).hp) same in
-    spans_tree (top_tree s) 0 (2 ^ (params cut.set).hp) (tree_ranges cut tree) cs ends whole (count ∙ length-map (tree_ranges cut tree) (job_of tree))
-    (λ k r c read. let own = each k (job_of tree r) c (job_at cut tree k r read) in record { lo = own.lo; hi = own.hi; cover = own.cover })
+    spans_tree (top_tree s) 0 (2 ^ (params cut.set).hp) (tree_ranges cut tree) cs ends whole (count ∙ length-map (tree_ranges cut tree) (in_tree tree))
+    (λ k r c read. let own = each k (in_tree tree r) c (job_at cut tree k r read) in record { lo = own.lo; hi = own.hi; cover = own.cover })

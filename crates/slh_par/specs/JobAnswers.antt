@@ -1,11 +1,13 @@
 -- What the jobs of a signature answer, in memory: ours.
-use Rattle.std.specs.Prelude.{◌≡◌, ℕ, List, [], ◌∷◌, if◌then◌else◌, length, Option, None, Some, slice_get, slice_index_or}
+use Rattle.std.specs.Prelude.{◌≡◌, ℕ, ◌<◌, List, [], ◌∷◌, if◌then◌else◌, length, Option, None, Some, slice_get, slice_index_or}
+use Rattle.slh_params.specs.ParamSet.{params}
 use Rattle.slh_tree.specs.Record.{KnownPath}
 use Rattle.slh_tree.specs.declared.cover.Cover.{Cover}
 use Rattle.slh_subtrees.specs.CutTrees.{CutTrees}
 use Rattle.slh_subtrees.specs.Jobs.{signing_jobs}
-use Rattle.slh_subtrees.specs.Joined.{IsHashed}
+use Rattle.slh_subtrees.specs.Gathered.{IsHashed}
 use Rattle.slh_subtrees.specs.SigningTrees.{tree_in, leaf_in, chains_in, signs_in}
+use Rattle.slh_subtrees.specs.Trees.{TreeSource, chains_of}
 use Rattle.slh_subtrees.specs.declared.range.JobTree.{JobTree}
 use Rattle.slh_subtrees.specs.declared.range.JobTree.TheVariants.{Xmss, Fors}
 use Rattle.slh_subtrees.specs.declared.range.JobRange.{JobRange}
@@ -17,13 +19,12 @@ pub record IsAnswer (s : SigningTrees) (job : JobRange) (c : Cover) (r : KnownPa
   pub hi : c.hi ≡ job.hi
   pub hashed : IsHashed (tree_in s job.tree) (leaf_in s job.tree) c r
 
--- what a job keeps: where the leaf of a key that signs is one of its range, the layer and what is kept of that key's
--- chains
-abbrev pub kept_in : SigningTrees → JobTree → ℕ → ℕ → Option (ℕ × List ℕ)
-kept_in s (Xmss l) lo hi = (if signs_in s l lo hi then Some (l, chains_in s l) else None)
+-- what a job keeps: where the leaf of a key that signs is one of its range, what is kept of that key's chains
+abbrev pub kept_in : SigningTrees → JobTree → ℕ → ℕ → Option (List ℕ)
+kept_in s (Xmss l) lo hi = (if signs_in s l lo hi then Some (chains_in s l) else None)
 kept_in s (Fors j) lo hi = None
 
-abbrev pub kept_by : SigningTrees → JobRange → Option (ℕ × List ℕ)
+abbrev pub kept_by : SigningTrees → JobRange → Option (List ℕ)
 kept_by s job = kept_in s job.tree job.lo job.hi
 
 -- the one, if there is one, as a list
@@ -36,3 +37,8 @@ pub record AreRangeAnswers (s : SigningTrees) (cut : CutTrees) (cs : List Cover)
   pub covers : length cs ≡ length (signing_jobs cut)
   pub records : length rs ≡ length (signing_jobs cut)
   pub each : (n : ℕ) (job : JobRange) (c : Cover) (r : KnownPath) → slice_get (signing_jobs cut) n ≡ Some job → IsAnswer s job (slice_index_or cs n c) (slice_index_or rs n r)
+
+-- what is kept of the chains of the key that signs on each layer, from 0 on
+pub record AreChains (s : TreeSource) (xs : List (List ℕ)) : Type 0 where
+  pub len : length xs ≡ (params s.set).d
+  pub each : (l : ℕ) (x : List ℕ) → l < (params s.set).d → slice_index_or xs l x ≡ chains_of s l

@@ -1,5 +1,4 @@
 pub mod JobAnswers
-pub mod JoinedTrees
 pub mod TopTree
 pub mod ParFault
 pub mod Verdicts

@@ -10,7 +10,6 @@ ghost use Rattle.slh_core.specs.Signatures.{signature_by, IsValid};
 ghost use Rattle.slh_par.specs.declared.fault.ParFault.TheVariants.{Stopped};
 
 use crate::fault::ParFault;
-use crate::parallel::Parallel;
 use crate::signing::sign_parts_par;
 use slh_core::{Form, FormattedMessage, MessageDigest, PreHash, Randomizer, SecretKey};
 use slh_subtrees::Cutting;
@@ -51,14 +50,10 @@ pub fn sign_form_par<R: Threads + Sync, A: Allocator + Clone + Send + Sync, G: G
     let Some(message) = form.message(msg, ctx) else {
         return Err(ParFault::ContextTooLong);
     };
-    let parallel = Parallel {
-        rt,
-        alloc,
-        workers,
-        cutting,
-        gate,
-    };
-    sign_parts_par(parallel, &message.parts(), sk, randomizer, out)?;
+    let parts = message.parts();
+    sign_parts_par(
+        rt, alloc, &parts, sk, randomizer, workers, cutting, gate, out,
+    )?;
     Ok(())
 }
 
@@ -157,13 +152,9 @@ pub fn hash_sign_digest_par<R: Threads + Sync, A: Allocator + Clone + Send + Syn
     let Some(message) = FormattedMessage::of_digest(digest, ctx) else {
         return Err(ParFault::ContextTooLong);
     };
-    let parallel = Parallel {
-        rt,
-        alloc,
-        workers,
-        cutting,
-        gate,
-    };
-    sign_parts_par(parallel, &message.parts(), sk, randomizer, out)?;
+    let parts = message.parts();
+    sign_parts_par(
+        rt, alloc, &parts, sk, randomizer, workers, cutting, gate, out,
+    )?;
     Ok(())
 }

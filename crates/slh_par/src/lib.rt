@@ -8,17 +8,16 @@
 //! end, in this thread: a call that is refused writes none.
 #![tactic(auto)]
 
+mod answered_trees;
 mod fault;
 mod forms;
 mod generation;
-mod joined_trees;
 mod joins;
 mod kept_chains;
-mod parallel;
 mod ranges;
 mod signing;
+mod splitting;
 mod top_tree;
-mod trees_of_ranges;
 mod verify_item;
 mod verifying;
 

@@ -1,98 +1,75 @@
 //! Signing by several threads.
 ghost use Rattle.std.specs.Prelude.{◌≡◌, ◌≤◌, ◌++◌, length, OnOk, OnErr, IfErr};
-ghost use Rattle.slh_params.specs.Params.{m, sig_len};
+ghost use Rattle.slh_params.specs.Params.{sig_len};
 ghost use Rattle.slh_params.specs.ParamSet.{params};
 ghost use Rattle.slh_hash.specs.Keyed.{joined};
 ghost use Rattle.slh_core.specs.Keys.{public_of, IsGeneratedKey};
 ghost use Rattle.slh_core.specs.Randomizers.{HasLength};
-ghost use Rattle.slh_core.specs.Signatures.{signature_of_digest, signature_by, IsValid};
+ghost use Rattle.slh_core.specs.Signatures.{signature_by, IsValid};
 ghost use Rattle.slh_subtrees.specs.Assembled.{answers_of, sig_fors_by, sig_ht_by};
 ghost use Rattle.slh_subtrees.specs.SigningTrees.{source_of};
 ghost use Rattle.slh_workers.specs.declared.fault.RunFault.TheVariants.{Stopped};
 
-use crate::joined_trees::JoinedTrees;
-use crate::joins::join_trees;
-use crate::parallel::Parallel;
+use crate::answered_trees::AnsweredTrees;
+use crate::joins::answer_trees;
 use slh_core::signing_steps::{MOST_DIGEST_LEN, fors_sig_len, randomized_digest};
 use slh_core::{Randomizer, SecretKey, cut_digest};
 use slh_few::Seeds;
 use slh_params::Node;
-use slh_subtrees::{SigningTrees, put_fors, put_layers};
-use slh_workers::{Gate, RunFault};
+use slh_subtrees::{Cutting, SigningTrees, put_fors, put_layers};
+use slh_workers::{Gate, RunFault, Workers};
 use std::alloc::Allocator;
 use std::thread::Threads;
 
 /// Writes a signature: R, the FORS signature, and the hypertree signature of the FORS public key (Algorithm 19).
-fn put_signature<A: Allocator>(r: &Node, joined: &JoinedTrees<'_, '_, A>, out: &mut [u8])
-    requires r { length r.now.items ≡ (params joined.now.trees.now.seeds.set).n }
-    requires out { length out.old ≡ sig_len (params joined.now.trees.now.seeds.set) }
-    ensures { let s = source_of joined.now.trees.now in
+fn put_signature<A: Allocator>(r: &Node, answered: &AnsweredTrees<'_, '_, A>, out: &mut [u8])
+    requires r { length r.now.items ≡ (params answered.now.trees.now.seeds.set).n }
+    requires out { length out.old ≡ sig_len (params answered.now.trees.now.seeds.set) }
+    ensures { let s = source_of answered.now.trees.now in
         out.new ≡ r.now.items ++ (sig_fors_by s (answers_of s) ++ sig_ht_by s (answers_of s)) }
 {
-    let trees = joined.trees;
+    let trees = answered.trees;
     let set = trees.seeds.set;
     let (front, rest) = out.split_at_mut(set.n());
     front.copy_from_slice(r.as_slice());
     let (sig_fors, sig_ht) = rest.split_at_mut(fors_sig_len(set));
-    let pk_fors = put_fors(trees, joined, sig_fors);
-    put_layers(trees, joined, &pk_fors, sig_ht);
+    let pk_fors = put_fors(trees, answered, sig_fors);
+    put_layers(trees, answered, &pk_fors, sig_ht);
 }
 
-/// Writes R and what follows it in the signature of a digest (FIPS 205, Algorithm 19, from line 6 on). The trees are
-/// made by workers that share the ranges of the cutting; the bytes are written last, so that a refusal writes none.
-fn sign_digest_par<R: Threads + Sync, A: Allocator + Clone + Send + Sync, G: Gate>(
-    parallel: Parallel<'_, R, A, G>,
-    r: &Node,
-    digest: &[u8],
+/// Writes the signature of the parts put end to end, `sig_len` bytes (Algorithm 19), by workers that share the ranges of
+/// the cutting. The bytes are written last, so that a refusal writes none.
+pub(crate) fn sign_parts_par<R: Threads + Sync, A: Allocator + Clone + Send + Sync, G: Gate>(
+    rt: &R,
+    alloc: A,
+    parts: &[&[u8]],
     sk: &SecretKey,
+    randomizer: Randomizer,
+    workers: Workers,
+    cutting: &Cutting,
+    gate: &G,
     out: &mut [u8],
 ) -> Result<(), RunFault>
-    requires r { length r.now.items ≡ (params sk.now.set).n }
-    requires digest { length digest.now ≡ m (params sk.now.set) }
-    requires cutting { parallel.cutting.now.set ≡ sk.now.set }
+    requires randomizer { HasLength randomizer (params sk.now.set).n }
+    requires cutting { cutting.now.set ≡ sk.now.set }
     requires out { length out.old ≡ sig_len (params sk.now.set) }
-    ensures signature { OnOk result (out.new ≡ r.now.items ++ signature_of_digest sk.now digest.now) }
+    ensures signature { OnOk result (out.new ≡ signature_by sk.now (joined parts.now) randomizer.entry) }
+    ensures authentic { OnOk result (IsGeneratedKey sk.now → IsValid (public_of sk.now) (joined parts.now) out.new) }
     ensures refused { OnErr result (out.new ≡ out.old) }
-    ensures stopped { IfErr result (λ fault. fault ≡ Stopped → G.may_stop parallel.entry.gate.now) }
+    ensures stopped { IfErr result (λ fault. fault ≡ Stopped → G.may_stop gate.now) }
 {
-    let Parallel {
-        rt,
-        alloc,
-        workers,
-        cutting,
-        gate,
-    } = parallel;
     let set = sk.set();
+    let mut buffer = [0; MOST_DIGEST_LEN];
+    let digest = &mut buffer[..set.m()];
+    let r = randomized_digest(parts, sk, randomizer, digest);
+    let cut = cut_digest(set, digest);
     let seeds = Seeds {
         set,
         sk_seed: sk.sk_seed(),
         pk_seed: sk.pk_seed(),
     };
-    let cut = cut_digest(set, digest);
     let trees = SigningTrees::new(&seeds, cut.idx_tree, cut.idx_leaf, &digest[..set.md_len()]);
-    let joined = join_trees(rt, alloc, &trees, workers, cutting, gate)?;
-    put_signature(r, &joined, out);
+    let answered = answer_trees(rt, alloc, &trees, workers, cutting, gate)?;
+    put_signature(&r, &answered, out);
     Ok(())
-}
-
-/// Writes the signature of the parts put end to end, `sig_len` bytes (Algorithm 19), by several workers.
-pub(crate) fn sign_parts_par<R: Threads + Sync, A: Allocator + Clone + Send + Sync, G: Gate>(
-    parallel: Parallel<'_, R, A, G>,
-    parts: &[&[u8]],
-    sk: &SecretKey,
-    randomizer: Randomizer,
-    out: &mut [u8],
-) -> Result<(), RunFault>
-    requires randomizer { HasLength randomizer (params sk.now.set).n }
-    requires cutting { parallel.cutting.now.set ≡ sk.now.set }
-    requires out { length out.old ≡ sig_len (params sk.now.set) }
-    ensures signature { OnOk result (out.new ≡ signature_by sk.now (joined parts.now) randomizer.entry) }
-    ensures authentic { OnOk result (IsGeneratedKey sk.now → IsValid (public_of sk.now) (joined parts.now) out.new) }
-    ensures refused { OnErr result (out.new ≡ out.old) }
-    ensures stopped { IfErr result (λ fault. fault ≡ Stopped → G.may_stop parallel.entry.gate.now) }
-{
-    let mut buffer = [0; MOST_DIGEST_LEN];
-    let digest = &mut buffer[..sk.set().m()];
-    let r = randomized_digest(parts, sk, randomizer, digest);
-    sign_digest_par(parallel, &r, digest, sk, out)
 }

@@ -10,7 +10,7 @@ ghost use Rattle.slh_par.specs.TopTree.{top_tree, IsTopAnswer};
 
 use slh_few::{Seeds, XmssTree, xmss_range};
 use slh_params::Node;
-use slh_subtrees::{Cutting, keygen_job, keygen_jobs};
+use slh_subtrees::{Cutting, keygen_job, keygen_jobs, top_layer};
 use slh_tree::{Cover, PathRec, gather};
 use slh_workers::{NoMemory, Work};
 
@@ -52,8 +52,7 @@ fn top_range(seeds: &Seeds<'_>, lo: u32, hi: u32) -> Cover
 {
     // No leaf's path is needed.
     let mut path = PathRec::for_leaf(seeds.set.hp(), 0);
-    let top = seeds.set.d() as u8 - 1;
-    xmss_range(seeds, top, 0, lo, hi, &mut path)
+    xmss_range(seeds, top_layer(seeds.set), 0, lo, hi, &mut path)
 }
 
 /// The root of the tree, from the covers of its ranges.
@@ -69,6 +68,9 @@ pub(crate) fn gathered_top(seeds: &Seeds<'_>, cutting: &Cutting, covers: &[Cover
     // For the prover: the ranges lie end to end.
     let _ranges = cutting.xmss_ranges();
     let mut path = PathRec::for_leaf(seeds.set.hp(), 0);
-    let top = seeds.set.d() as u8 - 1;
-    gather(&XmssTree::new(seeds, top, 0), covers, &mut path)
+    gather(
+        &XmssTree::new(seeds, top_layer(seeds.set), 0),
+        covers,
+        &mut path,
+    )
 }

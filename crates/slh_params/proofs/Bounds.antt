@@ -6,7 +6,7 @@ use native.Mathlib.Numerals.{unary_clauses}
 use Rattle.slh_params.specs.declared.param_set.ParamSet.{ParamSet}
 use Rattle.slh_params.specs.ParamSet.{params}
 use Rattle.slh_params.specs.Params.{Params, h, m, w, md_len, tree_len, leaf_len, len, len1, len2, sig_len}
-use Rattle.slh_params.specs.Valid.{IsValid, n_fits, lg_w_fits, hp_fits, d_fits, a_fits}
+use Rattle.slh_params.specs.Valid.{IsValidRecord, n_fits, lg_w_fits, hp_fits, d_fits, a_fits}
 
 -- what the parts of a test say
 and_left : (b c : Bool) → IsTrue (b && c) → IsTrue b
@@ -24,7 +24,7 @@ one_of : (x a b c : ℕ) → IsTrue (x == a || x == b || x == c) → (x ≡ a) �
 one_of x a b c h = grind (arith, h)
 
 -- the record of a set is valid
-pub valid : (s : ParamSet) → IsValid (params s)
+pub valid : (s : ParamSet) → IsValidRecord (params s)
 unfolding params
 valid s = s.valid
 

@@ -7,7 +7,7 @@ use Rattle.std.proofs.lemmas.List.{take_all, length-drop}
 use Rattle.std.specs.Cmp.Lexicographic.{pointwise}
 use Rattle.slh_params.specs.declared.param_set.ParamSet.{ParamSet}
 use Rattle.slh_params.specs.ParamSet.{is_standard, is, name, params, IsStandard}
-use Rattle.slh_params.specs.Valid.{IsValid}
+use Rattle.slh_params.specs.Valid.{IsValidRecord}
 use Rattle.slh_params.specs.declared.param_set.custom.RecordFault.{RecordFault}
 use Rattle.slh_params.proofs.Bounds.{valid}
 use Rattle.slh_params.proofs.Same.{params_same}
@@ -83,7 +83,7 @@ pub at_front : (text rest : List ℕ) (separator m : ℕ) → m < 100 → get_or
 at_front text rest separator m small ends e = (small, ends, (separator, e))
 
 -- the set of the numbers that were read
-pub same_set : (r : Result ParamSet RecordFault) (set : ParamSet) (p : Params) → p ≡ params set → IfOk r (λ made. params made ≡ p) → (IsOk r ↔ IsValid p)
+pub same_set : (r : Result ParamSet RecordFault) (set : ParamSet) (p : Params) → p ≡ params set → IfOk r (λ made. params made ≡ p) → (IsOk r ↔ IsValidRecord p)
     → result_ok r ≡ Some set
 same_set (Ok made) set p e h v = ap Some (params_same made set (h ∙ e))
 same_set (Err fault) set p e h v = absurd (let f : false ≡ true = v.1 (rw e (valid set)) in cc)

@@ -3,19 +3,19 @@ use Rattle.std.proofs.Common.{◌≡◌, ℕ, Bool, true, false, ◌&&◌, ◌==
 use Rattle.std.proofs.Math.Path.{subst}
 use Rattle.std.proofs.Math.Bool.{Bool-set}
 use Rattle.slh_params.specs.Params.{Params, numbers}
-use Rattle.slh_params.specs.Valid.{IsValid}
+use Rattle.slh_params.specs.Valid.{IsValidRecord}
 use Rattle.slh_params.specs.declared.param_set.ParamSet.{ParamSet}
 use Rattle.slh_params.specs.ParamSet.{is, params}
 
 -- the set of six numbers
-abbrev set_of : (n lg_w hp d a k : ℕ) → IsValid (numbers n lg_w hp d a k) → ParamSet
+abbrev set_of : (n lg_w hp d a k : ℕ) → IsValidRecord (numbers n lg_w hp d a k) → ParamSet
 set_of n lg_w hp d a k v = record { n = n; lg_w = lg_w; hp = hp; d = d; a = a; k = k; valid = v }
 
 same_numbers : (s t : ParamSet) → s.n ≡ t.n → s.lg_w ≡ t.lg_w → s.hp ≡ t.hp → s.d ≡ t.d → s.a ≡ t.a → s.k ≡ t.k → s ≡ t
 same_numbers s t en el eh ed ea ek = step6 t.valid
   where
     Same : ℕ → ℕ → ℕ → ℕ → ℕ → ℕ → Type 0
-    Same n l h d a k = (v : IsValid (numbers n l h d a k)) → set_of s.n s.lg_w s.hp s.d s.a s.k s.valid ≡ set_of n l h d a k v
+    Same n l h d a k = (v : IsValidRecord (numbers n l h d a k)) → set_of s.n s.lg_w s.hp s.d s.a s.k s.valid ≡ set_of n l h d a k v
 
     step0 : Same s.n s.lg_w s.hp s.d s.a s.k
     step0 v = ap (set_of s.n s.lg_w s.hp s.d s.a s.k) (Bool-set _ _ s.valid v)

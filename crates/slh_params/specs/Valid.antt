@@ -26,8 +26,8 @@ k_fits p = nat_le 1 p.k && nat_le p.k 64
 abbrev pub is_valid : Params → Bool
 is_valid p = n_fits p && lg_w_fits p && hp_fits p && d_fits p && a_fits p && k_fits p
 
-abbrev pub IsValid : Params → Type 0
-IsValid p = IsTrue (is_valid p)
+abbrev pub IsValidRecord : Params → Type 0
+IsValidRecord p = IsTrue (is_valid p)
 
 -- the name of the first member that is invalid
 unfoldable pub first_bad : Params → Option (List ℕ)

@@ -1,6 +1,6 @@
 //! Parameter sets (FIPS 205, section 11): the six of the standard, and free ones.
 ghost use Rattle.std.proofs.Props.{props};
-ghost use Rattle.slh_params.specs.Valid.{IsValid};
+ghost use Rattle.slh_params.specs.Valid.{IsValidRecord};
 
 mod custom;
 mod label;
@@ -21,7 +21,7 @@ pub struct ParamSet {
     d: u32,
     a: u32,
     k: u32,
-    ghost valid: { IsValid (record { n = n; lg_w = lg_w; hp = hp; d = d; a = a; k = k }) } by { Prim.hlevel props },
+    ghost valid: { IsValidRecord (record { n = n; lg_w = lg_w; hp = hp; d = d; a = a; k = k }) } by { Prim.hlevel props },
 }
 
 impl ParamSet {

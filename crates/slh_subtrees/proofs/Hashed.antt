@@ -4,7 +4,7 @@ use Rattle.slh_tree.specs.Tree.{MerkleTree}
 use Rattle.slh_tree.specs.Cover.{IsCover}
 use Rattle.slh_tree.specs.declared.cover.Cover.{Cover}
 use Rattle.slh_tree.specs.Record.{KnownPath, known, Gains, LiesInRange}
-use Rattle.slh_subtrees.specs.Joined.{IsHashed}
+use Rattle.slh_subtrees.specs.Gathered.{IsHashed}
 
 pub hashed_range :
     (t : MerkleTree) (idx lo hi : ℕ) (c : Cover) (old new : KnownPath) →

@@ -6,7 +6,7 @@ use Rattle.slh_tree.specs.declared.cover.Cover.{Cover}
 use Rattle.slh_tree.specs.Tree.{MerkleTree, sibling}
 use Rattle.slh_tree.specs.Record.{KnownPath, known, LiesInRange, LiesInOne}
 use Rattle.slh_tree.proofs.CoverByCover.{lies_in_or_not}
-use Rattle.slh_subtrees.specs.Joined.{IsHashed}
+use Rattle.slh_subtrees.specs.Gathered.{IsHashed}
 
 -- what is known after the records of the first m ranges
 pub record Merged (t : MerkleTree) (idx : ℕ) (cs : List Cover) (m : ℕ) (r : KnownPath) : Type 0 where

@@ -5,5 +5,5 @@ pub mod Jobs
 pub mod CuttingFields
 pub mod Trees
 pub mod SigningTrees
-pub mod Joined
+pub mod Gathered
 pub mod Assembled

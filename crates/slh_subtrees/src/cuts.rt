@@ -20,7 +20,7 @@ pub enum Cuts<'a> {
 const MOST_POINTS: usize = 255;
 
 /// The most levels that a tree is cut by.
-const MOST_LEVELS: u32 = 8;
+pub const MOST_LEVELS: u32 = 8;
 
 /// The points at which trees are cut: the first leaf of each range but the first.
 pub(crate) type CutPoints = ArrayVec<u32, MOST_POINTS>;

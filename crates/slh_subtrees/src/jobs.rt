@@ -6,6 +6,7 @@ ghost use Rattle.slh_subtrees.specs.declared.jobs.TheConstants.{MOST_JOBS_OF_A_K
 
 use crate::cutting::Cutting;
 use crate::range::{JobRange, JobTree};
+use slh_params::ParamSet;
 
 /// At least the jobs of all trees of one kind in any set: 65 trees of 256 ranges.
 pub const MOST_JOBS_OF_A_KIND: u32 = 65 * 256;
@@ -49,6 +50,13 @@ pub fn job(cutting: &Cutting, number: u32) -> JobRange
     }
 }
 
+/// The top layer, whose tree's root is in the public key.
+pub fn top_layer(set: ParamSet) -> u8
+    ensures { result ≡ (params set).d - 1 }
+{
+    set.d() as u8 - 1
+}
+
 /// The key generation job of this number: that range of the XMSS tree of the top layer. The signing job of the same
 /// number has the same leaves of the tree of layer 0.
 pub fn keygen_job(cutting: &Cutting, number: u32) -> JobRange
@@ -60,8 +68,7 @@ pub fn keygen_job(cutting: &Cutting, number: u32) -> JobRange
     ensures some { result.lo < result.hi }
     ensures within { result.hi ≤ 2 ^ (params cutting.now.set).hp }
 {
-    let top = cutting.set().d() - 1;
-    cutting.job_in(JobTree::Xmss(top as u8), number)
+    cutting.job_in(JobTree::Xmss(top_layer(cutting.set())), number)
 }
 
 /// The ranges of this many trees, each of which is cut into `ranges`.

@@ -15,18 +15,20 @@ mod answers;
 mod cuts;
 mod cutting;
 mod fault;
+mod gathered_tree;
 mod hashed_range;
 mod jobs;
-mod joining;
 mod range;
 mod signing_trees;
 
 pub use answers::{Answers, put_fors, put_layers};
-pub use cuts::{Cuts, levels_cut_evenly};
+pub use cuts::{Cuts, MOST_LEVELS, levels_cut_evenly};
 pub use cutting::Cutting;
 pub use fault::{CutFault, CutTree};
+pub use gathered_tree::GatheredTree;
 pub use hashed_range::HashedRange;
-pub use jobs::{MOST_JOBS_OF_A_KIND, job, keygen_job, keygen_jobs, ranges_of, sign_jobs};
-pub use joining::JoinedTree;
+pub use jobs::{
+    MOST_JOBS_OF_A_KIND, job, keygen_job, keygen_jobs, ranges_of, sign_jobs, top_layer,
+};
 pub use range::{JobRange, JobTree};
 pub use signing_trees::SigningTrees;

@@ -6,8 +6,8 @@ ghost use Rattle.slh_few.specs.Fors.{fors_index};
 ghost use Rattle.slh_few.specs.Hypertree.{layer_place};
 ghost use Rattle.slh_few.specs.declared.place.Place.{Place};
 
+use crate::gathered_tree::{GatheredTree, gathered};
 use crate::hashed_range::HashedRange;
-use crate::joining::{JoinedTree, joined};
 use crate::range::JobTree;
 use slh_few::{
     ForsTree, MOST_LAYERS, MOST_TREES, Place, Public, Seeds, XmssTree, fors_indices, fors_node,
@@ -43,7 +43,7 @@ impl<'a> SigningTrees<'a> {
     ghost use Rattle.slh_tree.specs.declared.cover.Placed.{Placed};
     ghost use Rattle.slh_few.specs.KeptChains.{kept_chains_len};
     ghost use Rattle.slh_subtrees.specs.Jobs.{IsTreeOf, height_of};
-    ghost use Rattle.slh_subtrees.specs.Joined.{IsHashed, AreHashed, IsJoined};
+    ghost use Rattle.slh_subtrees.specs.Gathered.{IsHashed, AreHashed, IsGathered};
     ghost use Rattle.slh_subtrees.specs.SigningTrees.{source_of, tree_in, leaf_in, chains_in, signs_in};
     ghost use Rattle.slh_subtrees.specs.Trees.{secret_of};
 
@@ -194,22 +194,22 @@ impl<'a> SigningTrees<'a> {
     }
 
     /// The root of the tree and the path of its leaf, from the covers and the records of all its ranges.
-    pub fn joined(&self, tree: JobTree, covers: &[Cover], records: &[PathRec]) -> JoinedTree
+    pub fn gathered(&self, tree: JobTree, covers: &[Cover], records: &[PathRec]) -> GatheredTree
         requires tree { IsTreeOf (params self.now.seeds.set) tree }
         requires hashed { let t = self.now in
             AreHashed (tree_in t tree) (leaf_in t tree) covers.now records.now }
-        ensures { IsJoined (tree_in self.now tree) (leaf_in self.now tree) result }
+        ensures { IsGathered (tree_in self.now tree) (leaf_in self.now tree) result }
     {
         let seeds = &self.seeds;
         match tree {
             JobTree::Xmss(layer) => {
                 let at = self.layer_place(layer);
                 let xmss = XmssTree::new(seeds, layer, at.tree);
-                joined(&xmss, at.pair, covers, records)
+                gathered(&xmss, at.pair, covers, records)
             }
             JobTree::Fors(number) => {
                 let fors = ForsTree::new(seeds, self.idx_tree, self.idx_leaf, number);
-                joined(&fors, self.fors_index(number), covers, records)
+                gathered(&fors, self.fors_index(number), covers, records)
             }
         }
     }

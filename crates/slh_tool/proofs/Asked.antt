@@ -11,7 +11,7 @@ use Rattle.clap.specs.Simple.{App, Shape, built, entered, label_of, names_of, ro
 use Rattle.clap.specs.Takes.{is_given}
 use Rattle.clap.specs.Walk.{Row, Rule, answers_to, nothing_held, rows_after, stop_after, walk, walk_from}
 use Rattle.clap.specs.Words.{Text, fault_of, first_of, subcommand_of}
-use Rattle.slh_arguments.specs.Command.{slh_app}
+use Rattle.slh_tool.specs.Arguments.{slh_app}
 use Rattle.slh_tool.specs.Requests.{asked_by, asked_in}
 use Rattle.slh_tool.proofs.Rows.{IsNoHelp, all_fill, fills, given_first, or_nil, passed, walk-no_help}
 

@@ -4,8 +4,8 @@ use Rattle.clap.specs.Words.{Text}
 use Rattle.slh_core.specs.Keys.{Key}
 use Rattle.slh_subtrees.specs.CutTrees.{CutTrees}
 use Rattle.slh_io.specs.Devices.{SourceState}
-use Rattle.slh_files.specs.KeyFile.{key_text}
-use Rattle.slh_files.specs.declared.key_kind.KeyKind.TheVariants.{Secret}
+use Rattle.slh_key_files.specs.KeyFile.{key_text}
+use Rattle.slh_key_files.specs.declared.key_kind.KeyKind.TheVariants.{Secret}
 use Rattle.slh_params.specs.Label.{set_of_label}
 use Rattle.slh_params.specs.declared.param_set.ParamSet.{ParamSet}
 use Rattle.slh_tool.specs.Cuts.{IsCutting}

@@ -9,11 +9,11 @@ use Rattle.slh_params.specs.Params.{sig_len}
 use Rattle.slh_params.specs.ParamSet.{params}
 use Rattle.slh_io.specs.Devices.{EndsBy, FilesState, Grew, HasPart}
 use Rattle.std.proofs.lemmas.Bool.Decides.{Decides-eqb, not_from_Decides}
-use Rattle.slh_files.specs.KeyFile.{AreReadAlike, any_key_file, key_file, or_secret}
-use Rattle.slh_files.specs.declared.fault.FileFault.{FileFault}
-use Rattle.slh_files.specs.declared.key_file.AnyKey.{AnyKey}
-use Rattle.slh_files.specs.declared.key_kind.KeyKind.{KeyKind}
-use Rattle.slh_files.specs.declared.key_kind.KeyKind.TheVariants.{Public, Secret}
+use Rattle.slh_key_files.specs.KeyFile.{AreReadAlike, any_key_file, key_file, or_secret}
+use Rattle.slh_key_files.specs.declared.fault.FileFault.{FileFault}
+use Rattle.slh_key_files.specs.declared.key_file.AnyKey.{AnyKey}
+use Rattle.slh_key_files.specs.declared.key_kind.KeyKind.{KeyKind}
+use Rattle.slh_key_files.specs.declared.key_kind.KeyKind.TheVariants.{Public, Secret}
 use Rattle.slh_tool.specs.Faults.{of_file}
 use Rattle.slh_tool.specs.Keys.{HoldsAnyKey, HoldsKey, RefusesAnyKey, RefusesKey}
 use Rattle.slh_tool.specs.Reading.{IsFile, IsFrontOfFile, IsFrontOfKeyFile, IsLater, file_limit}

@@ -3,7 +3,7 @@ use Rattle.std.proofs.Common.{◌≡◌, ◌⊎◌, ◌<◌, ◌≤◌, Bool, le
 use Rattle.clap.specs.Words.{Text}
 use Rattle.slh_core.specs.Keys.{Key}
 use Rattle.slh_io.specs.Devices.{FilesState, SourceState}
-use Rattle.slh_files.specs.declared.key_kind.KeyKind.TheVariants.{Public, Secret}
+use Rattle.slh_key_files.specs.declared.key_kind.KeyKind.TheVariants.{Public, Secret}
 use Rattle.slh_params.specs.declared.param_set.ParamSet.{ParamSet}
 use Rattle.slh_params.specs.Label.{set_of_label}
 use Rattle.slh_params.specs.Params.{sig_len}

@@ -11,7 +11,7 @@ use Rattle.clap.specs.declared.error.ErrorKind.{ErrorKind}
 use Rattle.clap.specs.declared.error.ErrorKind.TheVariants.{DisplayHelp, OutOfMemory}
 use Rattle.std.proofs.KnownBytes.{Consumes-nil}
 use Rattle.slh_io.specs.Devices.{TakesAtMost}
-use Rattle.slh_arguments.specs.Command.{slh_app}
+use Rattle.slh_tool.specs.Arguments.{slh_app}
 
 -- the program's command is one whose parse `clap` states
 pub slh_app_simple : is_simple slh_app ≡ true

@@ -1,8 +1,8 @@
 -- The refusals of the program.
 use Rattle.std.specs.Prelude.{ℕ, List, [], ◌++◌, codes}
 use Rattle.std.specs.Fmt.{decimal}
-use Rattle.slh_files.specs.declared.fault.FileFault.{FileFault}
-use Rattle.slh_files.specs.declared.fault.FileFault.TheVariants as file
+use Rattle.slh_key_files.specs.declared.fault.FileFault.{FileFault}
+use Rattle.slh_key_files.specs.declared.fault.FileFault.TheVariants as file
 use Rattle.slh_vectors.specs.Reading.{member_name}
 use Rattle.slh_vectors.specs.declared.fault.Member.{Member}
 use Rattle.slh_vectors.specs.declared.fault.VectorFault.{VectorFault}

@@ -3,10 +3,10 @@ use Rattle.std.specs.Prelude.{◌≡◌, ◌⊎◌, ⊤, ℕ, List, take, drop, 
 use Rattle.clap.specs.Words.{Text}
 use Rattle.slh_core.specs.Keys.{Key, generated_key}
 use Rattle.slh_io.specs.Devices.{FilesState, SourceState}
-use Rattle.slh_files.specs.KeyFile.{any_key_file, key_file}
-use Rattle.slh_files.specs.declared.fault.FileFault.{FileFault}
-use Rattle.slh_files.specs.declared.key_file.AnyKey.{AnyKey}
-use Rattle.slh_files.specs.declared.key_kind.KeyKind.{KeyKind}
+use Rattle.slh_key_files.specs.KeyFile.{any_key_file, key_file}
+use Rattle.slh_key_files.specs.declared.fault.FileFault.{FileFault}
+use Rattle.slh_key_files.specs.declared.key_file.AnyKey.{AnyKey}
+use Rattle.slh_key_files.specs.declared.key_kind.KeyKind.{KeyKind}
 use Rattle.slh_params.specs.Label.{set_of_label}
 use Rattle.slh_params.specs.ParamSet.{params}
 use Rattle.slh_params.specs.declared.param_set.ParamSet.{ParamSet}

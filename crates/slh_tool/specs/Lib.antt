@@ -1,5 +1,6 @@
 pub mod Faults
 pub mod Sets
+pub mod Arguments
 pub mod Requests
 pub mod Reading
 pub mod Seeds

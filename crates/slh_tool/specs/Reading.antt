@@ -3,8 +3,8 @@ use Rattle.std.specs.Prelude.{◌≡◌, ⊤, ℕ, ◌+◌, ◌<◌, ◌≤◌, 
 use Rattle.slh_core.specs.PreHash.{Digest, PH}
 use Rattle.slh_core.specs.declared.pre_hash.PreHash.{PreHash}
 use Rattle.slh_io.specs.Devices.{FilesState, Grew}
-use Rattle.slh_files.specs.KeyFile.{IsKeyFront, key_file}
-use Rattle.slh_files.specs.declared.key_kind.KeyKind.{KeyKind}
+use Rattle.slh_key_files.specs.KeyFile.{IsKeyFront, key_file}
+use Rattle.slh_key_files.specs.declared.key_kind.KeyKind.{KeyKind}
 use Rattle.slh_tool.specs.declared.fault.Fault.{Fault}
 use Rattle.slh_tool.specs.declared.fault.Fault.TheVariants.{FileTooLong, NoMemory, ReadFailed}
 

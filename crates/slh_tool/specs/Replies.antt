@@ -9,9 +9,9 @@ use Rattle.slh_core.specs.declared.form.Form.{Form}
 use Rattle.slh_core.specs.declared.form.Form.TheVariants.{Pure}
 use Rattle.slh_subtrees.specs.CutTrees.{CutTrees}
 use Rattle.slh_io.specs.Devices.{FilesState, SourceState}
-use Rattle.slh_files.specs.KeyFile.{key_text, upgraded}
-use Rattle.slh_files.specs.Lines.{line}
-use Rattle.slh_files.specs.declared.key_kind.KeyKind.TheVariants.{Public, Secret}
+use Rattle.slh_key_files.specs.KeyFile.{key_text, upgraded}
+use Rattle.slh_key_files.specs.Lines.{line}
+use Rattle.slh_key_files.specs.declared.key_kind.KeyKind.TheVariants.{Public, Secret}
 use Rattle.slh_params.specs.Label.{set_of_label}
 use Rattle.slh_params.specs.ParamSet.{sets}
 use Rattle.slh_params.specs.declared.param_set.ParamSet.{ParamSet}
@@ -19,7 +19,7 @@ use Rattle.slh_tool.specs.Cuts.{HasCutting, IsCutting, RefusesCutting}
 use Rattle.slh_tool.specs.Keys.{HoldsKey, IsGeneratedFrom, RefusesAnyKey, RefusesKey, RefusesSeedsOf}
 use Rattle.slh_tool.specs.Options.{HasForm, RefusesForm, random_of, signature_of}
 use Rattle.slh_tool.specs.Reading.{IsFile, RefusesFile}
-use Rattle.slh_arguments.specs.Command.{slh_app}
+use Rattle.slh_tool.specs.Arguments.{slh_app}
 use Rattle.slh_tool.specs.Requests.{Asked, KeygenOptions, SignOptions, VerifyOptions, asked_by}
 use Rattle.slh_tool.specs.Requests as requests
 use Rattle.slh_tool.specs.Seeds.{RefusesSeeds, seeds_limit}

@@ -7,7 +7,7 @@ use Rattle.clap.specs.Walk.{byte_or_zero}
 use Rattle.clap.specs.Words.{Row, Text, fault_of, first_of, one_of, subcommand_of}
 use Rattle.clap.specs.declared.error.ErrorKind.{ErrorKind}
 use Rattle.clap.specs.declared.error.ErrorKind.TheVariants.{DisplayHelp}
-use Rattle.slh_arguments.specs.Command.{slh_app}
+use Rattle.slh_tool.specs.Arguments.{slh_app}
 use Rattle.slh_tool.specs.declared.request.CutWords.{CutWords}
 use Rattle.slh_tool.specs.declared.request.FormWords.{FormWords}
 use Rattle.slh_tool.specs.declared.request.KeygenWords.{KeygenWords}

@@ -26,3 +26,9 @@ Refuses words before after old new fault = ((a : Asked) × Asks words a × IsRef
 abbrev pub IsTold : SinkState → SinkState → Text → Type 0
 IsTold old new text = (Appends old.contents new.contents text × (new.failures ≡ old.failures))
     ⊎ (LetsThrough old.contents new.contents text × Grew old.failures new.failures)
+
+-- a write of an answer failed, after a prefix of its text was written
+abbrev pub BreaksOff : SinkState → SinkState → (ℕ → Text → Type 0) → Type 0
+BreaksOff old new IsAnswer =
+    Grew old.failures new.failures
+    × ((status : ℕ) × ((text : Text) × IsAnswer status text × LetsThrough old.contents new.contents text))

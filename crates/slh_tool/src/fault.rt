@@ -2,7 +2,7 @@ ghost use Rattle.std.specs.Prelude.{◌≡◌};
 ghost use Rattle.slh_tool.specs.Faults.{head, name, number, of_file, of_vectors};
 ghost use Rattle.slh_tool.specs.declared.fault.Fault.TheVariants.{NoMemory};
 
-use slh_files::FileFault;
+use slh_key_files::FileFault;
 use slh_vectors::{Member, VectorFault};
 use std::alloc::AllocError;
 use thiserror::Error;

@@ -1,7 +1,7 @@
 ghost use Rattle.std.specs.Prelude.{◌≡◌, IfOk, IfErr, OnOk, string_bytes};
-ghost use Rattle.slh_files.specs.declared.key_kind.KeyKind.TheVariants.{Public, Secret};
-ghost use Rattle.slh_files.specs.KeyFile.{any_key_text};
-ghost use Rattle.slh_files.specs.declared.fault.FileFault.TheVariants.{NoMemory};
+ghost use Rattle.slh_key_files.specs.declared.key_kind.KeyKind.TheVariants.{Public, Secret};
+ghost use Rattle.slh_key_files.specs.KeyFile.{any_key_text};
+ghost use Rattle.slh_key_files.specs.declared.fault.FileFault.TheVariants.{NoMemory};
 ghost use Rattle.slh_tool.specs.Keys.{HoldsAnyKey, HoldsKey, RefusesAnyKey, RefusesKey};
 ghost use Rattle.slh_tool.specs.Replies.{ChecksKey, UpgradesKey, WritesPublic};
 
@@ -9,10 +9,10 @@ use super::fault::Fault;
 use super::reading::read_key_file;
 use super::reply::Reply;
 use slh_core::{PublicKey, SecretKey, check_pair};
-use slh_files::{
+use slh_io::Files;
+use slh_key_files::{
     AnyKey, FileFault, read_key, read_public, read_secret, write_public, write_secret,
 };
-use slh_io::Files;
 use std::alloc::Allocator;
 
 /// The key of a secret key file.

@@ -5,6 +5,7 @@ pub use fault::Fault;
 pub use program::{command, refuse};
 pub use slh_io::{FetchFault, Files, Source};
 
+mod arguments;
 mod content;
 mod cuts;
 mod fault;

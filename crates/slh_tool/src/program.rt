@@ -1,11 +1,11 @@
-ghost use Rattle.std.specs.Prelude.{◌≡◌, ◌≢◌, ◌⊎◌, ℕ, map, IfOk, IfErr, string_bytes, Some};
+ghost use Rattle.std.specs.Prelude.{◌≡◌, ◌≢◌, ◌⊎◌, map, IfOk, IfErr, string_bytes, Some};
 ghost use Rattle.std.specs.Io.KnownBytes.{Appends};
 ghost use Rattle.clap.specs.Words.{Text};
-ghost use Rattle.slh_io.specs.Devices.{Grew, LetsThrough, TakesAtMost};
+ghost use Rattle.slh_io.specs.Devices.{TakesAtMost};
 ghost use Rattle.slh_tool.specs.Faults.{line};
 ghost use Rattle.slh_tool.specs.Replies.{IsRefusal, IsReply, input_limit, words_limit};
 ghost use Rattle.slh_tool.specs.Requests.{asked};
-ghost use Rattle.slh_tool.specs.Runs.{IsTold, Refuses, Replies};
+ghost use Rattle.slh_tool.specs.Runs.{BreaksOff, IsTold, Refuses, Replies};
 ghost use Rattle.slh_tool.specs.declared.fault.Fault.{Fault};
 ghost use Rattle.slh_tool.specs.declared.fault.Fault.TheVariants.{WriteFailed};
 
@@ -50,17 +50,13 @@ pub fn command<
         × Replies (map string_bytes words.now) (F.state files.old) (S.state input.old) (S.state input.new) result text
         × Appends (O.state output.old).contents (O.state output.new).contents text
         × (errors.new ≡ errors.old) }
-
     // The refusal has its cause, and nothing was written; or a write failed, after a prefix of the answer was written.
     ensures refused { result ≡ 2 → (fault : Fault) × IsTold (E.state errors.old) (E.state errors.new) (line fault)
         × ((Refuses (map string_bytes words.now) (F.state files.old) (F.state files.new)
         (S.state input.old) (S.state input.new) fault
         × (output.new ≡ output.old))
-        ⊎ ((fault ≡ WriteFailed) × Grew (O.state output.old).failures (O.state output.new).failures
-        × ((status : ℕ) × ((text : Text)
-        × Replies (map string_bytes words.now) (F.state files.old) (S.state input.old) (S.state input.new) status text
-        × LetsThrough (O.state output.old).contents (O.state output.new).contents text)))) }
-
+        ⊎ ((fault ≡ WriteFailed) × BreaksOff (O.state output.old) (O.state output.new)
+        (Replies (map string_bytes words.now) (F.state files.old) (S.state input.old) (S.state input.new)))) }
     // Of the input no more is taken than the command reads, and none where the arguments are refused or ask for help.
     ensures at_most { TakesAtMost (S.state input.old).left (S.state input.new).left
         (words_limit (map string_bytes words.now)) }

@@ -4,13 +4,13 @@ ghost use Rattle.slh_core.specs.PreHashing.{HasFed};
 ghost use Rattle.slh_core.specs.Verifying.{IsVerifierOf};
 ghost use Rattle.slh_core.specs.declared.pre_hash.PreHash.{PreHash};
 ghost use Rattle.slh_io.specs.Devices.{CountsFailure, EndsBy, HasPart};
-ghost use Rattle.slh_files.specs.KeyFile.{AreReadAlike, IsKeyFront};
+ghost use Rattle.slh_key_files.specs.KeyFile.{AreReadAlike, IsKeyFront};
 ghost use Rattle.slh_tool.specs.Reading.{IsDigestOfFile, IsFile, IsFrontOfFile, IsFrontOfKeyFile, IsLater, RefusesFile, file_limit};
 
 use super::fault::Fault;
 use slh_core::{MessageDigest, PreHash, PreHasher, Verifier};
-use slh_files::push_key_bytes;
 use slh_io::{FetchFault, Files};
+use slh_key_files::push_key_bytes;
 use std::alloc::{AllocError, Allocator};
 
 /// The most bytes that a file may have.

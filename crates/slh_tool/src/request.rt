@@ -2,9 +2,9 @@ ghost use Rattle.std.specs.Prelude.{◌≡◌, Some, option_map, map, IfOk, IfEr
 ghost use Rattle.clap.specs.Words.{first_of, found_of, rows_of, subcommand_rows_of};
 ghost use Rattle.slh_tool.specs.Requests.{Asks, RefusesRequest, asked, asked_by, asked_in, asked_of_file, cut_asked, cut_in, form_asked, form_in, keygen_in, number_of, sign_in, vectors_in, verify_in, work_asked, work_in};
 
+use crate::arguments::slh_command;
 use clap::ArgMatches;
 use clap::error::ErrorKind;
-use slh_arguments::slh_command;
 use std::alloc::Global;
 
 /// What the arguments ask for.

@@ -7,10 +7,10 @@ use Rattle.slh_core.specs.Signatures.{IsValid}
 use Rattle.slh_core.specs.declared.form.Form.{Form}
 use Rattle.slh_core.specs.declared.form.Form.TheVariants.{Pure}
 use Rattle.slh_io.specs.Devices.{FilesState}
-use Rattle.slh_files.specs.KeyFile.{key_file}
-use Rattle.slh_files.specs.Lines.{line}
-use Rattle.slh_files.specs.declared.key_kind.KeyKind.{KeyKind}
-use Rattle.slh_files.specs.declared.key_kind.KeyKind.TheVariants.{Public, Secret}
+use Rattle.slh_key_files.specs.KeyFile.{key_file}
+use Rattle.slh_key_files.specs.Lines.{line}
+use Rattle.slh_key_files.specs.declared.key_kind.KeyKind.{KeyKind}
+use Rattle.slh_key_files.specs.declared.key_kind.KeyKind.TheVariants.{Public, Secret}
 use Rattle.slh_tool.specs.Keys.{HoldsKey}
 use Rattle.slh_tool.specs.Options.{HasForm, context_of, form_of}
 use Rattle.slh_tool.specs.Reading.{IsFile}

@@ -5,9 +5,9 @@ use Rattle.slh_core.specs.Keys.{IsGeneratedKey, Key}
 use Rattle.slh_core.specs.Messages.{pure_message}
 use Rattle.slh_core.specs.Signatures.{IsValid}
 use Rattle.slh_io.specs.Devices.{FilesState, SourceState}
-use Rattle.slh_files.specs.KeyFile.{key_file}
-use Rattle.slh_files.specs.Lines.{line}
-use Rattle.slh_files.specs.declared.key_kind.KeyKind.TheVariants.{Public, Secret}
+use Rattle.slh_key_files.specs.KeyFile.{key_file}
+use Rattle.slh_key_files.specs.Lines.{line}
+use Rattle.slh_key_files.specs.declared.key_kind.KeyKind.TheVariants.{Public, Secret}
 use Rattle.slh_tool.specs.Runs.{Replies}
 use Rattle.slh_tool_tests.specs.Folder.{NamedFile, bytes_in}
 

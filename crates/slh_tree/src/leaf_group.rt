@@ -1,9 +1,9 @@
-//! The leaves of a range, in groups of eight.
+//! The leaves of a range, several at once.
 ghost use Rattle.std.specs.Prelude.{◌≡◌, ◌^◌, ◌<◌, ◌≤◌};
 ghost use Rattle.slh_tree.specs.Tree.{MerkleTree};
 ghost use Rattle.slh_tree.specs.Leaves.{AreLeaves};
 
-use crate::tree::{Leaves, Tree};
+use crate::tree::{Leaves, MOST_LEAVES, Tree};
 use slh_params::{Node, copy_of};
 
 /// Leaves of a tree, one after another.
@@ -24,8 +24,8 @@ impl LeafGroup {
         }
     }
 
-    /// Leaf `i`. Where the group has it not, the group becomes that leaf and those after it, up to eight and below
-    /// `hi`.
+    /// Leaf `i`. Where the group has it not, the group becomes that leaf and those after it, up to `MOST_LEAVES`
+    /// and below `hi`.
     pub(crate) fn leaf<T: Tree>(&mut self, tree: &T, i: u32, hi: u32) -> Node
         requires own { AreLeaves (T.tree tree.now) self.old }
         requires index { i < hi }
@@ -36,7 +36,7 @@ impl LeafGroup {
         let held = self.nodes.len() as u32;
         if i < self.first || held <= i - self.first {
             self.first = i;
-            self.nodes = tree.leaves(i, (hi - i).min(8));
+            self.nodes = tree.leaves(i, (hi - i).min(MOST_LEAVES as u32));
         }
         copy_of(&self.nodes[(i - self.first) as usize])
     }

@@ -17,4 +17,4 @@ pub use paths::{climb, parent, path};
 pub use range::{hash_range, node, root};
 pub use record::PathRec;
 pub use stack::Stack;
-pub use tree::{Leaves, Tree};
+pub use tree::{Leaves, MOST_LEAVES, Tree};

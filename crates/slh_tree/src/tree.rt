@@ -6,8 +6,11 @@ ghost use Rattle.slh_tree.specs.Leaves.{AreLeavesFrom};
 use arrayvec::ArrayVec;
 use slh_params::Node;
 
-/// Leaves of a tree in their order, at most eight.
-pub type Leaves = ArrayVec<Node, 8>;
+/// The most leaves that a tree is asked for at once.
+pub const MOST_LEAVES: usize = 8;
+
+/// Leaves of a tree in their order.
+pub type Leaves = ArrayVec<Node, MOST_LEAVES>;
 
 /// A Merkle tree of height 1 to 14, whose nodes all have one length of at most 32 bytes.
 ///
@@ -28,10 +31,10 @@ pub trait Tree {
         requires { i < 2 ^ (tree self.now).height }
         ensures { result.items ≡ (tree self.now).leaf i };
 
-    /// The leaves from `first` on, as many as `count`. A tree that makes eight leaves at once has a body of its own.
+    /// The leaves from `first` on, as many as `count`. A tree that makes several leaves at once has a body of its own.
     fn leaves(&self, first: u32, count: u32) -> Leaves
         requires some { 1 ≤ count }
-        requires few { count ≤ 8 }
+        requires few { count ≤ MOST_LEAVES }
         requires within { first + count ≤ 2 ^ (tree self.now).height }
         ensures len { length result.items ≡ count }
         ensures leaves { AreLeavesFrom (tree self.now) first result.items }

@@ -1,5 +1,5 @@
 //! How many lanes a build's vectors have. No contract tells it, so that what is proved holds for each width, and
-//! `tools/target.sh` builds for each kind of processor with a body of its own.
+//! `tools/clang.sh` writes the numbers of each kind of processor into the proved module that is compiled.
 #![tactic(auto)]
 
 /// How many words one vector has, each in a lane of its own.

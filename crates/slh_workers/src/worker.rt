@@ -66,60 +66,28 @@ pub fn work_off<A: Allocator, B: Allocator, W: Work, G: Gate>(
 
     ensures ended { EndFits (G.may_stop gate.now) result.end seat.new }
 {
-    work_by_steps(alloc, board, seat, &Worker::new(work, gate, worker))
-}
-
-// `work_off` over the steps of its worker.
-fn work_by_steps<A: Allocator, B: Allocator, S: Steps>(
-    alloc: A,
-    board: &Board<B>,
-    seat: &mut Seat,
-    steps: &S,
-) -> WorkerEnd<S::Out, A>
-    requires mine { seat.old.board ≡ board.now }
-    requires fresh { IsFresh seat.old }
-    requires jobs { board.now.jobs ≡ S.jobs steps.now }
-    ensures mine { seat.new.board ≡ board.now }
-    ensures numbers { IsAnswered (may_lack result.end) seat.old.drawn seat.new.drawn (numbers result.answers.items) }
-    ensures right { AllRight (S.is_right steps.now) (S.jobs steps.now) result.answers.items }
-    ensures reported { All (S.reported steps.now) (numbers result.answers.items) }
-    ensures told { IsTold (S.reported steps.now) (may_hide result.end) seat.old.drawn seat.new.drawn }
-    ensures ended { EndFits (S.may_stop steps.now) result.end seat.new }
-{
+    let steps = Worker::new(work, gate, worker);
     let mut answers = Vec::new(alloc);
-    loop {
+    let end = loop {
         // Room for an answer is made before its job is drawn. So none is drawn that has no room for its answer.
         if answers.reserve(1).is_err() {
             board.stop(seat);
-            return WorkerEnd {
-                answers,
-                end: End::NoMemory,
-            };
+            break End::NoMemory;
         }
         let number = match board.claim(seat) {
             Claim::Job(number) => number,
-            Claim::Done => {
-                return WorkerEnd {
-                    answers,
-                    end: End::Done,
-                };
-            }
-            Claim::Stopped => {
-                return WorkerEnd {
-                    answers,
-                    end: End::Stopped,
-                };
-            }
+            Claim::Done => break End::Done,
+            Claim::Stopped => break End::Stopped,
         };
-        if let Err(fault) = add_answer(&mut answers, steps, number) {
+        if let Err(fault) = add_answer(&mut answers, &steps, number) {
             board.stop(seat);
-            let end = match fault {
+            break match fault {
                 RunFault::NoMemory => End::NoMemory,
                 RunFault::Stopped => End::GateStop,
             };
-            return WorkerEnd { answers, end };
         }
-    }
+    };
+    WorkerEnd { answers, end }
 }
 
 // Runs the job where the gate lets it, and adds its answer, for which there is room. A job that was run is reported,

@@ -3,7 +3,7 @@ ghost use Rattle.std.specs.Prelude.{◌≡◌, ◌↔◌, Some, None, IsOk, IfOk
 ghost use Rattle.slh_params.specs.Params.{numbers};
 ghost use Rattle.slh_params.specs.ParamSet.{params};
 ghost use Rattle.slh_params.specs.RecordFault.{member_of};
-ghost use Rattle.slh_params.specs.Valid.{IsValid, n_fits, lg_w_fits, d_fits, first_bad};
+ghost use Rattle.slh_params.specs.Valid.{IsValidRecord, n_fits, lg_w_fits, d_fits, first_bad};
 
 use super::ParamSet;
 use thiserror::Error;
@@ -53,7 +53,7 @@ impl ParamSet {
     ) -> Result<ParamSet, RecordFault>
         ensures made { IfOk result (λ set. params set ≡ numbers n lg_w hp d a k) }
         ensures refused { IfErr result (λ fault. Some (member_of fault) ≡ first_bad (numbers n lg_w hp d a k)) }
-        ensures valid { IsOk result ↔ IsValid (numbers n lg_w hp d a k) }
+        ensures valid { IsOk result ↔ IsValidRecord (numbers n lg_w hp d a k) }
     {
         match first_bad(n, lg_w, hp, d, a, k) {
             None => Ok(ParamSet {

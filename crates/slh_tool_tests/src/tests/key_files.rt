@@ -2,7 +2,7 @@
 use super::equal;
 use linked_list_allocator::LocalHeap;
 use slh_core::{PublicKey, SecretKey};
-use slh_files::{FileFault, write_public, write_secret};
+use slh_key_files::{FileFault, write_public, write_secret};
 use slh_params::ParamSet;
 use std::process::Abort;
 use std::test::Fail;

@@ -2,28 +2,28 @@
 use Rattle.std.proofs.Common.{◌≡◌, ◌↔◌, ℕ, List, subst, ◌∙◌, arith}
 use Rattle.std.proofs.lemmas.Bool.{false≢true}
 use Rattle.slh_jobs.specs.Jobs.{AreAnswers}
-use Rattle.slh_jobs.specs.Starts.{start_by as start_under, IsStart}
+use Rattle.slh_jobs.specs.Starts.{start_by, IsStart}
 use Rattle.slh_jobs.specs.declared.levels.Levels.{Levels}
 use Rattle.slh_core.specs.Keys.{Key, public_of, IsGeneratedKey}
-use Rattle.slh_core.specs.Signatures.{IsValid, signature_by as signature_under}
+use Rattle.slh_core.specs.Signatures.{IsValid, signature_by}
 use Rattle.slh_core.specs.declared.randomizer.Randomizer.{Randomizer}
-use Rattle.slh_c.specs.Keys.{start_by, signature_by}
+use Rattle.slh_c.specs.Keys.{start_under, signature_under}
 use Rattle.slh_c.proofs.Numbered.{with_levels}
 use Rattle.slh_c.proofs.Begun.{of_bytes, start_of_bytes, signature_of_bytes}
 use Rattle.slh_c.proofs.joining.slh_sign_join.Goals as goal
 
 authentic : {sk sk' : Key} (start sig : List ℕ) → sk ≡ sk'
-    → ((msg : List ℕ) (randomizer : Randomizer) → start ≡ start_under sk msg randomizer → IsValid (public_of sk) msg sig)
-    → (msg bytes : List ℕ) → start ≡ start_by sk' msg bytes → IsValid (public_of sk') msg sig
+    → ((msg : List ℕ) (randomizer : Randomizer) → start ≡ start_by sk msg randomizer → IsValid (public_of sk) msg sig)
+    → (msg bytes : List ℕ) → start ≡ start_under sk' msg bytes → IsValid (public_of sk') msg sig
 authentic {sk} {sk'} start sig e valid msg bytes is =
-    subst (λ k. (msg : List ℕ) (randomizer : Randomizer) → start ≡ start_under k msg randomizer → IsValid (public_of k) msg sig) e valid
+    subst (λ k. (msg : List ℕ) (randomizer : Randomizer) → start ≡ start_by k msg randomizer → IsValid (public_of k) msg sig) e valid
     msg (of_bytes bytes) (is ∙ start_of_bytes sk' msg bytes)
 
 signature : (c : Levels) {sk sk' : Key} (start answers sig : List ℕ) → sk ≡ sk'
-    → ((msg : List ℕ) (randomizer : Randomizer) → start ≡ start_under sk msg randomizer → AreAnswers c sk start answers → sig ≡ signature_under sk msg randomizer)
-    → (msg bytes : List ℕ) → start ≡ start_by sk' msg bytes → AreAnswers c sk' start answers → sig ≡ signature_by sk' msg bytes
+    → ((msg : List ℕ) (randomizer : Randomizer) → start ≡ start_by sk msg randomizer → AreAnswers c sk start answers → sig ≡ signature_by sk msg randomizer)
+    → (msg bytes : List ℕ) → start ≡ start_under sk' msg bytes → AreAnswers c sk' start answers → sig ≡ signature_under sk' msg bytes
 signature c {sk} {sk'} start answers sig e made msg bytes is are =
-    subst (λ k. (msg : List ℕ) (randomizer : Randomizer) → start ≡ start_under k msg randomizer → AreAnswers c k start answers → sig ≡ signature_under k msg randomizer) e made
+    subst (λ k. (msg : List ℕ) (randomizer : Randomizer) → start ≡ start_by k msg randomizer → AreAnswers c k start answers → sig ≡ signature_by k msg randomizer) e made
     msg (of_bytes bytes) (is ∙ start_of_bytes sk' msg bytes) are
     ∙ signature_of_bytes sk' msg bytes
 

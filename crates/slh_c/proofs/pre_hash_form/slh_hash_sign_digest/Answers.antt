@@ -14,8 +14,8 @@ of_bytes : (ctx sig : List ℕ) {sk sk' : Key} {digest digest' : Digest} → sk 
 of_bytes ctx sig {sk} {sk'} {digest} {digest'} e f h =
     subst (λ it. Authentic ctx sig sk' it) f (subst (λ it. Authentic ctx sig it digest) e h)
 
-pub returns-clause-authentic : goal.returns-clause-authentic
-returns-clause-authentic c =
+pub returns-in-Ok-hash_sign_digest-clause-authentic : goal.returns-in-Ok-hash_sign_digest-clause-authentic
+returns-in-Ok-hash_sign_digest-clause-authentic c =
     let set_is = c.in-Ok.ensures.set in
     let function_is = c.in-Ok-function_of.ensures.function in
-    λ _. some_and _ set_is (some_and _ function_is (of_bytes c.args.ctx.now c.hash_sign_digest.new.out c.signer_of-sk.ensures.key c.in-Some.ensures.digest c.in-Ok-hash_sign_digest.ensures.authentic))
+    λ _. some_and _ set_is (some_and _ function_is (of_bytes c.args.ctx.now c.hash_sign_digest.new.out c.in-Ok-secret_key.ensures.key c.in-Some.ensures.digest c.in-Ok-hash_sign_digest.ensures.authentic))

@@ -1,47 +1,80 @@
--- R and the digest are those of the message, so that the signature is its own.
-use Rattle.std.proofs.Common.{◌≡◌, ℕ, ◌≤◌, List, ◌++◌, length-take-le, arith, ap, sym, subst, ◌∙◌}
-use Rattle.std.proofs.lemmas.Result.{on_ok_weaker}
+-- R, then the FORS and the hypertree signature of the digest, put end to end, are the signature.
+use Rattle.std.proofs.Common.{◌≡◌, ℕ, ◌≤◌, ◌<◌, ◌^◌, List, ◌++◌, length, length-take-le, arith, ap, sym, subst, refl, ◌∙◌, rules}
+use Rattle.slh_params.specs.Params.{m}
+use Rattle.slh_params.specs.ParamSet.{params}
 use Rattle.slh_params.proofs.Bounds.{m_high}
+use Rattle.slh_few.specs.Fors.{fors_sig}
 use Rattle.slh_hash.specs.Keyed.{joined}
-use Rattle.slh_core.specs.Keys.{Key, public_of}
-use Rattle.slh_core.specs.Signatures.{r_by, digest_of, signature_of_digest, signature, IsValid}
+use Rattle.slh_core.specs.DigestParts.{md}
+use Rattle.slh_core.specs.Keys.{Key, sk_seed, public_of, pk_seed}
+use Rattle.slh_core.specs.Signatures.{digest_of, signature_of_digest, signature, IsValid}
+use Rattle.slh_core.proofs.Assembled.{signed_parts}
 use Rattle.slh_core.proofs.Valid.{signature_valid}
+use Rattle.slh_subtrees.specs.Assembled.{answers_of, sig_fors_by, sig_ht_by}
+use Rattle.slh_subtrees.specs.SigningTrees.{source_of}
+use Rattle.slh_subtrees.specs.Trees.{TreeSource}
+use Rattle.slh_subtrees.proofs.Assembled.{pk_fors_of, sig_fors-right, sig_ht-right, answers_of-right}
 use Rattle.slh_par.proofs.signing.sign_parts_par.Goals as goal
 
 -- the buffer has room for the digest of any set
 pub slice_bounds-buffer-end : goal.slice_bounds-buffer-end
-slice_bounds-buffer-end g c = omega (arith, c.m.ensures, m_high c.set.result)
+slice_bounds-buffer-end g c = omega (arith, c.m.ensures, m_high c.set-set.result)
 
 pub slice_bounds-digest-end : goal.slice_bounds-digest-end
 slice_bounds-digest-end g c =
-    let fits : c.m.result ≤ 122 = omega (arith, c.m.ensures, m_high c.set.result) in
+    let fits : c.m.result ≤ 122 = omega (arith, c.m.ensures, m_high c.set-set.result) in
     sym (length-take-le c.m.result _ fits)
 
 pub randomized_digest-r-requires-clause-digest : goal.randomized_digest-r-requires-clause-digest
 randomized_digest-r-requires-clause-digest g c =
-    let fits : c.m.result ≤ 122 = omega (arith, c.m.ensures, m_high c.set.result) in
-    length-take-le c.m.result _ fits ∙ rw c.set.ensures at c.m.ensures
+    let fits : c.m.result ≤ 122 = omega (arith, c.m.ensures, m_high c.set-set.result) in
+    length-take-le c.m.result _ fits ∙ rw c.set-set.ensures at c.m.ensures
 
-pub sign_digest_par-requires-clause-digest : goal.sign_digest_par-requires-clause-digest
-sign_digest_par-requires-clause-digest g c = λ lifetimes outlive.
-    let fits : c.m.result ≤ 122 = omega (arith, c.m.ensures, m_high c.set.result) in
-    c.randomized_digest-r.auto.digest ∙ length-take-le c.m.result _ fits ∙ rw c.set.ensures at c.m.ensures
+pub cut_digest-cut-requires : goal.cut_digest-cut-requires
+cut_digest-cut-requires g c =
+    let fits : c.m.result ≤ 122 = omega (arith, c.m.ensures, m_high c.set-set.result) in
+    c.randomized_digest-r.auto.digest ∙ length-take-le c.m.result _ fits ∙ c.m.ensures
+
+-- FORS signs the first part of the digest
+pub slice_bounds-new-end : goal.slice_bounds-new-end
+slice_bounds-new-end g c =
+    let fits : c.m.result ≤ 122 = omega (arith, c.m.ensures, m_high c.set-set.result) in
+    let whole : length c.randomized_digest-r.new.digest ≡ m (params c.set-set.result) = c.randomized_digest-r.auto.digest ∙ length-take-le c.m.result _ fits ∙ c.m.ensures in
+    let part : c.md_len.result ≤ length c.randomized_digest-r.new.digest = omega (arith, whole, c.md_len.ensures) in
+    sym (length-take-le c.md_len.result _ part)
+
+pub new-trees-requires-clause-md : goal.new-trees-requires-clause-md
+new-trees-requires-clause-md g c =
+    let fits : c.m.result ≤ 122 = omega (arith, c.m.ensures, m_high c.set-set.result) in
+    let whole : length c.randomized_digest-r.new.digest ≡ m (params c.set-set.result) = c.randomized_digest-r.auto.digest ∙ length-take-le c.m.result _ fits ∙ c.m.ensures in
+    let part : c.md_len.result ≤ length c.randomized_digest-r.new.digest = omega (arith, whole, c.md_len.ensures) in
+    length-take-le c.md_len.result _ part ∙ c.md_len.ensures
 
 pub returns-clause-signature : goal.returns-clause-signature
 unfolding signature
 returns-clause-signature g c =
     let sk : Key = c.args.sk.now in
     let msg : List ℕ = joined c.args.parts.now in
-    let r : c.randomized_digest-r.result.items ≡ r_by sk msg c.args.randomizer = c.randomized_digest-r.ensures.r in
-    on_ok_weaker c.sign_digest_par.result (λ e.
-    e ∙ ap (λ d. c.randomized_digest-r.result.items ++ signature_of_digest sk d) c.randomized_digest-r.ensures.digest
-    ∙ ap (λ x. x ++ signature_of_digest sk (digest_of (public_of sk) x msg)) r)
-    c.sign_digest_par.ensures.signature
+    let digest : List ℕ = c.randomized_digest-r.new.digest in
+    let t : ℕ = c.cut_digest-cut.result.idx_tree in
+    let i : ℕ = c.cut_digest-cut.result.idx_leaf in
+    let s : TreeSource = source_of c.new-trees.result in
+    let r : List ℕ = c.randomized_digest-r.result.items in
+    let own : TreeSource = record { set = sk.set; sk_seed = sk_seed sk; pk_seed = pk_seed (public_of sk); idx_tree = t; idx_leaf = i; md = s.md } in
+    let same : s ≡ own = search rules in
+    let By : TreeSource → List ℕ = λ x. r ++ (sig_fors_by x (answers_of x) ++ sig_ht_by x (answers_of x)) in
+    let of_trees : source_of c.in_ok-answered.answered.trees.now ≡ s = ap source_of c.in_ok-answered.ensures.trees in
+    let leaf : own.idx_leaf < 2 ^ (params own.set).hp = search rules in
+    let first : own.md ≡ md (params sk.set) digest = search rules in
+    c.put_signature.ensures ∙ ap By (of_trees ∙ same)
+    ∙ ap (λ ys. r ++ (ys ++ sig_ht_by own (answers_of own))) (sig_fors-right own (answers_of own) leaf (answers_of-right own))
+    ∙ ap (λ ys. r ++ (fors_sig (params sk.set) (sk_seed sk) (pk_seed (public_of sk)) t i own.md ++ ys)) (sig_ht-right own (answers_of own) leaf (answers_of-right own))
+    ∙ ap (λ ys. r ++ ys) (signed_parts sk digest t i own.md (pk_fors_of own) (search rules) (search rules) first refl)
+    ∙ ap (λ d. r ++ signature_of_digest sk d) c.randomized_digest-r.ensures.digest
+    ∙ ap (λ x. x ++ signature_of_digest sk (digest_of (public_of sk) x msg)) c.randomized_digest-r.ensures.r
 
 pub returns-clause-authentic : goal.returns-clause-authentic
 returns-clause-authentic g c =
     let sk : Key = c.args.sk.now in
     let msg : List ℕ = joined c.args.parts.now in
-    on_ok_weaker c.sign_digest_par.result (λ e gen.
-    subst (λ (sig : List ℕ). IsValid (public_of sk) msg sig) (sym e) (signature_valid sk msg _ gen))
-    (returns-clause-signature g c)
+    λ gen. subst (λ (sig : List ℕ). IsValid (public_of sk) msg sig) (sym (returns-clause-signature g c)) (signature_valid sk msg _ gen)

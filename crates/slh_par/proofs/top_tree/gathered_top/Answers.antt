@@ -1,5 +1,5 @@
 -- The covers of the ranges, in their order, span the tree.
-use Rattle.std.proofs.Common.{◌≡◌, ℕ, ◌-◌, sym, ◌∙◌, ap, subst}
+use Rattle.std.proofs.Common.{◌≡◌, ℕ, sym, ◌∙◌, ap, subst}
 use Rattle.slh_params.specs.ParamSet.{params}
 use Rattle.slh_tree.specs.Tree.{MerkleTree}
 use Rattle.slh_tree.specs.Cover.{AreCovers}
@@ -13,6 +13,5 @@ pub gather-requires-clause-covers : goal.gather-requires-clause-covers
 gather-requires-clause-covers c =
     let s = c.args.seeds.now in
     let Spanned : MerkleTree → Type 0 = λ t. AreCovers t 0 c.args.covers.now in
-    let layer : c.d.result - 1 ≡ (params s.set).d - 1 = ap (λ (d : ℕ). d - 1) c.d.ensures in
-    let made : xmss_tree_of c.new.result ≡ top_tree s = c.new.ensures ∙ ap (λ (l : ℕ). xmss_tree (params s.set) s.sk_seed.now s.pk_seed.now l 0) layer in
+    let made : xmss_tree_of c.new.result ≡ top_tree s = c.new.ensures ∙ ap (λ (l : ℕ). xmss_tree (params s.set) s.sk_seed.now s.pk_seed.now l 0) c.top_layer.ensures in
     subst Spanned (sym made) (top_covers s c.args.cutting.now c.args.covers.now c.requires.set c.xmss_ranges-ranges.ensures.end_to_end c.requires.count c.requires.each)

@@ -5,7 +5,7 @@ use Rattle.clap.specs.Faults.{is_simple_and_free}
 use Rattle.clap.specs.Kinds.{IsAmong}
 use Rattle.clap.specs.declared.error.ErrorKind.{ErrorKind}
 use Rattle.clap.specs.declared.error.ErrorKind.TheVariants.{DisplayHelp}
-use Rattle.slh_arguments.specs.Command.{slh_app}
+use Rattle.slh_tool.specs.Arguments.{slh_app}
 use Rattle.slh_tool.specs.Requests.{asked_by}
 use Rattle.slh_tool.proofs.Asked.{some_asked}
 use Rattle.slh_tool.proofs.Words.{among_other, help_among, slh_app_free, slh_app_simple}

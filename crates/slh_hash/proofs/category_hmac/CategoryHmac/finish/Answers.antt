@@ -8,7 +8,7 @@ use Rattle.slh_hash.proofs.category_hmac.CategoryHmac.finish.Goals as goal
 pub returns-clause-value : goal.returns-clause-value
 unfolding IsKeyed hmac
 returns-clause-value c = λ p key text h.
-    rw (c.n.ensures, h.0) at (c.finish.ensures p _ (rw (c.as_slice.ensures.value, c.digest.ensures p _ h.1.0) at (c.update.ensures p _ h.1.1)))
+    rw (c.n.ensures, h.0) at (c.finish.ensures p _ (c.into_outer.ensures p key text h))
 
 pub returns-clause-len : goal.returns-clause-len
 unfolding IsKeyed

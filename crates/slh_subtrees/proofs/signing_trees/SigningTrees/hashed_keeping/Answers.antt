@@ -5,7 +5,7 @@ use Rattle.slh_few.specs.Hypertree.{layer_place}
 use Rattle.slh_few.specs.Xmss.{xmss_tree}
 use Rattle.slh_few.specs.declared.place.Place.{Place}
 use Rattle.slh_few.proofs.Layers.{layer_place-layer}
-use Rattle.slh_subtrees.specs.Joined.{IsHashed}
+use Rattle.slh_subtrees.specs.Gathered.{IsHashed}
 use Rattle.slh_subtrees.proofs.Hashed.{hashed_range}
 use Rattle.slh_subtrees.proofs.signing_trees.SigningTrees.hashed_keeping.Goals as goal
 

@@ -1,5 +1,0 @@
-use Rattle.slh_files.proofs.Reading.{written_again}
-use Rattle.slh_files.proofs.key_text.written_is_read.Goals as goal
-
-pub returns : goal.returns
-returns c = written_again

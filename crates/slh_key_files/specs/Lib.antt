@@ -1,0 +1,4 @@
+pub use Rattle.slh_core.specs.Keys
+pub mod FileFault
+pub mod Lines
+pub mod KeyFile

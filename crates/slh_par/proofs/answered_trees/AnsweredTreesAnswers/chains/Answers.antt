@@ -1,0 +1,18 @@
+use Rattle.std.proofs.Common.{length, ap, ◌∙◌, rules}
+use Rattle.std.proofs.Math.Logic.{∥∥₁_elim}
+use Rattle.std.proofs.Props.{props}
+use Rattle.slh_params.specs.ParamSet.{params}
+use Rattle.slh_params.proofs.Bounds.{n_high}
+use Rattle.slh_few.specs.Hypertree.{layer_place}
+use Rattle.slh_few.proofs.KeptChains.{length-kept_chains}
+use Rattle.slh_par.proofs.answered_trees.AnsweredTreesAnswers.chains.Goals as goal
+
+pub returns-clause-value : goal.returns-clause-value
+returns-clause-value g c =
+    ∥∥₁_elim c.args.self.now.all_chains (hlevel props) (λ all. let own = all.each c.args.layer c.index.result.now (search rules) in search rules)
+
+pub returns-clause-len : goal.returns-clause-len
+returns-clause-len g c =
+    let s = c.args.self.now.trees.now.seeds in
+    let at = layer_place (params s.set) c.args.self.now.trees.now.idx_tree c.args.self.now.trees.now.idx_leaf c.args.layer in
+    ap length (returns-clause-value g c) ∙ length-kept_chains (params s.set) s.sk_seed.now s.pk_seed.now at (n_high s.set)

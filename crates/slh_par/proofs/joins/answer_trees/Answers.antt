@@ -1,0 +1,18 @@
+-- The answers of the jobs apart: each range's in its place, and what was kept of chains by layers.
+use Rattle.std.proofs.Common.{◌≡◌, length, arith}
+use Rattle.slh_subtrees.specs.Jobs.{signing_jobs}
+use Rattle.slh_par.proofs.SplitAnswers.{answers_split}
+use Rattle.slh_par.proofs.Kept.{chains_kept}
+use Rattle.slh_par.proofs.joins.answer_trees.Goals as goal
+
+pub invariant_of-result-clause-all_answers : goal.invariant_of-result-clause-all_answers
+invariant_of-result-clause-all_answers g c =
+    let count : length c.in_ok-answers.answers.items ≡ length (signing_jobs c.args.cutting.now) = omega (arith, c.in_ok-answers.ensures.count) in
+    ∣ answers_split c.args.trees.now c.args.cutting.now c.in_ok-answers.answers.items c.in_ok-covers.covers.items c.in_ok-covers.records.items count
+    c.in_ok-answers.ensures.right c.in_ok-covers.ensures.0 c.in_ok-covers.ensures.1 ∣₁
+
+pub invariant_of-result-clause-all_chains : goal.invariant_of-result-clause-all_chains
+invariant_of-result-clause-all_chains g c =
+    let count : length c.in_ok-answers.answers.items ≡ length (signing_jobs c.args.cutting.now) = omega (arith, c.in_ok-answers.ensures.count) in
+    ∣ chains_kept c.args.trees.now c.args.cutting.now c.in_ok-answers.answers.items c.in_ok-covers.chains.items count
+    c.in_ok-answers.ensures.right c.requires.set c.xmss_ranges-ranges.ensures.end_to_end c.in_ok-covers.ensures.2 ∣₁

@@ -1,0 +1,17 @@
+-- What the loop keeps: covers, records and kept values are those of the ranges so far, in their order.
+use Rattle.std.proofs.Common.{◌≡◌, ◌++◌, map}
+use Rattle.std.specs.List.{flat_map}
+use Rattle.std.specs.Vec.Iter.{into_iter_items}
+use Rattle.slh_par.specs.JobAnswers.{as_list}
+use Rattle.slh_par.proofs.splitting.split_answers.Given as goal
+
+abbrev pub invariant-loop-range : goal.invariant-loop-range
+invariant-loop-range g l =
+    record {
+      can : (goal.iterator-loop-range g).can_next l.range-iterator;
+      ends : (goal.iterator-loop-range g).is_finite l.range-iterator;
+      seen : l.yielded ++ into_iter_items l.range-iterator ≡ l.fn.answers.items;
+      covers : l.covers.items ≡ map (λ x. x.0.cover) l.yielded;
+      records : l.records.items ≡ map (λ x. x.0.path) l.yielded;
+      kept : l.kept.items ≡ flat_map (λ x. as_list x.1) l.yielded;
+    }

@@ -1,0 +1,100 @@
+//! The trees of a signature, once all their ranges are hashed.
+ghost use Rattle.std.specs.Prelude.{◌≡◌, ◌+◌, ◌<◌, ◌≤◌, ◌^◌, length, take, drop};
+ghost use Rattle.slh_params.specs.ParamSet.{params};
+ghost use Rattle.slh_subtrees.specs.Assembled.{answers_of};
+ghost use Rattle.slh_subtrees.specs.Jobs.{IsTreeOf, height_of, tree_ranges, tree_jobs};
+ghost use Rattle.slh_subtrees.specs.Gathered.{IsGathered};
+ghost use Rattle.slh_subtrees.specs.Points.{EndToEnd};
+ghost use Rattle.slh_subtrees.specs.SigningTrees.{source_of, tree_in, leaf_in};
+ghost use Rattle.slh_par.specs.JobAnswers.{AreRangeAnswers, AreChains};
+
+use crate::kept_chains::KeptChains;
+use slh_few::put_path;
+use slh_params::Node;
+use slh_subtrees::{Answers, Cutting, GatheredTree, JobTree, SigningTrees};
+use slh_tree::{Cover, PathRec};
+use std::alloc::Allocator;
+
+/// All trees of a signature, with what is made of their ranges, and what is kept of the chains of the keys that sign.
+#[derive(Drop)]
+pub(crate) struct AnsweredTrees<'t, 's, A: Allocator> {
+    /// What the trees are made from.
+    pub(crate) trees: &'t SigningTrees<'s>,
+    /// How they are cut into ranges.
+    pub(crate) cutting: &'t Cutting,
+    /// The covers of the ranges, in the order of the jobs.
+    pub(crate) covers: Vec<Cover, A>,
+    /// Of each range the nodes of its tree's path whose leaves lie in it, in the same order.
+    pub(crate) records: Vec<PathRec, A>,
+    /// What is kept of the chains of the key that signs on each layer, from 0 on.
+    pub(crate) chains: Vec<KeptChains<A>, A>,
+    ghost same_set: { cutting.now.set ≡ trees.now.seeds.set },
+    ghost all_answers: { ∥ AreRangeAnswers trees.now cutting.now covers.items records.items ∥₁ },
+    ghost all_chains: { ∥ AreChains (source_of trees.now) chains.items ∥₁ },
+}
+
+/// How many ranges the tree has.
+fn range_count(cutting: &Cutting, tree: JobTree) -> u32
+    ensures count { result ≡ length (tree_jobs cutting.now tree) }
+    ensures some { 0 < result }
+    ensures few { result ≤ 256 }
+    ensures end_to_end { let cut = cutting.now in
+        EndToEnd 0 (2 ^ height_of (params cut.set) tree) (tree_ranges cut tree) }
+{
+    match tree {
+        JobTree::Xmss(_) => cutting.xmss_ranges(),
+        JobTree::Fors(_) => cutting.fors_ranges(),
+    }
+}
+
+/// `count` elements of the list, from place `first` on.
+fn part<X>(all: &[X], first: u32, count: u32) -> &[X]
+    requires { first + count ≤ length all.now }
+    ensures { result.now ≡ take count (drop first all.now) }
+{
+    let start = first as usize;
+    &all[start..start + count as usize]
+}
+
+/// One tree, from the covers and the records of the ranges of all trees.
+fn tree_of_ranges(
+    trees: &SigningTrees<'_>,
+    cutting: &Cutting,
+    tree: JobTree,
+    covers: &[Cover],
+    records: &[PathRec],
+) -> GatheredTree
+    requires set { cutting.now.set ≡ trees.now.seeds.set }
+    requires tree { IsTreeOf (params cutting.now.set) tree }
+    requires answers { AreRangeAnswers trees.now cutting.now covers.now records.now }
+    ensures { IsGathered (tree_in trees.now tree) (leaf_in trees.now tree) result }
+{
+    let first = cutting.first_job(tree);
+    let count = range_count(cutting, tree);
+    trees.gathered(
+        tree,
+        part(covers, first, count),
+        part(records, first, count),
+    )
+}
+
+impl<'t, 's, A: Allocator> Answers for AnsweredTrees<'t, 's, A> {
+    ghost set = { λ x. x.trees.now.seeds.set };
+
+    ghost says = { λ x. answers_of (source_of x.trees.now) };
+
+    fn put_secret(&self, number: u32, out: &mut [u8]) {
+        out.copy_from_slice(&self.trees.fors_secret(number));
+    }
+
+    fn put_path(&self, tree: JobTree, out: &mut [u8]) -> Node {
+        let set = self.trees.seeds.set;
+        let gathered = tree_of_ranges(self.trees, self.cutting, tree, &self.covers, &self.records);
+        put_path(&gathered.path, tree.height(set), set.n(), out);
+        gathered.root
+    }
+
+    fn chains(&self, layer: u8) -> &[u8] {
+        self.chains[layer as usize].bytes()
+    }
+}

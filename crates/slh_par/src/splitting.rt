@@ -1,0 +1,43 @@
+//! The answers of all jobs of a signature, split into their parts.
+ghost use Rattle.std.specs.Prelude.{◌≡◌, ◌++◌, map, IfOk, OnOk};
+ghost use Rattle.std.specs.List.{flat_map};
+ghost use Rattle.slh_par.specs.JobAnswers.{as_list};
+
+use crate::kept_chains::KeptChains;
+use crate::ranges::JobAnswer;
+use slh_tree::{Cover, PathRec};
+use slh_workers::NoMemory;
+use std::alloc::Allocator;
+
+/// Adds what was kept, if anything was.
+fn push_kept<A: Allocator>(
+    kept: &mut Vec<KeptChains<A>, A>,
+    chains: Option<KeptChains<A>>,
+) -> Result<(), NoMemory>
+    ensures { OnOk result (kept.new.items ≡ kept.old.items ++ as_list chains) }
+{
+    if let Some(chains) = chains {
+        kept.push(chains)?;
+    }
+    Ok(())
+}
+
+/// The covers and the records of the ranges, and what was kept of chains, each in their order.
+pub(crate) fn split_answers<A: Allocator + Clone>(
+    alloc: A,
+    answers: Vec<JobAnswer<A>, A>,
+) -> Result<(Vec<Cover, A>, Vec<PathRec, A>, Vec<KeptChains<A>, A>), NoMemory>
+    ensures { IfOk result (λ v. (v.0.items ≡ map (λ x. x.0.cover) answers.items)
+        × (v.1.items ≡ map (λ x. x.0.path) answers.items)
+        × (v.2.items ≡ flat_map (λ x. as_list x.1) answers.items)) }
+{
+    let mut covers = Vec::with_capacity(alloc.clone()?, answers.len())?;
+    let mut records = Vec::with_capacity(alloc.clone()?, answers.len())?;
+    let mut kept = Vec::new(alloc);
+    for (range, chains) in answers {
+        covers.push(range.cover)?;
+        records.push(range.path)?;
+        push_kept(&mut kept, chains)?;
+    }
+    Ok((covers, records, kept))
+}

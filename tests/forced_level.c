@@ -1,0 +1,15 @@
+/*
+ * For a program that is linked with a libslh.a whose slh_ask_processor is weak (tests/library_parts.sh makes it so):
+ * the processor is the one of tests/processors.h that the variable PROCESSOR names. The library itself reads no variable.
+ */
+#include "processors.h"
+
+#include <stdlib.h>
+#include <string.h>
+
+struct slh_processor slh_ask_processor(void) {
+    const char *name = getenv("PROCESSOR");
+    for (int i = 0; i < PROCESSORS; i++)
+        if (name != NULL && strcmp(name, processors[i].name) == 0) return processors[i].it;
+    abort();
+}

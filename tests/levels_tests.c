@@ -1,0 +1,172 @@
+/*
+ * Tries what the library chooses for a processor (exports/chosen.c): by tests/processors.h and by processors that lack
+ * one thing; by 64 threads whose first calls come at once; and the time of a call. It is linked with a libslh.a whose
+ * slh_ask_processor and slh_choice are to be seen, the first of them weak (tests/library_parts.sh makes it so).
+ *
+ * usage: levels_tests LEVEL      LEVEL is the best that this processor runs: 2, 3 or 4
+ *
+ * The last line is 'N passed, M failed', and the status is 0 where nothing failed.
+ */
+#define _GNU_SOURCE
+#include "processors.h"
+#include <slh.h>
+
+#include <pthread.h>
+#include <sched.h>
+#include <stdio.h>
+#include <stdlib.h>
+#include <string.h>
+#include <time.h>
+
+enum { THREADS = 64, ROUNDS = 40 };
+enum { SET = SLH_DSA_SHA2_128F, KEY = SLH_DSA_SHA2_128F_SECRET_KEY, N = SLH_DSA_SHA2_128F_N };
+enum { BATCHES = 200, CALLS = 10000, MOST_NANOSECONDS = 20 };
+
+extern uint32_t slh_choice; /* 0 before anybody asked */
+
+static unsigned passed, failed;
+static struct slh_processor processor;
+static int asked;
+
+/* It stands in place of the library's. Other threads run meanwhile. */
+struct slh_processor slh_ask_processor(void) {
+    __atomic_fetch_add(&asked, 1, __ATOMIC_RELAXED);
+    sched_yield();
+    return processor;
+}
+
+static void tell(const char *what, int is_right) {
+    if (!is_right) printf("%s: no\n", what);
+    is_right ? passed++ : failed++;
+}
+
+static uint32_t level_for(struct slh_processor it) {
+    processor = it;
+    slh_choice = 0;
+    return slh_level();
+}
+
+static void test_processors(void) {
+    for (int i = 0; i < PROCESSORS; i++) {
+        tell(processors[i].name, level_for(processors[i].it) == processors[i].level);
+        tell("its vectors", slh_choice >> 8 == processors[i].vectors);
+    }
+}
+
+/* Each feature that a level needs is taken away in turn. The numbers of bits are of Intel's manual, volume 2, CPUID. */
+static void test_lacking(void) {
+    static const struct {
+        size_t word;
+        uint32_t bit, level;
+    } rows[] = {
+        {0, 12, 2}, {0, 22, 2}, {0, 27, 2}, {0, 28, 2}, {0, 29, 2},  /* FMA, MOVBE, OSXSAVE, AVX, F16C */
+        {1, 3, 2},  {1, 5, 2},  {1, 8, 2},                           /* BMI1, AVX2, BMI2 */
+        {1, 16, 3}, {1, 17, 3}, {1, 28, 3}, {1, 30, 3}, {1, 31, 3},  /* AVX-512 F, DQ, CD, BW, VL */
+        {2, 5, 2},                                                   /* LZCNT */
+        {3, 1, 2},  {3, 2, 2},  {3, 5, 3},  {3, 6, 3},  {3, 7, 3},   /* XCR0: xmm, ymm; masks, zmm in two parts */
+    };
+    for (size_t i = 0; i < sizeof rows / sizeof *rows; i++) {
+        char what[64];
+        uint32_t words[4];
+        struct slh_processor it = processors[SKYLAKE].it;
+        memcpy(words, &it, sizeof words);
+        words[rows[i].word] &= ~((uint32_t)1 << rows[i].bit);
+        memcpy(&it, words, sizeof words);
+        snprintf(what, sizeof what, "without bit %u of word %zu", (unsigned)rows[i].bit, rows[i].word);
+        tell(what, level_for(it) == rows[i].level);
+    }
+    tell("nothing at all", level_for((struct slh_processor){0, 0, 0, 0}) == 2);
+}
+
+static pthread_barrier_t barrier;
+static const uint8_t seeds[3 * N] = {1, 2, 3, 4, 5, 6, 7};
+
+struct seen {
+    uint32_t first, then, result;
+    uint8_t sk[KEY];
+};
+
+/* The first call of every second thread makes a key. */
+static void *call_at_once(void *to) {
+    struct seen *seen = to;
+    pthread_barrier_wait(&barrier);
+    seen->first = seen->first ? slh_level() : 0;
+    seen->result = slh_keygen(SET, seeds, N, seeds + N, N, seeds + 2 * N, N, seen->sk, KEY);
+    seen->then = slh_level();
+    return NULL;
+}
+
+static int is_whole(const struct processor *row, const uint8_t *sk) {
+    static struct seen seen[THREADS];
+    pthread_t threads[THREADS];
+    int is_right = 1;
+    processor = row->it;
+    slh_choice = 0;
+    for (int i = 0; i < THREADS; i++) {
+        memset(&seen[i], 0, sizeof seen[i]);
+        seen[i].first = i % 2;
+        if (pthread_create(&threads[i], NULL, call_at_once, &seen[i])) exit(2);
+    }
+    for (int i = 0; i < THREADS; i++) {
+        if (pthread_join(threads[i], NULL)) exit(2);
+        is_right &= seen[i].result == SLH_DONE && memcmp(seen[i].sk, sk, KEY) == 0;
+        is_right &= seen[i].first == (i % 2 ? row->level : 0) && seen[i].then == row->level;
+    }
+    return is_right;
+}
+
+static void test_threads(uint32_t best) {
+    uint8_t sk[KEY];
+    level_for(processors[NEHALEM].it);
+    if (slh_keygen(SET, seeds, N, seeds + N, N, seeds + 2 * N, N, sk, KEY) != SLH_DONE) exit(2);
+    if (pthread_barrier_init(&barrier, NULL, THREADS)) exit(2);
+    for (int i = NEHALEM; i <= SKYLAKE && processors[i].level <= best; i++) {
+        int is_right = 1;
+        for (int round = 0; round < ROUNDS; round++) is_right &= is_whole(&processors[i], sk);
+        tell("first calls at once", is_right);
+    }
+}
+
+/* The choice is made once: after it nobody asks again. */
+static void test_once(void) {
+    level_for(processors[HASWELL].it);
+    asked = 0;
+    for (int i = 0; i < 1000; i++)
+        if (slh_level() != 3 || slh_version() != SLH_VERSION_NUMBER) break;
+    tell("nobody asks twice", asked == 0);
+}
+
+static double nanoseconds_of(uint32_t (*call)(void)) {
+    double least = 1e9;
+    for (int batch = 0; batch < BATCHES; batch++) {
+        struct timespec from, to;
+        volatile uint32_t sum = 0;
+        clock_gettime(CLOCK_MONOTONIC, &from);
+        for (int i = 0; i < CALLS; i++) sum += call();
+        clock_gettime(CLOCK_MONOTONIC, &to);
+        double it = ((double)(to.tv_sec - from.tv_sec) * 1e9 + (double)(to.tv_nsec - from.tv_nsec)) / CALLS;
+        if (it < least) least = it;
+    }
+    return least;
+}
+
+static void test_time(void) {
+    static uint32_t (*const calls[])(void) = {slh_level, slh_version};
+    for (int i = 0; i < 2; i++) {
+        double it = nanoseconds_of(calls[i]);
+        printf("%s: %.1f ns\n", i ? "slh_version" : "slh_level", it);
+        tell("at most 20 ns a call", it <= MOST_NANOSECONDS);
+    }
+}
+
+int main(int argc, char **argv) {
+    uint32_t best = argc == 2 ? (uint32_t)atoi(argv[1]) : 0;
+    if (best < 2 || best > 4) return 2;
+    test_processors();
+    test_lacking();
+    test_once();
+    test_threads(best);
+    test_time();
+    printf("%u passed, %u failed\n", passed, failed);
+    return failed != 0;
+}

@@ -1,0 +1,214 @@
+# What the tests of the library for C on this machine and on others and those of packages share. tests/library_tests.sh,
+# tests/targets_tests.sh, tests/portable_tests.sh and tests/packages_tests.sh read it with `source`, after
+# tests/counts.sh, with the folders `here` and `work`.
+strict=(-Wall -Wextra -Werror -pedantic)
+
+# Whether all of these commands are there. Says of a TARGET which is not.
+can_run() {
+    local target=$1 tool
+    shift
+    for tool in "$@"; do
+        command -v "$tool" >/dev/null || { skip "$target" "there is no $tool" && return 1; }
+    done
+}
+
+# Sets `python` to one that builds wheels without a network: the first on the path, or Debian's where that has not what
+# it takes. Says of a TARGET that neither has.
+can_build_wheels() {
+    for python in python3 /usr/bin/python3; do
+        ! "$python" -c "import setuptools, venv, wheel" 2>/dev/null || return 0
+    done
+    skip "$1" "there is no Python with setuptools and wheel"
+    return 1
+}
+
+# Copies the Python package to FOLDER/bindings/python, since setuptools writes into the folder of the package.
+copy_python() {
+    mkdir -p "$1/bindings" && cp -rL "$here/bindings/python" "$1/bindings/" && cp "$here/VERSION" "$1/"
+}
+
+# Whether the processor has a feature, as /proc/cpuinfo names it. Says what is skipped where it has not.
+can_use() {
+    grep -qw "$1" /proc/cpuinfo || { skip "$1" "this processor has none" && return 1; }
+}
+
+# Whether this Node takes a module whose memory has 64-bit addresses. Says of a TARGET that it does not.
+has_memory64() {
+    node --experimental-wasm-memory64 -e '
+        process.exit(WebAssembly.validate(new Uint8Array([0, 97, 115, 109, 1, 0, 0, 0, 5, 3, 1, 4, 1])) ? 0 : 1)
+    ' 2>/dev/null || { skip "$1" "this Node has no WebAssembly with 64-bit memory" && return 1; }
+}
+
+# Runs a command, and tells by NAME whether its status was 0. Where it was not, what it prints is shown, and the status is 1.
+one() {
+    local name=$1
+    shift
+    if "$@" >"$work/said" 2>&1; then
+        tell "$name" yes
+    else
+        tail -n 20 "$work/said"
+        tell "$name" no
+        return 1
+    fi
+}
+
+# Runs a command whose last line has counts, and adds them up. One that ends otherwise has failed. What
+# it skips is shown.
+count() {
+    local name=$1 status
+    shift
+    "$@" >"$work/said" 2>&1
+    status=$?
+    add_counts $status "$work/said"
+    [ "$status" = 0 ] || tail -n 20 "$work/said"
+    grep SKIPPED "$work/said"
+    echo "$name: $(tail -n 1 "$work/said")"
+}
+
+# Whether what NM lists of a FILE, with these flags, is just the lines of standard input. What the C runtime adds to
+# each shared object is left out, and so are memcmp and bcmp, which a compiler may call as it does the three of of_c.
+has_symbols() {
+    local nm=$1 file=$2
+    shift 2
+    "$nm" "$@" "$file" | awk 'NF == 2 { print $1, $2 } NF == 3 { print $2, $3 }' | sed 's/@.*//' |
+        grep -Ev '^[a-z] |^[wW] (_ITM_|__cxa_finalize|__gmon_start__)|^U (memcmp|bcmp)$' |
+        LC_ALL=C sort >"$work/symbols"
+    diff "$work/symbols" -
+}
+
+# The proved calls; the libraries, and not the module for wasm64, have two more.
+calls() {
+    printf 'T slh_%s\n' answer_place check hash_sign hash_sign_digest hash_sign_start hash_verify hash_verify_digest \
+        keygen keygen_job keygen_jobs keygen_join lengths public refusal_name sign sign_internal sign_job sign_jobs \
+        sign_join sign_start verify verify_internal version
+}
+
+library_calls() {
+    { calls && printf 'T slh_%s\n' erase level; } | LC_ALL=C sort
+}
+
+verify_calls() {
+    printf 'T slh_%s\n' hash_verify hash_verify_digest verify version
+}
+
+of_c() {
+    printf 'U %s\n' memcpy memmove memset
+}
+
+# The kit's objcopy, or that of this machine where there is no kit.
+objcopy() {
+    local llvm
+    if llvm=$("$here/tools/kit.py" path toolchain/bin/clang 2>/dev/null); then
+        (exec -a llvm-objcopy "$llvm" "$@")
+    else
+        command objcopy "$@"
+    fi
+}
+
+# Writes an ARCHIVE to OTHER, in which names that nobody else sees are seen, and weak: a program that is linked with it
+# can bring its own.
+with_weak() {
+    local archive=$1 other=$2
+    shift 2
+    objcopy "${@/#/--globalize-symbol=}" "$archive" "$other.seen" &&
+        objcopy "${@/#/--weaken-symbol=}" "$other.seen" "$other"
+}
+
+# Makes PROGRAM of tests/library_depths.c and an ARCHIVE, by a compiler.
+measures_depths() {
+    local archive=$1 program=$2
+    shift 2
+    with_weak "$archive" "$work/weak.a" slh_clear &&
+        "$@" -std=c11 "${strict[@]}" -O1 -static "$here/tests/library_depths.c" "$work/weak.a" -o "$program"
+}
+
+# The best level of x86-64 that this processor and system have, in glibc's judgement: 2, 3 or 4.
+best_level() {
+    local level
+    for level in 4 3; do
+        ! /lib64/ld-linux-x86-64.so.2 --help | grep -q "^ *x86-64-v$level (supported" || break
+        level=2
+    done
+    echo $level
+}
+
+# Whether the program that searches for secrets finds some after each call where nothing is cleared: an ARCHIVE with
+# another slh_clear, compiled by a compiler, and run by RUN, for the set 128f.
+finds_what_is_left() {
+    local archive=$1 run=$2
+    shift 2
+    {
+        printf '#include <stddef.h>\n#include <stdint.h>\n'
+        printf 'uint32_t slh_clear(uint32_t result, size_t depth, uint32_t vectors);\n'
+        printf 'uint32_t slh_clear(uint32_t result, size_t depth, uint32_t vectors) {\n'
+        printf '    (void)depth, (void)vectors;\n    return result;\n}\n'
+    } >"$work/clears_nothing.c"
+    with_weak "$archive" "$work/weak.a" slh_clear &&
+        "$@" -std=c11 "${strict[@]}" -O2 -static -o "$work/leaves" "$here/tests/library_erase.c" \
+            "$work/clears_nothing.c" "$work/weak.a" || return
+    $run "$work/leaves" 2 >"$work/left"
+    [ $? = 1 ] && grep -qx '0 passed, [1-9][0-9]* failed' "$work/left" || { cat "$work/left" && return 1; }
+}
+
+# Where the code of a TARGET aligns its stack to 32 or 64 bytes, a call is measured from 2 or 4 places.
+shifts_of() {
+    case "$1" in
+    x86-64-v3) echo 2 ;;
+    x86-64-v4) echo 4 ;;
+    *) echo 1 ;;
+    esac
+}
+
+# Writes image, image.sig and public_key.h into $work: a message of the vectors that OpenSSL signed in the pre-hash form
+# with SHA2-256, under the empty context.
+make_image() {
+    python3 - "$here/vectors/slh-dsa-sha2-128f.json" "$work" <<'END'
+import json, pathlib, sys
+wanted = dict(kind="sign", form="SHA2-256", context="")
+test = next(it for it in json.loads(pathlib.Path(sys.argv[1]).read_text()) if wanted.items() <= it.items())
+work, pk = pathlib.Path(sys.argv[2]), bytes.fromhex(test["sk"])[32:]
+(work / "image").write_bytes(bytes.fromhex(test["message"]))
+(work / "image.sig").write_bytes(bytes.fromhex(test["signature"]))
+(work / "public_key.h").write_text(",".join(str(it) for it in pk) + "\n")
+END
+}
+
+# Compiles the example that verifies over an ARCHIVE, and runs it by RUN: an image of the vectors is valid, a damaged one
+# invalid (1), and a signature that is too long, or a file that is missing, is refused (2). With a public key that has
+# another length, as the text of a key file, it does not compile.
+verify_example() {
+    local of=$1 archive=$2 run=$3
+    shift 3
+    make_image
+    one "the example that verifies compiles on $of" "$@" -std=c99 "${strict[@]}" -I "$work" \
+        "$here/examples/verify_image.c" "$archive" -o "$work/verify_image"
+    one "the example that verifies on $of" judges_images "$run" "$work/verify_image"
+    one "the example that verifies takes just a public key's bytes on $of" takes_whole_keys "$@"
+}
+
+# Whether the example that verifies compiles with the public key of the image, and not where a byte of it is missing or
+# another follows.
+takes_whole_keys() {
+    local compile=("$@" -std=c99 -I "$work/other" -c "$here/examples/verify_image.c" -o "$work/other/verify_image.o")
+    mkdir -p "$work/other"
+    cp "$work/public_key.h" "$work/other/" && "${compile[@]}" || return
+    cut -d , -f 2- <"$work/public_key.h" >"$work/other/public_key.h" && ! "${compile[@]}" || return
+    sed 's/^/7,/' "$work/public_key.h" >"$work/other/public_key.h" && ! "${compile[@]}"
+}
+
+judges_images() {
+    cp "$work/image" "$work/damaged" && printf x >>"$work/damaged" &&
+        cp "$work/image.sig" "$work/long.sig" && printf x >>"$work/long.sig" &&
+        says valid 0 "$@" "$work/image" "$work/image.sig" && says invalid 1 "$@" "$work/damaged" "$work/image.sig" &&
+        says "" 2 "$@" "$work/image" "$work/long.sig" && says "" 2 "$@" "$work/none" "$work/image.sig" &&
+        says "" 2 "$@" "$work/image" "$work/none" && says "" 2 "$@" &&
+        "$@" "$work/image" "$work/none" 2>&1 | grep -qF "$work/none"
+}
+
+# Whether a command prints just a LINE and ends with a STATUS.
+says() {
+    local line=$1 status=$2 found
+    shift 2
+    found=$("$@")
+    [ $? = "$status" ] && [ "$found" = "$line" ]
+}

@@ -1,0 +1,18 @@
+/* What tests/provider_calls.c counts in a process, and what a test may ask it for. */
+#ifndef PROVIDER_CALLS_H
+#define PROVIDER_CALLS_H
+
+#include <stdatomic.h>
+
+struct provider_calls {
+    /* counts: slh_keygen, slh_check, signatures, verdicts, slh_sign_job, and RAND_priv_bytes_ex */
+    atomic_uint keys, checks, signatures, verdicts, jobs, draws;
+    /* threads that did a job, and those of them that signals may go to */
+    atomic_uint threads, open_threads;
+    /* which job of all gets a wrong bit into its answer; whether drawing bytes and starting threads fail */
+    atomic_uint wrong_job, fails_to_draw, fails_to_start;
+};
+
+extern struct provider_calls provider_calls;
+
+#endif

@@ -1,0 +1,508 @@
+#!/usr/bin/env bash
+# Tests the provider `slh` for OpenSSL (bindings/openssl, docs/OPENSSL.md) beside OpenSSL's default provider. For each
+# of the six sets one of them makes keys, requests, certificates, revocations, CMS and PKCS #12 by the program `openssl`
+# and the other judges them. The vectors of other implementations and all refusals go through EVP. Damaged files are
+# tried, the lines of docs/OPENSSL.md as they stand, 1,000 loads under valgrind, and what the module exports.
+#
+# usage: tests/provider_tests.sh [--few] [--dist DIST | PREFIX]
+#
+# PREFIX is a folder that tools/library.sh has installed into; the module is built into it, too. Without it both are
+# installed for this, with --dist of a release. With --few the module and the calls through EVP alone are tried. The
+# command is the one that OPENSSL names, else `openssl-3.5`, which tools/setup.sh installs, or `openssl`. Where it has
+# no SLH-DSA, or its headers are missing, all is skipped. What needs clang, valgrind or an earlier OpenSSL is skipped in
+# the same way. The last line has the counts, and the status is 0 where nothing failed.
+set -u
+here=$(cd "$(dirname "${BASH_SOURCE[0]}")/.." && pwd)
+work=$(mktemp -d)
+trap 'rm -rf "$work"' EXIT
+source "$here/tests/counts.sh"
+source "$here/tests/library_parts.sh"
+take_options "$@"
+openssl=${OPENSSL:-$(command -v openssl-3.5 || echo openssl)}
+
+# The command's folder may have headers, libraries and a C library of its own, as tools/setup.sh unpacks
+# them: programs are run by its loader then.
+find_openssl() {
+    local folder
+    "$openssl" list -signature-algorithms 2>/dev/null | grep -q SLH-DSA-SHA2-128f || return
+    folder=$(dirname "$(readlink -f "$(command -v "$openssl")")")
+    libraries=$folder/lib run=() headers=()
+    if [ -f "$folder/include/openssl/opensslv.h" ]; then
+        export OPENSSL_PREFIX=$folder
+        headers=(-I "$folder/include") with_openssl=(-L "$folder/lib" -lcrypto -Wl,--allow-shlib-undefined)
+        run=("$folder/lib/ld-linux-x86-64.so.2" --library-path "$folder/lib")
+    else
+        pkg-config --atleast-version=3.5 libcrypto 2>/dev/null || return
+        headers=($(pkg-config --cflags libcrypto)) with_openssl=($(pkg-config --libs libcrypto))
+    fi
+}
+
+if ! find_openssl; then
+    skip "the provider for OpenSSL" "$openssl has no SLH-DSA, or its headers are missing"
+    end_counts
+    exit
+fi
+if [ ${#words[@]} = 0 ]; then
+    prefix=$work/prefix
+    one "the library is installed" "$here/tools/library.sh" ${release:+--dist "$release"} "$prefix"
+else
+    prefix=$(realpath "${words[0]}")
+fi
+modules=$prefix/lib/ossl-modules
+unset OPENSSL_CONF OPENSSL_MODULES
+
+# ---- the module, and EVP ----
+
+compiles_without_warnings() {
+    local source
+    for source in "$here"/bindings/openssl/*.c; do
+        "$1" -std=c11 -O2 -fPIC "${strict[@]}" -I "$prefix/include" "${headers[@]}" -c "$source" -o "$work/object" ||
+            return
+    done
+}
+
+# What the module has for others: OSSL_provider_init alone.
+exports_one() {
+    [ "$(nm -D --defined-only "$modules/slh.so" | awk '{ print $2, $3 }')" = "T OSSL_provider_init" ]
+}
+
+# The provider stands in 600 lines of C.
+is_small() {
+    [ "$(cat "$here"/bindings/openssl/*.[ch] | wc -l)" -le 600 ]
+}
+
+# Nothing can be written but contexts: what a compiler adds to each module has 8 bytes in .data, and in .bss.
+has_no_state() {
+    [ "$(size -A "$modules/slh.so" | awk '$1 == ".data" || $1 == ".bss" { sum += $2 } END { print sum + 0 }')" -le 16 ]
+}
+
+builds_programs() {
+    cc -std=gnu11 -Wall -Wextra -Werror -O2 -shared -fPIC -pthread -I "$prefix/include" "$here/tests/provider_calls.c" \
+        -o "$work/calls.so" && cc -std=c11 "${strict[@]}" -O2 -pthread "${headers[@]}" "$here/tests/provider_tests.c" \
+        "$work/calls.so" "${with_openssl[@]}" -o "$work/tests"
+}
+
+# The same tests under sanitizers, which see the provider and the program, and not libslh.
+passes_under_sanitizers() {
+    local sane=$work/sane flags="-g -fsanitize=address,undefined -fno-sanitize-recover=undefined"
+    mkdir "$sane" && cp -a "$prefix"/{include,lib} "$sane/" &&
+        CFLAGS="$flags -Wl,-z,undefs" "$here/bindings/openssl/build.sh" "$sane" &&
+        cc $flags -std=c11 -O1 -pthread "${headers[@]}" "$here/tests/provider_tests.c" "$work/calls.so" \
+            "${with_openssl[@]}" -o "$work/sane_tests" && "${run[@]}" "$work/sane_tests" calls "$sane/lib/ossl-modules"
+}
+
+# The vectors as lines for the program. Pre-hash forms go as the internal form: M' is made here (FIPS 205, 10.2.2).
+vector_lines() {
+    python3 - "$here"/vectors/s*.json <<'END'
+import hashlib, json, sys
+OIDS = {"224": 4, "256": 1, "384": 2, "512": 3, "512/224": 5, "512/256": 6}
+def encoded(it):
+    context = bytes.fromhex(it["context"]) if "context" in it else b""
+    if it["form"] in ("pure", "internal"):
+        return ["1" if it["form"] == "pure" else "0", it["message"], context.hex()]
+    if len(context) > 255:
+        return None
+    name = it["form"].removeprefix("SHA2-")
+    digest = hashlib.new("sha" + name.replace("/", "_"), bytes.fromhex(it["message"])).digest()
+    oid = bytes.fromhex("06096086480165030402") + bytes([OIDS[name]])
+    return ["0", (bytes([1, len(context)]) + context + oid + digest).hex(), ""]
+for path in sys.argv[1:]:
+    for it in json.load(open(path)):
+        if it["kind"] == "keygen":
+            fields = [it["skSeed"] + it["skPrf"] + it["pkSeed"], it["sk"]]
+        elif not (middle := encoded(it)):
+            continue
+        elif it["kind"] == "sign":
+            fields = [it["sk"], *middle, it["random"], it.get("signature", "")]
+        else:
+            fields = [it["pk"], *middle, it["signature"], str(int(it["valid"]))]
+        print(it["kind"], it["set"], *[field or "-" for field in fields])
+END
+}
+
+has_the_vectors_values() {
+    vector_lines >"$work/lines" && [ "$(wc -l <"$work/lines")" -gt 200 ] || return
+    "${run[@]}" "$work/tests" vectors "$modules" <"$work/lines" >"$work/vectors"
+    local status=$?
+    tail -n 3 "$work/vectors"
+    [ "$status" = 0 ] && [ "$(tail -n 1 "$work/vectors")" = "$(wc -l <"$work/lines") passed, 0 failed" ]
+}
+
+# A copy of libcrypto for this system's C library, into $work/weak: valgrind runs no loader whose symbols it can't read.
+# What it needs of newer versions of the C library is marked as weak, and the one function comes from weak.so.
+weaken() {
+    mkdir -p "$work/weak" && cp -a "$libraries"/lib{z,zstd}.so* "$work/weak/" &&
+        python3 - "$libraries/libcrypto.so.3" "$work/weak/libcrypto.so.3" <<'END' || return
+import pathlib, struct, sys
+data = bytearray(pathlib.Path(sys.argv[1]).read_bytes())
+at, size, count = struct.unpack_from("<Q", data, 0x28)[0], *struct.unpack_from("<HH", data, 0x3A)
+sections = [struct.unpack_from("<IIQQQQIIQQ", data, at + i * size) for i in range(count)]
+for section in sections:
+    need = section[4] if section[1] == 0x6FFFFFFE else None
+    while need is not None:
+        _, count, _, first, following = struct.unpack_from("<HHIII", data, need)
+        version = need + first
+        for _ in range(count):
+            _, flags, _, name, step = struct.unpack_from("<IHHII", data, version)
+            if data[sections[section[6]][4] + name :].startswith(b"GLIBC_2.38\0"):
+                struct.pack_into("<H", data, version + 4, flags | 2)
+            version += step
+        need = need + following if following else None
+pathlib.Path(sys.argv[2]).write_bytes(data)
+END
+    echo 'GLIBC_2.38 { global: __isoc23_strtol; local: *; };' >"$work/weak.map"
+    printf '%s\n' '#include <stdlib.h>' 'long __isoc23_strtol(const char *text, char **end, int base);' \
+        'long __isoc23_strtol(const char *text, char **end, int base) { return strtol(text, end, base); }' |
+        cc -shared -fPIC -x c - -Wl,--version-script="$work/weak.map" -o "$work/weak/weak.so"
+}
+
+# The loader reads $ORIGIN in words of eight bytes, which valgrind takes for a fault. All that was allocated is freed.
+loads_1000_times() {
+    local preload=() tool=(valgrind --leak-check=full --error-exitcode=9 --suppressions="$work/loader.supp")
+    printf '{\n loader\n Memcheck:Addr8\n fun:strncmp\n fun:is_dst\n}\n' >"$work/loader.supp"
+    if [ ${#run[@]} -gt 0 ]; then
+        weaken || return
+        preload=(LD_PRELOAD="$work/weak/weak.so" LD_LIBRARY_PATH="$work/weak")
+    fi
+    env "${preload[@]}" "${tool[@]}" "$work/tests" loads "$modules" 1000 2>"$work/valgrind"
+    local status=$?
+    tail -n 12 "$work/valgrind"
+    [ "$status" = 0 ] && grep -q 'no leaks are possible' "$work/valgrind"
+}
+
+# ---- the command `openssl` ----
+
+chosen=(-provider-path "$modules" -provider default -provider slh -propquery '?provider=slh')
+
+# The command with our provider and with the default one alone. What ours calls is counted in $work/calls.
+ours() { env LD_PRELOAD="$work/calls.so" SLH_CALLS="$work/calls" "$openssl" "$1" "${chosen[@]}" "${@:2}"; }
+theirs() { "$openssl" "$@"; }
+
+# How many signatures were made, or what else a line of $work/calls counts, since it was emptied.
+counted() {
+    awk -v what="$1" '{ for (i = 1; i < NF; i += 2) if ($i == what) it += $(i + 1) } END { print it + 0 }' "$work/calls"
+}
+
+write_config() {
+    cat >"$work/ca.cnf" <<'END'
+[req]
+distinguished_name = name
+[name]
+[root]
+basicConstraints = critical, CA:true
+keyUsage = critical, keyCertSign, cRLSign
+[ca]
+default_ca = issuer
+[issuer]
+database = index.txt
+new_certs_dir = .
+rand_serial = yes
+default_md = default
+default_days = 30
+default_crl_days = 30
+policy = policy
+x509_extensions = leaf
+[policy]
+commonName = supplied
+[leaf]
+basicConstraints = critical, CA:false
+END
+}
+
+# All that an issuer makes, by MAKER, in the folder of this name: with our provider 8 signatures.
+makes_all() {
+    local by=$1
+    mkdir -p "$by" && cd "$by" && : >index.txt && : >"$work/calls" && echo "Dear reader," >letter &&
+        "$by" genpkey -algorithm "$set" -out root.key && "$by" genpkey -algorithm "$set" -out leaf.key &&
+        "$by" req -config ../../ca.cnf -x509 -new -key root.key -subj /CN=root -extensions root -out root.pem &&
+        "$by" req -config ../../ca.cnf -new -key leaf.key -subj /CN=leaf -out leaf.csr &&
+        "$by" ca -config ../../ca.cnf -batch -cert root.pem -keyfile root.key -in leaf.csr -out leaf.pem -notext &&
+        "$by" ca -config ../../ca.cnf -gencrl -cert root.pem -keyfile root.key -out root.crl &&
+        "$by" cms -sign -binary -nodetach -md sha512 -in letter -signer leaf.pem -inkey leaf.key -outform DER \
+            -out letter.cms &&
+        "$by" pkcs12 -export -inkey leaf.key -in leaf.pem -passout pass:secret -out leaf.p12 &&
+        "$by" pkeyutl -sign -rawin -inkey leaf.key -in letter -pkeyopt deterministic:1 -out letter.sig &&
+        "$by" pkey -in leaf.key -aes256 -passout pass:secret -out locked.key &&
+        "$by" pkey -in leaf.key -pubout -out leaf.pub || return
+    [ "$by" = theirs ] && return
+    "$by" x509 -req -in leaf.csr -CA root.pem -CAkey root.key -days 30 -out other.pem &&
+        "$by" dgst -sign leaf.key -out letter.dgst letter && [ "$(counted keys) $(counted signatures)" = "2 8" ]
+}
+
+# Whether JUDGE takes all of it, and reads the same keys.
+judges_all() {
+    local by=$1
+    "$by" verify -CAfile root.pem -check_ss_sig root.pem &&
+        "$by" verify -CAfile root.pem -crl_check -CRLfile root.crl leaf.pem &&
+        "$by" req -verify -noout -in leaf.csr && "$by" crl -CAfile root.pem -in root.crl -noout &&
+        "$by" cms -verify -binary -inform DER -in letter.cms -CAfile root.pem -out read && cmp letter read &&
+        "$by" pkcs12 -in leaf.p12 -passin pass:secret -nodes -nocerts | "$by" pkey | cmp - leaf.key &&
+        "$by" pkey -in locked.key -passin pass:secret | cmp - leaf.key &&
+        "$by" pkey -in leaf.key -pubout | cmp - leaf.pub &&
+        "$by" pkey -in leaf.key -text | cmp - <(theirs pkey -in leaf.key -text) &&
+        "$by" pkeyutl -verify -rawin -pubin -inkey leaf.pub -in letter -sigfile letter.sig || return
+    [ ! -f letter.dgst ] || "$by" dgst -verify leaf.pub -signature letter.dgst letter || return
+    [ ! -f other.pem ] || "$by" verify -CAfile root.pem other.pem
+}
+
+# One provider makes, the other judges. The deterministic signature is the same bytes by both.
+goes_over() {
+    local maker=$1 judge=$2
+    mkdir -p "$work/$set" && cd "$work/$set" && makes_all "$maker" && : >"$work/calls" && judges_all "$judge" || return
+    if [ "$judge" = ours ]; then
+        [ "$(counted verdicts)" -ge 8 ] || return
+    else
+        [ "$(counted verdicts)" = 0 ] || return
+        cd "$work/$set/ours"
+    fi
+    ours pkeyutl -sign -rawin -inkey leaf.key -in letter -pkeyopt deterministic:1 -pkeyopt workers:2 -out same.sig &&
+        cmp letter.sig same.sig
+}
+
+# Whether our provider makes just so many of 1 deterministic 128f signatures, and they are OpenSSL's: COUNT COMMAND.
+signs_known() {
+    local count=$1
+    shift
+    : >"$work/calls"
+    env LD_PRELOAD="$work/calls.so" SLH_CALLS="$work/calls" "$@" pkeyutl "${added[@]}" -sign -rawin \
+        -inkey "$fast/leaf.key" -in "$fast/letter" -pkeyopt deterministic:1 -out "$work/known.sig" &&
+        cmp "$fast/letter.sig" "$work/known.sig" && [ "$(counted signatures)" = "$count" ]
+}
+
+# The Nth block of lines that stands under a heading of docs/OPENSSL.md, for this prefix.
+block_of() {
+    awk -v heading="## $1" -v wanted="$2" '
+        /^## / { is_here = $0 == heading; block = 0 }
+        is_here && /^    / && !was_block { block++ }
+        is_here && /^    / && block == wanted { print substr($0, 5) }
+        { was_block = /^    / || (was_block && /^$/) }' "$here/docs/OPENSSL.md" | sed "s|/home/me/slh|$prefix|g"
+}
+
+# Runs lines of bash in the folder `page`, where `openssl` is the command, under the configuration of the page.
+run_lines() {
+    mkdir -p "$work/page/bin" && ln -sf "$(command -v "$openssl")" "$work/page/bin/openssl" &&
+        (cd "$work/page" && PATH=$PWD/bin:$PATH bash -e -c "$1")
+}
+
+is_chosen_by_query() {
+    local added=("${chosen[@]}")
+    signs_known 1 "$openssl"
+}
+
+is_chosen_by_configuration() {
+    local added=()
+    block_of "Three ways to choose it" 2 >"$work/slh.cnf" && signs_known 1 env OPENSSL_CONF="$work/slh.cnf" "$openssl"
+}
+
+# Named first, it needs no query. Named behind the default provider, and without one, it is never called.
+is_chosen_by_order() {
+    local added=()
+    block_of "Three ways to choose it" 2 | sed '/alg_section/d; /^\[algorithms/d; /^default_properties/d; /^default = /d
+        s/^slh = .*/&\ndefault = default_section/' >"$work/order.cnf" &&
+        signs_known 1 env OPENSSL_CONF="$work/order.cnf" "$openssl" || return
+    added=(-provider-path "$modules" -provider slh -provider default)
+    signs_known 1 "$openssl" || return
+    added=(-provider-path "$modules" -provider default -provider slh)
+    signs_known 0 "$openssl"
+}
+
+# The page's first block is a command.
+is_chosen_as_the_page_says() {
+    run_lines "$(block_of "Three ways to choose it" 1)" && theirs pkey -in "$work/page/key.pem" -noout -check
+}
+
+# The section of the configuration sets workers and twice: by `twice` each job is done two times.
+configuration_counts() {
+    local added=() line
+    for line in "workers = 4" "twice = 1" "workers = 64"; do
+        sed "s/^workers = .*/$line/" "$work/slh.cnf" >"$work/set.cnf"
+        signs_known 1 env OPENSSL_CONF="$work/set.cnf" "$openssl" && [ "$(counted jobs)" -ge 50 ] || return
+    done
+    sed "s/^workers = .*/workers = 1/" "$work/slh.cnf" >"$work/set.cnf"
+    signs_known 1 env OPENSSL_CONF="$work/set.cnf" "$openssl" && [ "$(counted jobs)" = 0 ]
+}
+
+# With a number of another kind nothing is signed, by the default provider neither; verifying goes on.
+configuration_is_checked() {
+    local added=() line
+    for line in "workers = 0" "workers = 65" "workers = -1" "workers = 4x" "workers = four" "workers = +1" \
+        "workers = 99999999999999999999" "twice = 2" "twice = yes"; do
+        sed "s/^workers = .*/$line/" "$work/slh.cnf" >"$work/set.cnf"
+        rm -f "$work/known.sig"
+        ! signs_known 1 env OPENSSL_CONF="$work/set.cnf" "$openssl" 2>"$work/err" && [ ! -s "$work/known.sig" ] &&
+            [ "$(counted signatures)" = 0 ] && grep -q "slh: in the configuration workers is" "$work/err" &&
+            OPENSSL_CONF=$work/set.cnf "$openssl" pkeyutl -verify -rawin -pubin -inkey "$fast/leaf.pub" \
+                -in "$fast/letter" -sigfile "$fast/letter.sig" || return
+    done
+}
+
+# The lines of the issuing CA as they stand; what they made is judged by an unchanged OpenSSL.
+issues_as_the_page_says() {
+    block_of "Three ways to choose it" 2 >"$work/slh.cnf" && rm -rf "$work/page" && mkdir "$work/page" &&
+        cp "$here/examples/ca.cnf" "$work/page/ca.cnf" && : >"$work/calls" &&
+        echo "Dear reader," >"$work/page/letter.txt" &&
+        LD_PRELOAD="$work/calls.so" SLH_CALLS="$work/calls" run_lines "$(block_of "An issuing CA in ten lines" 1)" &&
+        [ "$(counted keys) $(counted signatures)" = "2 5" ] || return
+    : >"$work/calls"
+    LD_PRELOAD="$work/calls.so" SLH_CALLS="$work/calls" run_lines "$(block_of "An issuing CA in ten lines" 2)" &&
+        [ "$(counted verdicts)" = 0 ] && cmp "$work/page/letter.txt" "$work/page/read.txt"
+}
+
+# A copy of a file with a byte changed: AT from the end, FILE.
+with_a_wrong_byte() {
+    python3 -c 'import sys
+data = bytearray(open(sys.argv[2], "rb").read())
+data[-int(sys.argv[1])] ^= 1
+sys.stdout.buffer.write(data)' "$1" "$2"
+}
+
+# Bytes from the end are in the signature, and those before its 17,088 bytes in what is signed. Each copy is still a
+# certificate, whose signature is refused.
+damaged_certificates_are_refused() {
+    local at
+    cd "$fast" && ours x509 -in leaf.pem -outform DER -out leaf.der && ours verify -CAfile root.pem leaf.pem || return
+    for at in 1 8000 17000 17200; do
+        with_a_wrong_byte $at leaf.der | ours x509 -inform DER -out bad.pem || return
+        ! ours verify -CAfile root.pem bad.pem 2>err || return
+        cat err && grep -q 'certificate signature failure' err || return
+    done
+}
+
+damaged_messages_are_refused() {
+    local at
+    cd "$fast" || return
+    for at in 1 17000 8000 17200; do
+        with_a_wrong_byte $at letter.cms >bad.cms
+        ! ours cms -verify -binary -inform DER -in bad.cms -CAfile root.pem -out read || return
+    done
+    for at in 1 8000 17088; do
+        with_a_wrong_byte $at letter.sig >bad.sig
+        ! ours pkeyutl -verify -rawin -pubin -inkey leaf.pub -in letter -sigfile bad.sig || return
+    done
+    head -c 17087 letter.sig >short.sig && { cat letter.sig && printf x; } >long.sig
+    ! ours pkeyutl -verify -rawin -pubin -inkey leaf.pub -in letter -sigfile short.sig &&
+        ! ours pkeyutl -verify -rawin -pubin -inkey leaf.pub -in letter -sigfile long.sig &&
+        ! ours dgst -verify leaf.pub -signature letter.dgst letter.sig
+}
+
+# Files of keys that were cut, that have another length inside, or are of another set or of none; and a key with a wrong
+# byte in its seed, whose signatures its public key does not take.
+damaged_keys_are_refused() {
+    cd "$fast" && ours pkey -in leaf.key -outform DER -out key.der || return
+    head -c 80 key.der >cut.der
+    python3 - key.der <<'END' || return
+import sys
+data = open(sys.argv[1], "rb").read()
+at = data.index(bytes.fromhex("0440"))
+def der(tag, body): return bytes([tag, len(body)]) + body
+inside = data[2:at]
+open("short.der", "wb").write(der(0x30, inside + der(4, data[at + 2 : -1])))
+open("half.der", "wb").write(der(0x30, inside + der(4, data[at + 2 : at + 34])))
+open("long.der", "wb").write(der(0x30, inside + der(4, data[at + 2 :] + b"x")))
+open("other.der", "wb").write(data.replace(bytes.fromhex("0304031504"), bytes.fromhex("0304031304")))
+open("set.der", "wb").write(data.replace(bytes.fromhex("0304031504"), bytes.fromhex("0304031804")))
+END
+    local it
+    ours pkeyutl -sign -rawin -inkey key.der -keyform DER -in letter -out good.sig || return
+    for it in cut short half long other set; do
+        [ -s $it.der ] || return
+        ! ours pkeyutl -sign -rawin -inkey $it.der -keyform DER -in letter -out bad.sig || return
+    done
+    sed '2s/./*/9' leaf.key >bad.key && ! ours pkey -in bad.key -noout && sed 3d leaf.key >bad.key &&
+        ! ours pkey -in bad.key -noout && with_a_wrong_byte 60 key.der >wrong.der &&
+        ours pkeyutl -sign -rawin -inkey wrong.der -keyform DER -in letter -out bad.sig &&
+        ! ours pkeyutl -verify -rawin -pubin -inkey leaf.pub -in letter -sigfile bad.sig &&
+        ! ours pkeyutl -sign -rawin -inkey wrong.der -keyform DER -in letter -pkeyopt workers:2 -out bad.sig
+}
+
+# A revoked certificate is found by the list that our provider signed.
+revoked_is_refused() {
+    cd "$fast" && ours ca -config "$work/ca.cnf" -cert root.pem -keyfile root.key -revoke leaf.pem &&
+        ours ca -config "$work/ca.cnf" -gencrl -cert root.pem -keyfile root.key -out revoked.crl &&
+        theirs verify -CAfile root.pem leaf.pem &&
+        ! theirs verify -CAfile root.pem -crl_check -CRLfile revoked.crl leaf.pem 2>err &&
+        grep -q 'certificate revoked' err
+}
+
+# CMS without signed attributes is made by neither provider. With SIGN_INIT in the table ours would sign a digest.
+no_digest_is_signed() {
+    local by
+    cd "$fast" || return
+    for by in ours theirs; do
+        ! "$by" cms -sign -binary -nodetach -noattr -md sha512 -in letter -signer leaf.pem -inkey leaf.key \
+            -outform DER -out digest.cms ||
+            theirs cms -verify -binary -inform DER -in digest.cms -CAfile root.pem -out read || return
+        ! "$by" dgst -sha256 -sign leaf.key -out bad.sig letter || return
+        ! "$by" pkeyutl -sign -inkey leaf.key -in letter -out bad.sig -pkeyopt digest:sha256 || return
+    done
+}
+
+# An earlier OpenSSL loads nothing, and says why.
+earlier_is_refused() {
+    local earlier=$1
+    ! "$earlier" list -providers -provider-path "$modules" -provider slh 2>"$work/err" &&
+        grep -q 'it needs OpenSSL 3.5 or later' "$work/err"
+}
+
+speeds() {
+    : >"$work/calls"
+    ours speed -seconds 1 SLH-DSA-SHA2-128f && [ "$(counted signatures)" -gt 5 ] && [ "$(counted verdicts)" -gt 5 ]
+}
+
+# Whether a compiler or another tool is there, else what is skipped is told: NAME TOOL.
+has_tool() {
+    command -v "$2" >/dev/null || { skip "$1" "there is no $2" && return 1; }
+}
+
+count_module() {
+    local compiler
+    for compiler in gcc clang; do
+        has_tool "warnings of $compiler" $compiler || continue
+        one "no warning by $compiler" compiles_without_warnings $compiler
+    done
+    one "it exports OSSL_provider_init alone" exports_one
+    one "it keeps nothing outside of its contexts" has_no_state
+    one "it has at most 600 lines" is_small
+    count "through EVP" "${run[@]}" "$work/tests" calls "$modules"
+    one "through EVP, under sanitizers" passes_under_sanitizers
+    one "the vectors of other implementations" has_the_vectors_values
+    ! has_tool "1,000 loads" valgrind || one "1,000 loads leave nothing allocated" loads_1000_times
+}
+
+count_commands() {
+    for set in SLH-DSA-SHA2-{128s,128f,192s,192f,256s,256f}; do
+        one "$set: what slh makes, the default provider takes" goes_over ours theirs
+        one "$set: what the default provider makes, slh takes" goes_over theirs ours
+    done
+    one "it is chosen as the page says" is_chosen_as_the_page_says
+    one "it is chosen by a query" is_chosen_by_query
+    one "it is chosen by a configuration" is_chosen_by_configuration
+    one "it is chosen by its place, and else not called" is_chosen_by_order
+    one "the configuration sets workers and twice" configuration_counts
+    one "a configuration with another number is refused" configuration_is_checked
+    one "the issuing CA of the page" issues_as_the_page_says
+    one "damaged certificates are refused" damaged_certificates_are_refused
+    one "damaged messages and signatures are refused" damaged_messages_are_refused
+    one "damaged keys are refused" damaged_keys_are_refused
+    one "a revoked certificate is refused" revoked_is_refused
+    one "no digest is signed as a message" no_digest_is_signed
+    one "speed runs" speeds
+    if openssl version 2>/dev/null | grep -Eq '^OpenSSL 3\.[0-4]\.'; then
+        one "an earlier OpenSSL refuses it" earlier_is_refused openssl
+    else
+        skip "an earlier OpenSSL" "openssl is none"
+    fi
+}
+
+fast=$work/SLH-DSA-SHA2-128f/ours
+write_config
+one "the module is built" "$here/bindings/openssl/build.sh" "$prefix"
+one "programs are built" builds_programs
+if [ "$failed" = 0 ] && [ $few = yes ]; then
+    one "it exports OSSL_provider_init alone" exports_one
+    count "through EVP" "${run[@]}" "$work/tests" calls "$modules"
+elif [ "$failed" = 0 ]; then
+    count_module
+    count_commands
+fi
+end_counts

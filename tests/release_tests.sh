@@ -1,0 +1,640 @@
+#!/usr/bin/env bash
+# Tries a release as somebody has it who has no kit: ./slh and tools/library.sh over a copy of this repository, with a
+# dist/ that tools/release.sh makes for this. README's commands sign and verify, LIBRARY's two link a C program, also in
+# a root in which there is no kit; damaged and missing files are neither run nor installed; other sources are told. The
+# builds for all levels of processors give the values of vectors/. What is made of a release is tried over it: the
+# packages of bindings/, Debian packages, the page that verifies, the examples for much work, keys to and from OpenSSL,
+# and the provider for it. Before all that it looks whether dist/ is what the sources give, as tools/release.sh --check
+# does.
+#
+# usage: tests/release_tests.sh [--few] [--dist DIST]
+#
+# It stands on what `rt ci`, or `rt check` in crates/slh and crates/slh_c, has built, and needs rt for that. With --dist
+# the release DIST is taken instead: nothing is built or compared, and what is made of a release is left to the other
+# scripts. With --few README's and LIBRARY's commands alone are run. It needs a C compiler as cc, objdump, openssl, git
+# and unshare. Where no other root can be made, that is skipped, and so are the builds for a level that the processor
+# lacks. The last line has the counts, and the status is 0 where nothing failed.
+set -u
+here=$(cd "$(dirname "${BASH_SOURCE[0]}")/.." && pwd)
+source "$here/tests/counts.sh"
+source "$here/tests/library_parts.sh"
+take_options "$@"
+work=$(mktemp -d)
+trap 'rm -rf "$work"' EXIT
+copy=$work/copy without_rt=/usr/bin:/bin stub=$work/stub levels=(x86-64-v2 x86-64-v3 x86-64-v4)
+
+# A fresh copy of the repository, with the release.
+copy_anew() {
+    rm -rf "$copy"
+    mkdir -p "$copy"
+    tar -C "$here" --exclude=./.git --exclude=./dist --exclude=out -cf - . | tar -C "$copy" -xf -
+    cp -r "$work/made" "$copy/dist"
+}
+
+# Runs a command in the copy where rt is not on the path, and leaves what it says in $work/out and $work/err.
+bare() {
+    (cd "$copy" && env -i HOME="$work" PATH="$without_rt" "$@") >"$work/out" 2>"$work/err"
+}
+
+# The same where `rt` is a stub, which notes that it was called, and fails.
+stubbed() {
+    rm -f "$work/called"
+    without_rt=$stub:/usr/bin:/bin bare "$@"
+}
+
+# README's commands as they stand there, and those of LIBRARY and FIRMWARE, whose C programs then sign a file and
+# verify an image.
+signs_and_links() {
+    cat <<'END'
+set -e
+cd "$(dirname "$0")"
+END
+    sed -n '/^## Sign and verify$/,/^## /s/^    //p' "$here/README.md"
+    cat <<'END'
+./slh sign --key secret.key --message letter.txt --workers 4 > same.sig
+./slh sign --key secret.key --message letter.txt | cmp - same.sig
+tools/library.sh prefix
+cc examples/sign_file.c -I prefix/include prefix/lib/libslh.a -o sign_file
+./sign_file README.md
+cp README.md image
+./slh sign --key secret.key --prehash SHA2-256 --message image > image.sig
+sed -n 3p public.key | xxd -r -p | xxd -i > public_key.h
+cc examples/verify_image.c -I . -I prefix/include prefix/lib/libslh_verify.a -o verify_image
+./verify_image image image.sig
+END
+}
+
+# Whether these commands did what they have to, without a word on standard error.
+has_signed() {
+    diff "$work/out" - <<END && [ ! -s "$work/err" ] && [ -s "$copy/README.md.sig" ]
+valid
+installed in $1/prefix: the release $(cat "$here/VERSION")
+valid
+valid
+END
+}
+
+signs_in_the_copy() {
+    copy_anew
+    signs_and_links >"$copy/try.sh"
+    bare bash try.sh && has_signed "$copy"
+}
+
+# Whether a root without the kit can be made here.
+can_unshare() { unshare -rm true 2>/dev/null; }
+
+# Runs try.sh of the copy in another root, which has this system's programs, and the copy as /copy. Nothing else of this
+# one.
+in_another_root() {
+    local root=$work/root it
+    mkdir -p "$root"/{usr,etc,var,dev,proc,tmp,copy}
+    for it in /bin /sbin /lib /lib32 /lib64; do
+        [ ! -e "$it" ] || { [ -L "$it" ] && cp -a "$it" "$root$it"; } || mkdir -p "$root$it"
+    done
+    timeout 600 unshare -rm bash -c '
+        for it in /usr /etc /var /dev /proc /bin /sbin /lib /lib32 /lib64; do
+            [ ! -d "$0$it" ] || [ -L "$0$it" ] || mount --rbind "$it" "$0$it"
+        done
+        mount --bind "$1" "$0/copy"
+        exec chroot "$0" /usr/bin/env -i PATH=/usr/bin:/bin bash -c "! command -v rt && exec bash /copy/try.sh"
+    ' "$root" "$copy" >"$work/out" 2>"$work/err"
+}
+
+signs_in_another_root() {
+    copy_anew
+    signs_and_links >"$copy/try.sh"
+    in_another_root && has_signed /copy
+}
+
+# The scripts that the test command runs over a release.
+scripts=(commands.py library_tests.sh targets_tests.sh portable_tests.sh packages_tests.sh release_tests.sh
+    provider_tests.sh vectors.sh interchange.py streams.sh each_growth.sh limits.sh debian_tests.sh web_tests.py archive_tests.py openssl_keys.sh)
+
+# The test command, briefly, as somebody runs it in a clone who has no kit: nothing fails, and each script was run.
+tests_in_another_root() {
+    local it
+    copy_anew
+    (cd "$copy" && git init -q && git add -A &&
+        git -c user.name=It -c user.email=it@example.com commit -q -m All) || return
+    printf 'cd /copy && export HOME=/tmp && exec tools/test.sh --release --few\n' >"$copy/try.sh"
+    in_another_root && grep -q '^[1-9][0-9]* passed, 0 failed, [0-9]* skipped$' <(tail -n 1 "$work/out") || return
+    head -n 1 "$work/out" | grep "Tested is the release .* sources are those .* are not run: they need rt" || return
+    for it in "${scripts[@]}"; do
+        grep "^tests/$it --few --dist dist: .* processor minutes$" "$work/out" || return
+    done
+}
+
+# Writes in place of each script of the copy one that notes how it is called, ends with STATUS and prints the LINEs.
+stub_scripts() {
+    local it status=$1
+    shift
+    for it in "${scripts[@]/#/tests/}" tools/contracts.py; do
+        { printf '#!/bin/sh\necho "${0##*/} $*" >>called\n'; printf 'echo "%s"\n' "$@" && echo "exit $status"; } \
+            >"$copy/$it" || return
+    done
+    rm -f "$copy/called"
+}
+
+# Without rt the test command runs each script over dist/ and adds up the counts; a script that fails, ends otherwise or
+# runs nothing fails it, and what is skipped is named above the last line.
+test_command_needs_no_rt() {
+    local others
+    copy_anew && stub_scripts 0 "4 passed, 0 failed" && bare tools/test.sh || return
+    others=$(($(ls -d "$copy"/dist/x86-64-v*/slh | wc -l) - 1))
+    diff <(printf '%s --dist dist\n' "${scripts[@]}" | sort) <(grep -e --dist "$copy/called" | sort) || return
+    [ "$(grep -c '^vectors.sh vectors dist/' "$copy/called")" -le $others ] || return
+    counts_are "$((4 * $(grep -vc contracts.py "$copy/called") + 3)) passed, 0 failed, 0 skipped" || return
+    stub_scripts 0 "it: SKIPPED, since not" "4 passed, 0 failed, 1 skipped" && bare tools/test.sh || return
+    [ "$(tail -n 2 "$work/out" | head -n 1)" = "it: SKIPPED, since not" ] || return
+    for it in "1 4 passed, 1 failed" "2 no program" "0 0 passed, 0 failed" "1 4 passed, 0 failed"; do
+        stub_scripts "${it%% *}" "${it#* }" && ! bare tools/test.sh --release || return
+    done
+    rm -r "$copy/dist"
+    bare tools/test.sh
+    [ $? = 2 ] && grep "there is no release in dist/" "$work/err"
+}
+
+# Where the sources are not those of dist/ it says so, and names the scripts that are skipped.
+test_command_names_what_is_skipped() {
+    local it
+    copy_anew && stub_scripts 0 "4 passed, 0 failed" && echo '// changed' >>"$copy/crates/slh_core/src/lib.rt" || return
+    bare tools/test.sh && head -n 1 "$work/out" | grep 'the sources are NOT those that it was built of' || return
+    tail -n 1 "$work/out" | grep '^[1-9][0-9]* passed, 0 failed, 7 skipped$' || return
+    diff <(tail -n 8 "$work/out" | head -n 7) <(printf 'tests/%s: SKIPPED, since the sources are not those of dist/\n' \
+        commands.py {library,targets,portable,packages,release,provider}_tests.sh) || return
+    [ "$(grep -c -e --dist "$copy/called")" = 9 ] && ! grep -e commands -e library -e packages "$copy/called"
+}
+
+# CI runs the test command whether tools can be installed or not, and installs them where it can.
+ci_goes_on() {
+    local status
+    for status in 0 1; do
+        copy_anew && printf '#!/bin/sh\ntouch called\nexit %s\n' $status >"$copy/tools/setup.sh" || return
+        printf '#!/bin/sh\necho "1 passed, 2 failed, 3 skipped"\nexit 1\n' >"$copy/tools/test.sh"
+        bare .ci/run
+        [ $? = 1 ] && [ "$(cat "$work/out")" = "1 passed, 2 failed, 3 skipped" ] || return
+        [ "$(id -u)" != 0 ] || [ ! -f /etc/debian_version ] || [ -e "$copy/called" ] || return
+    done
+}
+
+counts_are() { [ "$(tail -n 1 "$work/out")" = "$1" ]; }
+
+# A script that has no program or library, or one that can't be run, ends with status 2 before it counts anything.
+nothing_is_no_test() {
+    local it given
+    copy_anew && mkdir "$work/empty" && printf '#!/bin/sh\nexit 1\n' >"$work/none" && chmod +x "$work/none" || return
+    for it in "${scripts[@]}" tables.sh; do
+        for given in "$work/empty" "$work/none" "$work/no_such_file"; do
+            case $it in
+            commands.py | tables.sh) bare "tests/$it" vectors/commands "$given" ;;
+            vectors.sh | interchange.py) bare "tests/$it" vectors "$given" ;;
+            streams.sh | each_growth.sh | limits.sh | openssl_keys.sh) bare "tests/$it" "$given" ;;
+            *) bare "tests/$it" --dist "$given" ;;
+            esac
+            [ $? = 2 ] && ! grep ' passed, ' "$work/out" || return
+        done
+    done
+    rm -r "$copy/dist"
+    for it in debian_tests.sh web_tests.py; do
+        bare "tests/$it"
+        [ $? = 2 ] && ! grep ' passed, ' "$work/out" || return
+    done
+}
+
+# Whether ./slh refuses with status 2, prints nothing, and says this.
+refuses() {
+    local said=$1
+    shift
+    bare "$@"
+    [ $? = 2 ] && [ ! -s "$work/out" ] && grep -qF -- "$said" "$work/err"
+}
+
+# A file of dist/ that prints `ran` where it is run, in place of a program.
+damage() {
+    printf '#!/bin/sh\necho ran\n' >"$copy/dist/$1"
+}
+
+damaged_program_is_not_run() {
+    local level
+    for level in "${levels[@]}"; do
+        copy_anew && damage "$level/slh"
+        refuses "slh: dist/$level/slh is damaged" env SLH_CPU=$level ./slh params || return
+        copy_anew && rm "$copy/dist/$level/slh"
+        refuses "slh: dist/$level/slh is missing" env SLH_CPU=$level ./slh params || return
+    done
+}
+
+damaged_list_is_not_believed() {
+    copy_anew && echo "sources 0" >>"$copy/dist/BUILD"
+    refuses "slh: dist/BUILD is damaged" ./slh params || return
+    copy_anew && : >"$copy/dist/SHA256SUMS"
+    refuses "slh: dist/BUILD is damaged" ./slh params
+}
+
+damaged_library_is_not_installed() {
+    local file
+    for file in x86-64/libslh.{a,so.0} x86-64-v2/libslh_verify.a x86-64-v{2,3,4}/libslh.a include/slh.h; do
+        copy_anew && damage "$file"
+        refuses "library.sh: dist/$file is damaged" tools/library.sh prefix && [ ! -e "$copy/prefix" ] || return
+        copy_anew && rm "$copy/dist/$file"
+        refuses "library.sh: dist/$file is missing" tools/library.sh prefix && [ ! -e "$copy/prefix" ] || return
+        refuses "library.sh: dist/$file is missing" tools/library.sh --dist dist prefix || return
+    done
+    [ ! -e "$copy/prefix" ]
+}
+
+other_targets_are_installed() {
+    copy_anew
+    bare tools/library.sh --target aarch64 arm && cmp "$copy/arm/lib/libslh.a" "$work/made/aarch64/libslh.a" &&
+        bare tools/library.sh --target wasm64 wasm && cmp "$copy/wasm/lib/slh.wasm" "$work/made/wasm64/slh.wasm" &&
+        bare tools/library.sh --target portable c && cmp "$copy/c/src/slh.c" "$work/made/portable/slh.c" &&
+        refuses "library.sh: no target mips" tools/library.sh --target mips it
+}
+
+# Other sources: without rt the release is run and installed, and it is told; with rt it is not.
+other_sources_are_told() {
+    copy_anew && echo '// changed' >>"$copy/crates/slh_core/src/lib.rt"
+    bare ./slh params && [ "$(wc -l <"$work/out")" = 6 ] && grep -q 'slh: .* the sources differ from it' "$work/err" &&
+        bare tools/library.sh prefix && grep -q 'library.sh: .* the sources differ from it' "$work/err" &&
+        [ -f "$copy/prefix/lib/libslh.a" ] && ! stubbed ./slh params && [ -f "$work/called" ] && [ ! -s "$work/out" ] &&
+        ! stubbed tools/library.sh other && [ -f "$work/called" ] && [ ! -e "$copy/other" ]
+}
+
+# With rt the release is run where the sources are its own; a damaged one, and any under SLH_BUILD=1, is built.
+is_built_where_asked() {
+    copy_anew
+    stubbed ./slh params && [ ! -e "$work/called" ] && [ "$(wc -l <"$work/out")" = 6 ] && [ ! -s "$work/err" ] &&
+        ! stubbed env SLH_BUILD=1 ./slh params && [ -f "$work/called" ] && [ ! -s "$work/out" ] &&
+        ! stubbed env SLH_BUILD=1 tools/library.sh prefix && [ -f "$work/called" ] && [ ! -e "$copy/prefix" ] &&
+        damage x86-64-v2/slh && ! stubbed env SLH_CPU=x86-64-v2 ./slh params && [ -f "$work/called" ] &&
+        [ ! -s "$work/out" ] && grep -q 'dist/x86-64-v2/slh is damaged' "$work/err"
+}
+
+# ./slh is found through symbolic links to it and to its folder, from any folder.
+links_are_followed() {
+    copy_anew && ln -s "$copy" "$work/folder" && ln -s folder/slh "$work/first" && ln -s first "$work/second" || return
+    bare bash -c 'cd / && "$0" params' "$work/second" && [ "$(wc -l <"$work/out")" = 6 ] && [ ! -s "$work/err" ] &&
+        bare bash -c 'cd "$0/.." && PATH=.:$PATH && second params' "$work/folder" && [ "$(wc -l <"$work/out")" = 6 ]
+}
+
+# Status 1 says that a signature is invalid. What is wrong with the installation ends with 2.
+faults_of_installation_have_status_2() {
+    local level
+    copy_anew && rm "$copy/tools/released.sh" && refuses "released.sh" ./slh params || return
+    for level in "${levels[@]}"; do
+        copy_anew && chmod -x "$copy/dist/$level/slh" && refuses "$level/slh" env SLH_CPU=$level ./slh params || return
+    done
+    copy_anew
+    stubbed env SLH_BUILD=1 ./slh params
+    [ $? = 2 ] && [ -f "$work/called" ] && [ ! -s "$work/out" ]
+}
+
+# A change of a test is no change of the sources.
+tests_are_no_sources() {
+    copy_anew && echo '// changed' >>"$copy/crates/slh_tests/src/lib.rt" &&
+        bare ./slh params && [ ! -s "$work/err" ]
+}
+
+# Sets what tools/released.sh sets for the copy: `file`, the program for this processor, and `note`, the note on it.
+find_note() {
+    here=$copy HOME=$work
+    source "$here/tools/released.sh"
+    file=$(programs_here | head -n 1) && file=${file#"$dist/"}
+    note_of "${file%/slh}"
+}
+
+# Writes the note that ./slh would write two seconds after the last change: what was FOUND, for all files as they are.
+note_now() {
+    (find_note && mkdir -p "${note%/*}" && echo "$1" >"$note" && { (looked_at) >>"$note"; grep -q BUILD "$note"; })
+}
+
+# ./slh writes a note once no file was changed for two seconds, and not before: then it looks at the hashes each time.
+a_note_is_written() {
+    local note
+    copy_anew && note=$(find_note && echo "$note") && rm -f "$note" && touch "$copy/VERSION" && says_same || return
+    [ ! -e "$note" ] && sleep 3.1 && says_same && [ "$(head -n 1 "$note")" = same ] || return
+    cp "$note" "$work/kept" && note_now same && cmp "$note" "$work/kept" || return
+    echo '// changed' >>"$copy/crates/slh_core/src/lib.rt" && sleep 3.1 && says_other || return
+    [ "$(head -n 1 "$note")" = other ]
+}
+
+# Changes a letter or digit of a FILE of the copy, that at the TEXT or in its middle, and nothing that `ls -l` shows.
+change_unseen() {
+    touch -r "$copy/$1" "$work/time" && python3 - "$copy/$1" "${2-}" <<'END' && touch -r "$work/time" "$copy/$1"
+import re, sys
+with open(sys.argv[1], "r+b") as file:
+    data = file.read()
+    at = data.index(sys.argv[2].encode()) or len(data) // 2
+    at += re.search(rb"[0-9A-Za-z]", data[at:]).start()
+    file.seek(at)
+    file.write(b"0" if data[at : at + 1] != b"0" else b"1")
+END
+}
+
+# Runs ./slh of the copy, and tells whether it says that the sources are the release's, or others.
+says_same() { bare ./slh params && [ "$(wc -l <"$work/out")" = 6 ] && [ ! -s "$work/err" ]; }
+says_other() { bare ./slh params && [ "$(wc -l <"$work/out")" = 6 ] && grep -q 'the sources differ' "$work/err"; }
+
+# Each file that tools/sources.sh reads is one of those that a note hangs on.
+sources_are_looked_at() {
+    mkdir -p "$work/sums" && copy_anew && rm -f "$work/summed" || return
+    printf '#!/bin/sh\nprintf "%%s\\n" "$@" >>"%s"\nexec /usr/bin/sha256sum "$@"\n' "$work/summed" \
+        >"$work/sums/sha256sum"
+    chmod +x "$work/sums/sha256sum" && PATH=$work/sums:$PATH "$copy/tools/sources.sh" || return
+    (find_note && looked_at) | cut -d ' ' -f 4- | sed "s|^$copy/||" | LC_ALL=C sort >"$work/looked"
+    [ "$(wc -l <"$work/summed")" -gt 500 ] &&
+        [ -z "$(LC_ALL=C sort "$work/summed" | LC_ALL=C comm -23 - "$work/looked")" ]
+}
+
+# Whatever is noted, a source whose length and time are as they were is seen to be another, and so is one that is new or
+# missing.
+changes_are_seen_over_notes() {
+    local it
+    copy_anew || return
+    for it in HANDLES VERSION crates.txt include/slh.h tools/kit.py tools/program.sh tools/target.sh \
+        crates/slh/src/main.rt crates/slh_params/specs/Lib.antt crates/slh_params/proofs/Bounds.antt; do
+        cp -a "$copy/$it" "$work/was" && note_now same && says_same && change_unseen "$it" && says_other || return
+        cat "$work/was" >"$copy/$it" && says_same || return
+    done
+    note_now same && echo >"$copy/crates/slh/src/more.rt" && says_other || return
+    note_now other && rm "$copy/crates/slh/src/more.rt" && says_same || return
+    note_now same && rm "$copy/crates/slh/src/main.rt" && says_other
+}
+
+# The same of what is run: the program, what lists its hash, and what says of which sources it is.
+damage_is_seen_over_notes() {
+    local file it sum
+    copy_anew && file=$(find_note && echo "$file") && sum=$(sha256sum <"$copy/dist/$file" | cut -d ' ' -f 1) || return
+    for it in "$file" BUILD; do
+        copy_anew && note_now same && says_same && change_unseen "dist/$it" || return
+        refuses "dist/$it is damaged" ./slh params && note_now same || return
+        refuses "dist/$it is damaged" ./slh params || return
+    done
+    copy_anew && note_now same && says_same && change_unseen dist/SHA256SUMS "$sum" || return
+    refuses "dist/$file is damaged" ./slh params && note_now same && refuses "dist/$file is damaged" ./slh params
+}
+
+# A note of another user's is not believed. A folder for notes that can't be written is no hindrance.
+other_notes_are_not_believed() {
+    local note it
+    copy_anew && note=$(find_note && echo "$note") && change_unseen VERSION && note_now same && says_same || return
+    chown 65534 "$note" && says_other && rm "$note" && sleep 3.1 || return
+    for it in /dev/null/none:/ relative:/dev/null :relative :; do
+        bare env XDG_CACHE_HOME="${it%:*}" HOME="${it#*:}" ./slh params && [ "$(wc -l <"$work/out")" = 6 ] || return
+        [ "$(wc -l <"$work/err")" = 1 ] && [ ! -e "$copy/relative" ] || return
+    done
+}
+
+# The processor milliseconds of a run of a command, of twenty.
+milliseconds_of() {
+    python3 - "$@" <<'END'
+import os, subprocess, sys
+for _ in range(20):
+    subprocess.run(sys.argv[1:], stdout=subprocess.DEVNULL, stderr=subprocess.DEVNULL, check=True)
+print(round(sum(os.times()[2:4]) / 20 * 1000))
+END
+}
+
+# With a note ./slh takes less than a third of the time that it takes to look at all hashes.
+notes_save_time() {
+    local with without
+    copy_anew && note_now same && with=$(milliseconds_of env HOME="$work" PATH=$without_rt "$copy/slh" params) &&
+        without=$(milliseconds_of env -u HOME -u XDG_CACHE_HOME PATH=$without_rt "$copy/slh" params) || return
+    echo "./slh params: $with processor milliseconds with a note, $without without" | tee "$work/times"
+    [ $((3 * with)) -lt "$without" ]
+}
+
+# Runs ./slh where /proc/cpuinfo has this line of flags.
+on_processor() {
+    local flags=$1
+    shift
+    echo "flags : $flags" >"$work/cpuinfo"
+    bare unshare -rm bash -c 'mount --bind "$0" /proc/cpuinfo && exec "$@"' "$work/cpuinfo" "$@"
+}
+
+# The features of each level that /proc/cpuinfo tells.
+v2="cx16 lahf_lm popcnt pni sse4_1 sse4_2 ssse3" v3="avx avx2 bmi1 bmi2 f16c fma abm movbe"
+v4="avx512f avx512bw avx512cd avx512dq avx512vl"
+
+# The best level that the processor has is chosen: the program of another one is damaged, and is not looked at.
+level_is_chosen() {
+    local lacking
+    copy_anew
+    takes v2 "$v2" && takes v3 "$v2 $v3" && takes v4 "$v2 $v3 $v4" || return
+    for lacking in $v4; do
+        takes v3 "$v2 $v3 ${v4/$lacking/}" && lacks v4 "$v2 $v3 ${v4/$lacking/}" || return
+    done
+    for lacking in $v3; do
+        takes v2 "$v2 ${v3/$lacking/} $v4" && lacks v4 "$v2 ${v3/$lacking/} $v4" || return
+    done
+    takes v2 "$v2 $v3 $v4" SLH_CPU=x86-64-v2 && takes v3 "$v2 $v3 $v4" SLH_CPU=x86-64-v3 &&
+        takes v4 "$v2 $v3 $v4" SLH_CPU=x86-64-v4 && lacks v3 "$v2" && lacks v4 "$v2 $v3" || return
+    on_processor "cx16 popcnt" ./slh params
+    [ $? = 2 ] && grep -q 'not of the level x86-64-v2' "$work/err"
+}
+
+# Whether a processor with these flags takes the program of a LEVEL, under these variables: those of all others are
+# damaged. Programs stand in for all, since this processor need not have the level.
+takes() {
+    local level=$1 flags=$2 other
+    shift 2
+    for other in "${levels[@]}"; do damage "$other/slh"; done
+    printf '#!/bin/sh\necho "$0"\n' >"$copy/dist/x86-64-$level/slh"
+    list_anew
+    for other in "${levels[@]}"; do [ "$other" = "x86-64-$level" ] || echo >>"$copy/dist/$other/slh"; done
+    on_processor "$flags" env "$@" ./slh params && [ "$(cat "$work/out")" = "$copy/dist/x86-64-$level/slh" ]
+}
+
+# Whether a LEVEL that is asked for is refused on a processor with these flags, of which it lacks some.
+lacks() {
+    on_processor "$2" env "SLH_CPU=x86-64-$1" ./slh params
+    [ $? = 2 ] && [ ! -s "$work/out" ] && grep -q "not of the level x86-64-$1" "$work/err"
+}
+
+# Lists the files of the release as they are now.
+list_anew() {
+    (cd "$copy/dist" && find . -type f ! -name SHA256SUMS -printf '%P\0' | xargs -0 sha256sum >"$work/listed" &&
+        mv "$work/listed" SHA256SUMS)
+}
+
+# The program is found and chosen where tools/install.sh has installed it: from any folder, through links, by PATH,
+# after it was moved, under a path with a space.
+is_installed() {
+    local prefix="$copy/pre fix" it
+    copy_anew
+    bare tools/install.sh "$prefix" &&
+        [ "$(cat "$work/out")" = "installed in $prefix: the release $(cat "$here/VERSION")" ] && [ ! -s "$work/err" ] &&
+        cmp "$prefix/lib/libslh.a" "$work/made/x86-64/libslh.a" || return
+    for it in "${levels[@]}"; do cmp "$prefix/lib/slh/$it/slh" "$work/made/$it/slh" || return; done
+    for it in man/man1/slh.1 bash-completion/completions/slh zsh/site-functions/_slh; do
+        grep -q sign "$prefix/share/$it" || return
+    done
+    mv "$prefix" "$copy/moved here" && ln -s "$copy/moved here/bin/slh" "$work/linked" &&
+        ln -s "moved here" "$copy/folder" || return
+    for it in "$copy/moved here/bin/slh" "$work/linked" "$copy/folder/bin/slh"; do
+        bare "$it" vectors --file vectors/smoke-128f.json &&
+            [ "$(tail -n 1 "$work/out")" = "passed 6 failed 0" ] || return
+    done
+    bare env PATH="$copy/folder/bin:$without_rt" slh params && [ "$(wc -l <"$work/out")" = 6 ] &&
+        bare sh -c 'cd folder/bin && sh slh params' && [ "$(wc -l <"$work/out")" = 6 ] && [ ! -s "$work/err" ]
+}
+
+# Nothing is installed where a file of the release is damaged or missing.
+damaged_is_not_installed() {
+    local file
+    for file in x86-64-v{2,3,4}/{slh,libslh.a} x86-64/libslh.{a,so.0} x86-64-v2/libslh_verify.a include/slh.h BUILD; do
+        copy_anew && damage "$file"
+        refuses ".sh: dist/$file is damaged" tools/install.sh prefix && [ ! -e "$copy/prefix" ] || return
+        copy_anew && rm "$copy/dist/$file"
+        refuses ".sh: there is nothing to install" tools/install.sh prefix && [ ! -e "$copy/prefix" ] || return
+    done
+    refuses "usage:" tools/install.sh && refuses "usage:" tools/install.sh --prefix
+}
+
+# The program that is installed is the best one for the processor. One that can't be run has status 2.
+installed_level_is_chosen() {
+    local level lacking
+    copy_anew && bare tools/install.sh prefix || return
+    for level in v2 v3 v4; do printf '#!/bin/sh\necho %s "$@"\n' $level >"$copy/prefix/lib/slh/x86-64-$level/slh"; done
+    installed_runs v2 "" && installed_runs v2 "$v2" && installed_runs v3 "$v2 $v3" &&
+        installed_runs v4 "$v2 $v3 $v4" || return
+    for lacking in $v3; do installed_runs v2 "$v2 ${v3/$lacking/} $v4" || return; done
+    for lacking in $v4; do installed_runs v3 "$v2 $v3 ${v4/$lacking/}" || return; done
+    rm "$copy/prefix/lib/slh/x86-64-v3/slh"
+    on_processor "$v2 $v3" prefix/bin/slh params
+    [ $? = 2 ] && [ ! -s "$work/out" ] && grep -q "^slh: .*x86-64-v3/slh can't be run" "$work/err"
+}
+
+# Whether the installed program is that of a LEVEL on a processor with these flags, and has its words as they are.
+installed_runs() {
+    on_processor "$2" prefix/bin/slh 'a  b' c && [ "$(cat "$work/out")" = "$1 a  b c" ]
+}
+
+# The installed program starts within 5 ms: the least of many runs, since this machine may be busy.
+starts_soon() {
+    copy_anew && bare tools/install.sh prefix && python3 - "$copy/prefix/bin/slh" <<'END'
+import subprocess, sys, time
+def run():
+    before = time.perf_counter()
+    subprocess.run([sys.argv[1], "params"], stdout=subprocess.DEVNULL, check=True)
+    return time.perf_counter() - before
+least = min(run() for _ in range(200))
+sys.exit(0 if least < 0.005 else f"{1000 * least:.1f} ms")
+END
+}
+
+# Whether the files for each level have the registers of that level, and not those of the next, but in slh_clear, which
+# clears all that a processor has.
+are_of_their_levels() {
+    local level file has lacks
+    while read -r level has lacks; do
+        for file in slh libslh.a libslh_verify.a; do
+            objdump -d --no-show-raw-insn "$work/made/x86-64-$level/$file" |
+                awk '/^Disassembly of section/ { clears = /slh_clear/ } !clears' >"$work/code" || return
+            grep -q "%$has" "$work/code" && ! grep -q "%$lacks" "$work/code" || return
+        done
+    done <<<$'v2 xmm ymm\nv3 ymm zmm\nv4 zmm tmm'
+}
+
+# Whether this processor has a level, in glibc's judgement.
+has_level() { /lib64/ld-linux-x86-64.so.2 --help | grep -q "^ *$1 (supported"; }
+
+# Makes a shared object of the library for a LEVEL alone.
+library_of() {
+    cc -shared -Wl,--whole-archive "$work/made/$1/libslh.a" -Wl,--no-whole-archive -o "$work/$1.so"
+}
+
+# Runs the vectors by the program for each level, and by the library for those that tests/library_tests.sh does not run.
+count_levels() {
+    local level
+    for level in "${levels[@]}"; do
+        if ! has_level "$level"; then
+            skip "vectors by the builds for $level" "the processor lacks that level"
+            continue
+        fi
+        count "vectors by the program for $level" "$here/tests/vectors.sh" "" "$work/made/$level/slh"
+        [ "$level" != "x86-64-v$(best_level)" ] || continue
+        one "the library for $level makes a shared object" library_of "$level"
+        count "vectors by the library for $level" "$here/tests/library_vectors.py" "$work/$level.so"
+    done
+}
+
+# Runs the tests of what is made of a release, over this one.
+count_what_is_made() {
+    local made=$work/made
+    count "packages" "$here/tests/packages_tests.sh" --dist "$made"
+    count "Debian packages" "$here/tests/debian_tests.sh" --dist "$made"
+    count "the page that verifies" "$here/tests/web_tests.py" --dist "$made"
+    count "the examples for much work" "$here/tests/archive_tests.py" --dist "$made"
+    count "keys to and from OpenSSL" "$here/tests/openssl_keys.sh" --dist "$made"
+    count "the provider for OpenSSL" "$here/tests/provider_tests.sh" --dist "$made"
+}
+
+# Without rt, and with a stub of it.
+test_the_scripts() {
+    one "a damaged or missing program is not run" damaged_program_is_not_run
+    one "a damaged BUILD or SHA256SUMS is not believed" damaged_list_is_not_believed
+    one "a damaged or missing file is not installed" damaged_library_is_not_installed
+    one "the libraries of other machines are installed" other_targets_are_installed
+    one "the program is installed" is_installed
+    one "nothing is installed of a damaged release" damaged_is_not_installed
+    one "the installed program starts within 5 ms" starts_soon
+    one "other sources are told, and built where rt is" other_sources_are_told
+    one "the program is built where that is asked for" is_built_where_asked
+    one "./slh is found through links" links_are_followed
+    one "a fault of the installation has status 2" faults_of_installation_have_status_2
+    one "a change of a test changes no sources" tests_are_no_sources
+    one "a level that there is not is refused" refuses "SLH_CPU is x86-64-v2, x86-64-v3 or x86-64-v4" \
+        env SLH_CPU=v4 ./slh params
+    one "./slh notes what it found" a_note_is_written
+    one "a note hangs on each source" sources_are_looked_at
+    one "a changed source is seen over a note" changes_are_seen_over_notes
+    one "a damaged file is seen over a note" damage_is_seen_over_notes
+    if [ "$(id -u)" = 0 ]; then
+        one "notes of other users are not believed" other_notes_are_not_believed
+    else
+        skip "notes of other users" "this is not root"
+    fi
+    one "a note saves most of the time" notes_save_time
+    cat "$work/times"
+    one "the test command without rt" test_command_needs_no_rt
+    one "the test command names what it skips" test_command_names_what_is_skipped
+    one "CI goes on where nothing can be installed" ci_goes_on
+    one "a script that has nothing to test has status 2" nothing_is_no_test
+}
+
+test_in_other_roots() {
+    if can_unshare; then
+        one "README's and LIBRARY's commands in a root without the kit" signs_in_another_root
+        one "the level that the processor has is chosen" level_is_chosen
+        one "so it is by the installed program" installed_level_is_chosen
+        one "the test command in a root without the kit" tests_in_another_root
+    else
+        skip "a root without the kit" "unshare is refused"
+    fi
+}
+
+mkdir "$stub"
+printf '#!/bin/sh\ntouch "%s"\nexit 1\n' "$work/called" >"$stub/rt"
+chmod +x "$stub/rt"
+if command -v rt >/dev/null && PATH=$without_rt command -v rt >/dev/null; then
+    skip "a release as one has it who has no kit" "rt is in $without_rt"
+    end_counts
+    exit
+fi
+
+if [ -n "$release" ]; then
+    cp -r "$release" "$work/made"
+else
+    count "dist/" "$here/tools/release.sh" --after-ci --check "$work/made"
+    [ -f "$work/made/BUILD" ] || nothing_to_test "no release is built"
+fi
+one "README's and LIBRARY's commands without rt" signs_in_the_copy
+if [ $few = no ]; then
+    one "the files for each level have its registers" are_of_their_levels
+    [ -n "$release" ] || count_levels
+    test_the_scripts
+    test_in_other_roots
+fi
+[ -n "$release" ] || count_what_is_made
+end_counts

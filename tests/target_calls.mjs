@@ -1,0 +1,46 @@
+// Makes calls of slh.wasm that it is told on standard input, for tests/library_vectors.py --through: what
+// tests/target_calls.c does, in Node. It is also an example of calling the module.
+//
+// usage: node --experimental-wasm-memory64 tests/target_calls.mjs slh.wasm
+//
+// Bytes are put behind the module's own data, from __heap_base on, and pointers and lengths are 64-bit numbers.
+import fs from "node:fs";
+import readline from "node:readline";
+
+const wasm = new WebAssembly.Instance(new WebAssembly.Module(fs.readFileSync(process.argv[2])), {}).exports;
+const first = Math.ceil(Number(wasm.__heap_base.value) / 16) * 16;
+
+// Makes the memory at least so many bytes long. `grow` counts pages of 65536 bytes, which are a BigInt to newer engines.
+function reserve(end) {
+    const lacking = Math.ceil((end - wasm.memory.buffer.byteLength) / 65536);
+    if (lacking <= 0) return;
+    try {
+        wasm.memory.grow(BigInt(lacking));
+    } catch (error) {
+        if (!(error instanceof TypeError)) throw error;
+        wasm.memory.grow(lacking);
+    }
+}
+
+for await (const line of readline.createInterface({ input: process.stdin })) {
+    const [call, ...words] = line.split(" ");
+    const placed = [];
+    const given = [];
+    let at = first;
+    for (const word of words) {
+        if (word[0] === "n") {
+            given.push(Number(word.slice(1)));
+            continue;
+        }
+        const bytes = Buffer.from(word.slice(1), "hex");
+        reserve(at + bytes.length);
+        new Uint8Array(wasm.memory.buffer).set(bytes, at);
+        placed.push([at, bytes.length]);
+        given.push(BigInt(bytes.length === 0 ? 0 : at));
+        if (word[0] === "b") given.push(BigInt(bytes.length));
+        at = Math.ceil((at + bytes.length) / 16) * 16;
+    }
+    const result = wasm[call](...given) >>> 0;
+    const left = placed.map(([from, len]) => "b" + Buffer.from(wasm.memory.buffer, from, len).toString("hex"));
+    console.log([result, ...left].join(" "));
+}
