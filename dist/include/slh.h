@@ -112,7 +112,8 @@ uint32_t slh_lengths(uint32_t set, size_t *pk_len, size_t *sk_len, size_t *sig_l
 
 /*
  * To make a key: writes the secret key of the seeds SK.seed, SK.prf and PK.seed, n fresh random bytes each, into the 4n
- * bytes of sk (Algorithm 18). The seeds are as secret as the key.
+ * bytes of sk. This is Algorithm 18. The standard's slh_keygen (Algorithm 21) draws the seeds, which here you do. The
+ * seeds are as secret as the key.
  * Returns: SLH_DONE; SLH_NO_SUCH_SET, SLH_BAD_SEED_LENGTH, SLH_BAD_OUTPUT_LENGTH.
  */
 SLH_MUST_USE SLH_API
