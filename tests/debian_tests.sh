@@ -7,9 +7,9 @@
 #
 # DIST is a folder as tools/release.sh writes it (default: dist). With --few the packages are made, and that is all. It
 # needs what tools/debian.sh needs, a C compiler, pkg-config and openssl. The root has this system's programs, by an
-# overlay that unshare mounts; this system is not changed. Where that, lintian, zsh or man is missing, its tests are
-# skipped. tools/setup.sh installs lintian and zsh. The last line has the counts, and the status is 0 where nothing
-# failed.
+# overlay that unshare mounts; this system is not changed. Where that, lintian, qemu-x86_64, zsh or man is missing,
+# its tests are skipped. tools/setup.sh installs lintian, qemu-x86_64 and zsh. The last line has the counts, and the
+# status is 0 where nothing failed.
 set -u
 here=$(cd "$(dirname "${BASH_SOURCE[0]}")/.." && pwd)
 source "$here/tests/counts.sh"
@@ -33,7 +33,7 @@ are_the_same_bits() {
 # A file with a byte more than it had, one that is missing, and one that is not listed: there is no package.
 damaged_is_not_packaged() {
     local file how bad=$work/bad
-    for file in x86-64-v4/slh x86-64/libslh.so.0 x86-64-v{3,4}/libslh.a x86-64-v2/libslh_verify.a include/slh.h; do
+    for file in x86-64{,-v4}/slh x86-64/libslh.so.0 x86-64-v{3,4}/libslh.a x86-64-v2/libslh_verify.a include/slh.h; do
         for how in 'echo >>' 'rm' 'sed -i /^[0-9a-f]*..PLACE$/d SHA256SUMS #'; do
             rm -rf "$bad" "$work/none"
             cp -r "$dist" "$bad"
@@ -99,25 +99,12 @@ $install
 END
 }
 
-# /usr/bin/slh runs the program for the level that /proc/cpuinfo tells.
+# /usr/bin/slh runs the build for a LEVEL, with its words as they are. A command may be before it.
 runs_the_level() {
     in_a_root <<END
 $install
-for level in v2 v3 v4; do printf '#!/bin/sh\necho %s "\$@"\n' \$level > /usr/libexec/slh/x86-64-\$level/slh; done
-flags="cx16 lahf_lm popcnt pni sse4_1 sse4_2 ssse3"
-more="avx avx2 bmi1 bmi2 f16c fma abm movbe"
-runs() {
-    printf 'processor : 0\nflags : fpu %s\nbugs :\n' "\$2" > cpuinfo
-    mount --bind cpuinfo /proc/cpuinfo
-    [ "\$(slh 'a b' c)" = "\$1 a b c" ]
-    umount /proc/cpuinfo
-}
-most="avx512f avx512bw avx512cd avx512dq avx512vl"
-runs v2 "\$flags"
-runs v3 "\$flags \$more"
-runs v4 "\$flags \$more \$most"
-for lacking in \$more; do runs v2 "\$flags \${more/\$lacking/} \$most"; done
-for lacking in \$most; do runs v3 "\$flags \$more \${most/\$lacking/}"; done
+for level in v2 v3 v4; do printf '#!/bin/sh\necho %s "\$@"\n' \$level > /usr/lib/slh/x86-64-\$level/slh; done
+[ "\$(${*:2} /usr/bin/slh 'a  b' c)" = "v$1 a  b c" ]
 END
 }
 
@@ -196,7 +183,7 @@ apt_would_install() {
 
 # What `slh --help` lists, from the files of the package.
 unpacked=$work/unpacked
-program=$unpacked/usr/libexec/slh/x86-64-v2/slh
+program=$unpacked/usr/lib/slh/x86-64-v2/slh
 commands() { "$program" --help | sed -n '/^Commands:/,/^$/s/^  \([a-z]*\) .*/\1/p' | grep -vx help; }
 options_of() { "$program" "$1" --help | grep -oE -- '^ +(-h, )?--[a-z-]+' | grep -oE -- '--[a-z-]+'; }
 
@@ -286,7 +273,11 @@ mkdir "$files" && cp "$dist/BUILD" "$debs/"
 if can_mount; then
     one "slh signs and verifies where it is installed" signs_and_verifies
     one "slh has the values of the vectors there" has_the_vectors_values
-    one "slh runs the program for the processor's level" runs_the_level
+    one "slh runs the build for the processor's level" runs_the_level "$(best_level)"
+    if can_run "slh on lesser processors" qemu-x86_64; then
+        one "slh runs the build for x86-64-v2" runs_the_level 2 qemu-x86_64 -cpu Nehalem
+        one "slh runs the build for x86-64-v3" runs_the_level 3 qemu-x86_64 -cpu Haswell
+    fi
     one "C programs are linked by pkg-config" links_by_pkg_config
     if [[ $(realpath "$(command -v openssl-3.5)" 2>/dev/null) = /usr/* ]]; then
         one "OpenSSL signs by its provider" openssl_signs

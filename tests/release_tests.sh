@@ -13,7 +13,8 @@
 # the release DIST is taken instead: nothing is built or compared, and what is made of a release is left to the other
 # scripts. With --few README's and LIBRARY's commands alone are run. It needs a C compiler as cc, objdump, openssl, git
 # and unshare. Where no other root can be made, that is skipped, and so are the builds for a level that the processor
-# lacks. The last line has the counts, and the status is 0 where nothing failed.
+# lacks, and emulated processors without qemu-x86_64. The last line has the counts, and the status is 0 where nothing
+# failed.
 set -u
 here=$(cd "$(dirname "${BASH_SOURCE[0]}")/.." && pwd)
 source "$here/tests/counts.sh"
@@ -466,23 +467,26 @@ is_installed() {
         [ "$(cat "$work/out")" = "installed in $prefix: the release $(cat "$here/VERSION")" ] && [ ! -s "$work/err" ] &&
         cmp "$prefix/lib/libslh.a" "$work/made/x86-64/libslh.a" || return
     for it in "${levels[@]}"; do cmp "$prefix/lib/slh/$it/slh" "$work/made/$it/slh" || return; done
+    cmp "$prefix/bin/slh" "$work/made/x86-64/slh" || return
     for it in man/man1/slh.1 bash-completion/completions/slh zsh/site-functions/_slh; do
         grep -q sign "$prefix/share/$it" || return
     done
-    mv "$prefix" "$copy/moved here" && ln -s "$copy/moved here/bin/slh" "$work/linked" &&
-        ln -s "moved here" "$copy/folder" || return
-    for it in "$copy/moved here/bin/slh" "$work/linked" "$copy/folder/bin/slh"; do
+    mv "$prefix" "$copy/moved #here" && ln -s "$copy/moved #here/bin/slh" "$work/linked" &&
+        ln -s "moved #here" "$copy/folder" || return
+    for it in "$copy/moved #here/bin/slh" "$work/linked" "$copy/folder/bin/slh"; do
         bare "$it" vectors --file vectors/smoke-128f.json &&
             [ "$(tail -n 1 "$work/out")" = "passed 6 failed 0" ] || return
     done
     bare env PATH="$copy/folder/bin:$without_rt" slh params && [ "$(wc -l <"$work/out")" = 6 ] &&
-        bare sh -c 'cd folder/bin && sh slh params' && [ "$(wc -l <"$work/out")" = 6 ] && [ ! -s "$work/err" ]
+        bare bash -c 'cd folder/bin && exec -a other ./slh params' && [ "$(wc -l <"$work/out")" = 6 ] &&
+        [ ! -s "$work/err" ]
 }
 
 # Nothing is installed where a file of the release is damaged or missing.
 damaged_is_not_installed() {
     local file
-    for file in x86-64-v{2,3,4}/{slh,libslh.a} x86-64/libslh.{a,so.0} x86-64-v2/libslh_verify.a include/slh.h BUILD; do
+    for file in x86-64{,-v2,-v3,-v4}/slh x86-64-v{2,3,4}/libslh.a x86-64/libslh.{a,so.0} x86-64-v2/libslh_verify.a \
+        include/slh.h BUILD; do
         copy_anew && damage "$file"
         refuses ".sh: dist/$file is damaged" tools/install.sh prefix && [ ! -e "$copy/prefix" ] || return
         copy_anew && rm "$copy/dist/$file"
@@ -491,35 +495,80 @@ damaged_is_not_installed() {
     refuses "usage:" tools/install.sh && refuses "usage:" tools/install.sh --prefix
 }
 
-# The program that is installed is the best one for the processor. One that can't be run has status 2.
-installed_level_is_chosen() {
-    local level lacking
+# Installs the program, with programs in place of the builds that print their level, the variable IT and their words.
+install_stand_ins() {
+    local level
     copy_anew && bare tools/install.sh prefix || return
-    for level in v2 v3 v4; do printf '#!/bin/sh\necho %s "$@"\n' $level >"$copy/prefix/lib/slh/x86-64-$level/slh"; done
-    installed_runs v2 "" && installed_runs v2 "$v2" && installed_runs v3 "$v2 $v3" &&
-        installed_runs v4 "$v2 $v3 $v4" || return
-    for lacking in $v3; do installed_runs v2 "$v2 ${v3/$lacking/} $v4" || return; done
-    for lacking in $v4; do installed_runs v3 "$v2 $v3 ${v4/$lacking/}" || return; done
-    rm "$copy/prefix/lib/slh/x86-64-v3/slh"
-    on_processor "$v2 $v3" prefix/bin/slh params
-    [ $? = 2 ] && [ ! -s "$work/out" ] && grep -q "^slh: .*x86-64-v3/slh can't be run" "$work/err"
+    for level in v2 v3 v4; do
+        printf '#!/bin/sh\necho %s "$IT" "$@"\nexit 3\n' $level >"$copy/prefix/lib/slh/x86-64-$level/slh"
+    done
 }
 
-# Whether the installed program is that of a LEVEL on a processor with these flags, and has its words as they are.
+# Whether the installed program runs the build for a LEVEL, with its words and variables as they are. A command may be
+# before it.
 installed_runs() {
-    on_processor "$2" prefix/bin/slh 'a  b' c && [ "$(cat "$work/out")" = "$1 a  b c" ]
+    local level=$1
+    shift
+    bare env IT='an  it' "$@" prefix/bin/slh 'a  b' '' c
+    [ $? = 3 ] && [ "$(cat "$work/out")" = "v$level an  it a  b  c" ]
 }
 
-# The installed program starts within 5 ms: the least of many runs, since this machine may be busy.
+installed_level_is_chosen() {
+    install_stand_ins && installed_runs "$(best_level)"
+}
+
+# The same on emulated processors: the emulator runs no other program. Each feature of x86-64-v3 is taken away in turn.
+emulated_level_is_chosen() {
+    local lacking
+    install_stand_ins && installed_runs 2 qemu-x86_64 -cpu Nehalem &&
+        installed_runs 3 qemu-x86_64 -cpu Haswell || return
+    for lacking in avx avx2 bmi1 bmi2 f16c fma abm movbe xsave; do
+        installed_runs 2 qemu-x86_64 -cpu "Haswell,-$lacking" || return
+    done
+}
+
+# The same where it is compiled for each processor of tests/processors.h: its place, and its level.
+level_of_each_processor_is_chosen() {
+    local it
+    install_stand_ins || return
+    for it in 0:2 1:3 2:4 3:3 4:2 5:2; do
+        (cd "$copy" && cc -std=c11 "${strict[@]}" -O2 -ffreestanding -fno-stack-protector -nostdlib -static \
+            -DPROCESSOR="${it%:*}" packages/slh.c exports/chosen.c tests/forced_level.c -o prefix/bin/slh) &&
+            installed_runs "${it#*:}" || return
+    done
+}
+
+# A build that is missing, that may not be run, or that is no program has status 2, and is told by its path.
+faults_of_builds_have_status_2() {
+    local it build
+    build=lib/slh/x86-64-v$(best_level)/slh
+    for it in rm 'chmod -x' 'cp /dev/null'; do
+        install_stand_ins && $it "$copy/prefix/$build" || return
+        refuses "slh: $copy/prefix/bin/../$build can't be run" prefix/bin/slh params &&
+            [ "$(wc -l <"$work/err")" = 1 ] || return
+    done
+}
+
+# Where /proc is not there, the program can't tell where it lies.
+needs_proc() {
+    install_stand_ins &&
+        refuses "slh: /proc/self/exe can't be read" unshare -rm bash -c 'mount -t tmpfs none /proc && exec "$@"' it \
+            prefix/bin/slh params && [ "$(wc -l <"$work/err")" = 1 ]
+}
+
+# The installed program starts within 5 ms, and takes at most 0.4 ms more than the build that it runs: the least of many
+# runs by turns, since this machine may be busy.
 starts_soon() {
-    copy_anew && bare tools/install.sh prefix && python3 - "$copy/prefix/bin/slh" <<'END'
+    copy_anew && bare tools/install.sh prefix || return
+    python3 - "$copy/prefix/bin/slh" "$copy/prefix/lib/slh/x86-64-v$(best_level)/slh" >"$work/times" <<'END'
 import subprocess, sys, time
-def run():
+def milliseconds(program):
     before = time.perf_counter()
-    subprocess.run([sys.argv[1], "params"], stdout=subprocess.DEVNULL, check=True)
-    return time.perf_counter() - before
-least = min(run() for _ in range(200))
-sys.exit(0 if least < 0.005 else f"{1000 * least:.1f} ms")
+    subprocess.run([program, "params"], stdout=subprocess.DEVNULL, check=True)
+    return 1000 * (time.perf_counter() - before)
+installed, build = (min(it) for it in zip(*(map(milliseconds, sys.argv[1:]) for _ in range(200))))
+print(f"slh params: {installed:.2f} ms where it is installed, {build:.2f} by its build")
+sys.exit(installed > 5 or installed - build > 0.4)
 END
 }
 
@@ -578,7 +627,14 @@ test_the_scripts() {
     one "the libraries of other machines are installed" other_targets_are_installed
     one "the program is installed" is_installed
     one "nothing is installed of a damaged release" damaged_is_not_installed
-    one "the installed program starts within 5 ms" starts_soon
+    one "the installed program starts soon" starts_soon
+    cat "$work/times"
+    one "it runs the build for the processor's level" installed_level_is_chosen
+    if can_run "the installed program on lesser processors" qemu-x86_64; then
+        one "so it does on emulated processors" emulated_level_is_chosen
+    fi
+    one "so it does on each processor of a table" level_of_each_processor_is_chosen
+    one "a build that can't be run has status 2" faults_of_builds_have_status_2
     one "other sources are told, and built where rt is" other_sources_are_told
     one "the program is built where that is asked for" is_built_where_asked
     one "./slh is found through links" links_are_followed
@@ -607,7 +663,7 @@ test_in_other_roots() {
     if can_unshare; then
         one "README's and LIBRARY's commands in a root without the kit" signs_in_another_root
         one "the level that the processor has is chosen" level_is_chosen
-        one "so it is by the installed program" installed_level_is_chosen
+        one "the installed program without /proc has status 2" needs_proc
         one "the test command in a root without the kit" tests_in_another_root
     else
         skip "a root without the kit" "unshare is refused"

@@ -143,21 +143,20 @@ make_libslh_dev() {
 }
 
 # What the program says of itself, as the man page or completions: KIND.
-texts() { "$here/packages/debian/from_help.py" "$root/usr/libexec/slh/x86-64-v2/slh" "$upstream" "$1"; }
+texts() { "$here/packages/debian/from_help.py" "$root/usr/lib/slh/x86-64-v2/slh" "$upstream" "$1"; }
 
 make_slh() {
     local level
     begin slh
     for level in x86-64-v2 x86-64-v3 x86-64-v4; do
-        put 755 $level/slh usr/libexec/slh/$level/slh
+        put 755 $level/slh usr/lib/slh/$level/slh
     done
-    sed 's|@FOLDER@|libexec/slh|' "$here/packages/slh.sh" | write usr/bin/slh
-    chmod 755 "$root/usr/bin/slh"
+    put 755 x86-64/slh usr/bin/slh
     texts man | gzip -9n | write usr/share/man/man1/slh.1.gz
     texts bash | write usr/share/bash-completion/completions/slh
     texts zsh | write usr/share/zsh/vendor-completions/_slh
     gzip -9n <"$here/docs/FORMATS.md" | write usr/share/doc/slh/FORMATS.md.gz
-    build slh usr/libexec/slh/x86-64-v{2,3,4}/slh
+    build slh usr/lib/slh/x86-64-v{2,3,4}/slh
 }
 
 # The provider is compiled here, over the files of libslh0 and libslh-dev. Without OpenSSL 3.5 there is none.

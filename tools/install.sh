@@ -17,7 +17,7 @@
 set -euo pipefail
 here=$(cd "$(dirname "${BASH_SOURCE[0]}")/.." && pwd)
 source "$here/tools/released.sh"
-levels=(x86-64-v2 x86-64-v3 x86-64-v4)
+levels=(x86-64-v2 x86-64-v3 x86-64-v4) chooser=x86-64
 if [ $# != 1 ] || [[ $1 = -* ]]; then
     echo "usage: tools/install.sh PREFIX" >&2
     exit 2
@@ -26,7 +26,7 @@ umask 022
 work=$(mktemp -d)
 trap 'rm -rf "$work"' EXIT
 
-if takes_release "${levels[@]/%//slh}"; then
+if takes_release $chooser/slh "${levels[@]/%//slh}"; then
     made=$here/dist version=$(release_says version)
 else
     command -v rt >/dev/null || {
@@ -35,7 +35,7 @@ else
     }
     (cd "$here/crates/slh" && rt check) >&2
     made=$work/made version=$(cat "$here/VERSION")
-    for level in "${levels[@]}"; do
+    for level in $chooser "${levels[@]}"; do
         "$here/tools/program.sh" "$level" "$made/$level/slh"
     done
 fi
@@ -62,5 +62,4 @@ done
 for file in man/man1/slh.1 bash-completion/completions/slh zsh/site-functions/_slh; do
     [ ! -f "$work/share/$file" ] || install -D -m 644 "$work/share/$file" "$prefix/share/$file"
 done
-sed 's|@FOLDER@|lib/slh|' "$here/packages/slh.sh" >"$work/slh"
-install -D -m 755 "$work/slh" "$prefix/bin/slh"
+install -D -m 755 "$made/$chooser/slh" "$prefix/bin/slh"

@@ -5,19 +5,38 @@
 #
 # usage: tools/program.sh LEVEL FILE [CRATE [LANES]]      LEVEL is x86-64-v2, x86-64-v3 or x86-64-v4; LANES is a name of
 #                                                         tools/kit.py, in place of the level's own
+#        tools/program.sh x86-64 FILE                     packages/slh.c, which runs the program for the best level. It
+#                                                         stands on no crate
 #
 # rattle knows no x86-64-v4: it makes the module for x86-64-v3, which tools/clang.sh has compiled for x86-64-v4. That
 # program looks for x86-64-v3 alone when it starts: who runs it has to look for the rest.
 set -euo pipefail
 here=$(cd "$(dirname "${BASH_SOURCE[0]}")/.." && pwd)
-if [ $# -lt 2 ] || [ $# -gt 4 ] || [[ $1 != x86-64-v[234] ]]; then
-    echo "usage: tools/program.sh LEVEL FILE [CRATE [LANES]]" >&2
+if [ $# -lt 2 ] || [ $# -gt 4 ] || [[ $1 != x86-64-v[234] && "$#-$1" != 2-x86-64 ]]; then
+    echo "usage: tools/program.sh LEVEL FILE [CRATE [LANES]], or x86-64 FILE" >&2
     exit 2
 fi
 crate=${3:-slh}
 work=$(mktemp -d)
 trap 'rm -rf "$work"' EXIT
 kit() { "$here/tools/kit.py" path "$1"; }
+
+# Paths are relative, so that none of this machine is in it. It has no C library, and nobody relocates it.
+chooser() {
+    local file
+    for file in packages/slh.c exports/{chosen,processor}.c; do
+        (cd "$here" && exec -a clang "$(kit toolchain/bin/clang)" --target=x86_64-unknown-linux-gnu -std=c11 -O2 -fPIE \
+            -ffreestanding -nostdinc -I exports/freestanding -fvisibility=hidden -fno-asynchronous-unwind-tables \
+            -Wall -Wextra -Werror -c "$file" -o "$work/${file//\//_}.o")
+    done
+    "$(kit toolchain/bin/ld.lld)" -pie --no-dynamic-linker -z norelro --strip-all -o "$work/slh" "$work"/*.o
+    install -D -m 755 "$work/slh" "$1"
+}
+
+if [ "$1" = x86-64 ]; then
+    chooser "$2"
+    exit
+fi
 
 level=$1 toolchain=$work/toolchain
 [ "$1" != x86-64-v4 ] || level=x86-64-v3

@@ -1,7 +1,8 @@
 #!/usr/bin/env bash
 # Writes the release of this version into dist/, or looks whether dist/ is what the sources give:
 #
-#   dist/x86-64/                  libslh.a and libslh.so.0, with the code for each level below
+#   dist/x86-64/                  libslh.a and libslh.so.0, with the code for each level below, and slh, which runs the
+#                                 program of a level where it is installed
 #   dist/x86-64-v2/, -v3/, -v4/   the program slh, libslh.a and libslh_verify.a
 #   dist/aarch64/                 libslh.a and libslh_verify.a
 #   dist/wasm64/                  slh.wasm
@@ -59,7 +60,7 @@ build() {
         "$here/tools/target.sh" "$target" "$1"
     done
     if has_wasm2c; then "$here/tools/target.sh" portable "$1"; else cp -r "$here/dist/portable" "$1"; fi
-    for level in x86-64-v2 x86-64-v3 x86-64-v4; do
+    for level in x86-64 x86-64-v2 x86-64-v3 x86-64-v4; do
         "$here/tools/program.sh" "$level" "$1/$level/slh"
     done
     install -D -m 644 -t "$1/include" "$here"/include/*.h

@@ -81,7 +81,7 @@ note_of() {
 
 # All files on which the answer hangs, with the program in `file`: more than those of tools/sources.sh, and that script.
 looked_at() {
-    LC_ALL=C exec find -H "$here"/{HANDLES,VERSION,crates.txt,exports,include,portable,tools,crates} \
+    LC_ALL=C exec find -H "$here"/{HANDLES,VERSION,crates.txt,exports,include,packages/slh.c,portable,tools,crates} \
         "$dist"/{BUILD,SHA256SUMS,"$file"} -path '*/out' -prune -o -type f -printf '%C@ %D:%i %s %p\n' 2>/dev/null
 }
 

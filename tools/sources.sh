@@ -1,7 +1,8 @@
 #!/usr/bin/env bash
 # Prints the SHA-256 of all that the program and the library for C are made of: the crates `slh`, `slh_c` and those below
 # them, with their lines of crates.txt, their sources, definitions and proofs, and without tests; the C round the
-# exports and that of the portable C, and the headers; HANDLES and VERSION; and the scripts that build. It needs no kit.
+# exports and that of the portable C, the headers, and packages/slh.c; HANDLES and VERSION; and the scripts that build.
+# It needs no kit.
 #
 # usage: tools/sources.sh
 set -euo pipefail
@@ -28,7 +29,7 @@ mapfile -t crates < <(lines | sed 's/[: ].*//')
 {
     lines
     {
-        find HANDLES VERSION exports include portable tools/{clang.sh,kit.py,portable.py,program.sh,target.sh} \
+        find HANDLES VERSION exports include packages/slh.c portable tools/{clang.sh,kit.py,portable.py,program.sh,target.sh} \
             -type f -print0
         find "${crates[@]/#/crates/}" -path '*/out' -prune -o -path '*/tests/*' -o -name 'tests.*' \
             -o \( -path '*/src/*' -o -path '*/specs/*' -o -path '*/proofs/*' \) -type f -print0
