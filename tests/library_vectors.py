@@ -2,16 +2,16 @@
 """Holds the library for C, as a shared object, against signatures that other implementations made.
 
 usage: tests/library_vectors.py [--verify-only] LIBRARY [VECTORS]
-       tests/library_vectors.py [--few] --through COMMAND [VECTORS]
+       tests/library_vectors.py [--few | --verify-only] --through COMMAND [VECTORS]
 
 LIBRARY is libslh.so as tools/library.sh installs it, VECTORS a folder of vector files (default: vectors). With
 --verify-only LIBRARY has the calls of slh_verify.h alone, and what needs another call is passed over.
 
 With --through the calls are made by a program, as `qemu-aarch64 calls`: tests/target_calls.c says what it reads and
-writes. It must also leave its inputs as they are. Since such a program is slow, of the sign tests under a set whose
-name ends in s only the first of the pure form is run, and without jobs, and faults are left out. With --few it runs all
-verify tests, of keygen the first of each set, and of sign the first of the pure, of the internal and of the pre-hash
-forms under each set whose name ends in f, by jobs the pure one alone.
+writes. It must also leave its inputs as they are. Since such a program is slow, of a sign test under a set whose name
+ends in s the first call alone is made, and no jobs, and faults are left out. With --few it runs all verify tests, of
+keygen the first of each set, of sign the first of the pure, of the internal and of the pre-hash forms under each set
+whose name ends in f, by jobs the pure one alone, and the first rows of more.tsv that are soon done.
 
 Of each test the calls must do what the file states:
 
@@ -20,13 +20,16 @@ Of each test the calls must do what the file states:
   the output is as it was. With a pre-hash function both the call with the message and the one with its digest. In the
   pure and the pre-hash forms also the calls for jobs, the last job first, under two cuttings; the start and each answer
   have the tag that Python's hmac gives;
-- verify: the call of the test's form is done where `valid` is true, and else invalid. With a pre-hash function both.
+- verify: the call of the test's form is done where `valid` is true, and else invalid. With a pre-hash function both;
+- a row of more.tsv: the key has the row's PK.root. The signature, where there is one, has the row's SHA-256. It is
+  valid, and with the row's bit flipped invalid.
 
 Of one sign test of each set whose name ends in f, each answer in turn has a wrong node with its tag, as a fault inside
 a job would write it. Where the node is one above the leaf that signs, or of the top tree, it is not joined; elsewhere
 the signature is another one, and valid. A start, and answers, with the tags of another encoding are refused.
 
-Four tests at a time are run, each in a thread, and with --verify-only one. The last line has the counts, and the status is 0 where no test failed.
+Four tests at a time are run, each in a thread, but a LIBRARY with --verify-only has one memory, and so one thread. The
+last line has the counts, and the status is 0 where no test failed and each program ended well.
 """
 import concurrent.futures
 import ctypes
@@ -50,7 +53,8 @@ FUNCTIONS = ["SHA2-224", "SHA2-256", "SHA2-384", "SHA2-512", "SHA2-512/224", "SH
 # n, lg_w, h', d, a and k of each set (FIPS 205, Table 2)
 RECORDS = [(16, 4, 9, 7, 12, 14), (16, 4, 3, 22, 6, 33), (24, 4, 9, 7, 14, 17)]
 RECORDS += [(24, 4, 3, 22, 8, 33), (32, 4, 8, 8, 14, 22), (32, 4, 4, 17, 9, 35)]
-
+# How many rows of keygen of each set whose name ends in f, and of sign of 128f, are soon done.
+SOON = 4, 1
 
 
 class Through:
@@ -100,10 +104,10 @@ class Through:
 
 
 words = sys.argv[1:]
-few = "--few" in words[:1]
-verify_only, is_through = words[few] == "--verify-only", words[few] == "--through"
+few, verify_only = ("--few" in words[:1]), ("--verify-only" in words[:1])
+is_through = words[few or verify_only] == "--through"
 here = pathlib.Path(__file__).resolve().parent.parent
-library, vectors = (words[few + (verify_only or is_through) :] + [here / "vectors"])[:2]
+library, vectors = (words[(few or verify_only) + is_through :] + [here / "vectors"])[:2]
 library = Through(library) if is_through else ctypes.CDLL(str(pathlib.Path(library).resolve()))
 vectors = pathlib.Path(vectors)
 
@@ -225,14 +229,15 @@ def jobs_pass(test, xmss, fors, wanted):
 
 def sign_passes(test):
     wanted = bytes.fromhex(test["signature"])
-    is_refused = len(test.get("context", "")) > 510
-    for name, *arguments in calls(test, "sign", bytes.fromhex(test["sk"]), bytes.fromhex(test["random"])):
+    is_refused, is_dear = len(test.get("context", "")) > 510, is_through and test["set"].endswith("s")
+    given = calls(test, "sign", bytes.fromhex(test["sk"]), bytes.fromhex(test["random"]))
+    for name, *arguments in given[:1] if is_dear else given:
         out = painted(lengths(SETS.index(test["set"]) + 1)[2])
         before = out.raw
         result = call(name, *arguments, out)
         if (result, out.raw) != ((CONTEXT_TOO_LONG, before) if is_refused else (DONE, wanted)):
             return False
-    if test["form"] == "internal" or (is_through and test["set"].endswith("s")) or (few and test["form"] != "pure"):
+    if test["form"] == "internal" or is_dear or (few and test["form"] != "pure"):
         return True
     cuts = [(1, 1)] if few else [(1, 1), (3, 4)]
     return all(jobs_pass(test, *cut, None if is_refused else wanted) for cut in cuts)
@@ -281,7 +286,20 @@ def verify_passes(test):
     return all(call(*it) == wanted for it in calls(test, "verify", bytes.fromhex(test["pk"]), signature))
 
 
+def row_passes(test):
+    """A row of more.tsv that signs."""
+    out = painted(lengths(SETS.index(test["set"]) + 1)[2])
+    sk, pk, random = (bytes.fromhex(test[it]) for it in ("sk", "pk", "random"))
+    name, *arguments = calls(test, "sign", sk, random)[0]
+    well = keygen_passes(test) and call(name, *arguments, out) == DONE
+    well &= hashlib.sha256(out.raw).hexdigest() == test["sha256"]
+    well &= all(call(*it) == DONE for it in calls(test, "verify", pk, out.raw))
+    out[test["bit"] // 8] = out.raw[test["bit"] // 8] ^ 1 << test["bit"] % 8
+    return well and all(call(*it) == INVALID for it in calls(test, "verify", pk, out.raw))
+
+
 PASSES = {"keygen": keygen_passes, "sign": sign_passes, "faults": faults_pass, "verify": verify_passes}
+PASSES["row"] = row_passes
 
 
 def kind_of(test):
@@ -301,30 +319,53 @@ def chosen(tests):
         is_first, is_slow = it in firsts, name.endswith("s")
         if kind == "verify" or (kind == "keygen" and (is_first or not few)):
             yield it
-        elif kind == "sign" and ((is_first and form == "pure" and not few) if is_slow else (is_first or not few)):
+        elif kind == "sign" and (not few or (is_first and not is_slow)):
             yield it
+
+
+def rows():
+    """The rows of more.tsv as tests, where VECTORS has that file. With --few those that are soon done."""
+    file, found = vectors / "more.tsv", []
+    lines = file.read_text().splitlines() if file.is_file() or vectors == here / "vectors" else []
+    for number, line in enumerate((it for it in lines if not it.startswith("#")), 1):
+        kind, name, seeds, root, *rest = line.split("\t")
+        n = len(root) // 2
+        test = dict(kind=kind, set=name, sk=seeds + root, pk=seeds[4 * n :] + root)
+        test |= zip(("skSeed", "skPrf", "pkSeed"), (seeds[: 2 * n], seeds[2 * n : 4 * n], seeds[4 * n :]))
+        if kind == "sign":
+            form, message, context, random, sha256, bit = rest
+            test |= dict(kind="row", form=form, message=message, context=context, random=random)
+            test |= dict(sha256=sha256, bit=int(bit))
+        found.append((file.name, number, test))
+    return soon_done(found) if few else found
+
+
+def soon_done(found):
+    """Of the rows of each set whose name ends in f the first of keygen, and of 128f the first of sign, too."""
+    chosen_rows = []
+    for name in SETS[1::2]:
+        for kind, count in zip(("keygen", "row"), SOON if name == SETS[1] else SOON[:1]):
+            chosen_rows += [it for it in found if (it[2]["kind"], it[2]["set"]) == (kind, name)][:count]
+    return chosen_rows
 
 
 def main():
     tests = []
     for path in sorted(set(vectors.glob("*.json")) - {vectors / "records.json"}):
         tests += [(path.name, number, test) for number, test in enumerate(json.loads(path.read_text()), 1)]
-    if is_through:
-        tests = list(chosen(tests))
+    tests = [*(chosen(tests) if is_through else tests), *rows()]
     for name in [] if is_through else SETS[1::2]:
         pure = [it for it in tests if (it[2]["kind"], it[2]["set"], it[2].get("form")) == ("sign", name, "pure")]
         tests += [(file, number, dict(test, kind="faults")) for file, number, test in pure[:1]]
     if verify_only:
         tests = [it for it in tests if it[2]["kind"] == "verify" and it[2]["form"] != "internal"]
-    with concurrent.futures.ThreadPoolExecutor(1 if verify_only else 4) as pool:
+    with concurrent.futures.ThreadPoolExecutor(1 if verify_only and not is_through else 4) as pool:
         passes = list(pool.map(lambda it: PASSES[it[2]["kind"]](it[2]), tests))
     for (name, number, test), well in zip(tests, passes):
         if not well:
             print(f"{name} test {number} {test['kind']} {test['set']}: fail")
-    if is_through:
-        passes.append(library.end())
-    failed = passes.count(False)
-    print(f"{len(passes) - failed} passed, {failed} failed")
+    failed = passes.count(False) + (is_through and not library.end())
+    print(f"{passes.count(True)} passed, {failed} failed")
     sys.exit(1 if failed or not passes else 0)
 
 

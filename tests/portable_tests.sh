@@ -3,12 +3,12 @@
 # it: vectors/ through the calls by GCC and clang on x86-64; on 32-bit ARM, on 64-bit RISC-V and on s390x, whose numbers
 # have their highest byte first, under qemu; on Windows under wine, as an object and as a DLL; under the sanitizers of
 # GCC, with each load and store looked at. What else there is to see: that it compiles without a warning, which symbols
-# it asks for, that memory is erased, what is answered where it is refused, and that a trap says why. And a program for
-# a board without a system (examples/board.c) on an emulated Cortex-M4, with its size, its stack and its memory.
+# it asks for, that memory is erased, what is answered where it is refused, and that a trap says why. And on an emulated
+# Cortex-M4 without a system the verify tests, and a program (examples/board.c) with its size, stack and memory.
 #
 # usage: tests/portable_tests.sh [--few] [--dist DIST] [--all]
 #
-# Of the tests of keys and of signing it runs some, and with --all more: tests/library_vectors.py says which. With --few
+# Of the tests of keys and of signing it runs some, and with --all all: tests/library_vectors.py says which. With --few
 # GCC reads slh.c, and the board's program is made. It stands on what `rt ci`, or `rt check` in crates/slh_c,
 # has built, or on a release with --dist. tools/setup.sh installs what it needs: where a tool is missing, it says which,
 # and what that tool is for is skipped. The last line has the counts, and the status is 0 where nothing failed.
@@ -24,6 +24,8 @@ work=$(mktemp -d)
 trap 'rm -rf "$work"' EXIT
 prefix=$work/prefix src=$work/prefix/src
 wanted=(-std=c11 "${strict[@]}" -I "$prefix/include")
+# What slh_verify.c takes for each test of vectors/.
+enough="-DSLH_VERIFY_MEMORY=SLH_VERIFY_MEMORY_FOR(SLH_DSA_SHA2_256F_SIGNATURE, 1 << 20)"
 export WINEPREFIX=$work/wine WINEDEBUG=-all WINEDLLOVERRIDES=mscoree,mshtml= XDG_RUNTIME_DIR=$work
 export PYTHONDONTWRITEBYTECODE=1
 
@@ -120,8 +122,7 @@ verify_vectors() {
 }
 
 links_verify() {
-    local enough="SLH_VERIFY_MEMORY_FOR(SLH_DSA_SHA2_256F_SIGNATURE, 1 << 20)"
-    gcc -O1 -shared -fPIC "${wanted[@]}" "-DSLH_VERIFY_MEMORY=$enough" "${@:2}" "$src/slh_verify.c" -o "$1"
+    gcc -O1 -shared -fPIC "${wanted[@]}" "$enough" "${@:2}" "$src/slh_verify.c" -o "$1"
 }
 
 # Writes to $work/short the tests of vectors/ under 128s and 128f, but for those of a function made of SHA-512.
@@ -234,7 +235,19 @@ board() {
     one "a good image is valid on the board, and a damaged one invalid" diff \
         <(printf 'valid\ndamaged: invalid\n') <(head -n 2 "$work/board")
     sed 's/^/Cortex-M4, 128s: /' "$work/board"
-    [ $few = yes ] || one "a trap says why, and stops the program" tells_trap
+    [ $few = yes ] || { one "a trap says why, and stops the program" tells_trap && vectors_on_board; }
+}
+
+# Runs the verify tests of the forms that slh_verify.h has. Such a board has 4 MB for the program, and 4 MB of memory.
+vectors_on_board() {
+    local machine=Cortex-M4 cc=(arm-none-eabi-gcc -mcpu=cortex-m4 -mthumb -Os -ffunction-sections -fdata-sections)
+    local run="qemu-system-arm -M mps2-an386 -display none -serial none -monitor none"
+    run+=" -semihosting-config enable=on,target=native -kernel"
+    sed -E 's/LENGTH = [0-9]+K/LENGTH = 4M/' "$here/examples/board.ld" >"$work/board.ld"
+    one "the program for vectors compiles for $machine" "${cc[@]}" "${wanted[@]}" -nostartfiles --specs=rdimon.specs \
+        -Wl,--gc-sections,--defsym=end=bss_end -T "$work/board.ld" -DVERIFY_ONLY "$enough" \
+        "$here"/tests/{target_calls,board_calls}.c "$src/slh_verify.c" -o "$work/$machine.exe" || return
+    count "vectors on $machine" "$here/tests/library_vectors.py" --verify-only --through "$run $work/$machine.exe"
 }
 
 # With a stack that is too short the proved code would leave its memory. Where that is looked at, the program says so.

@@ -6,8 +6,13 @@
  * just these bytes, and their number; `pHEX` such a pointer alone, to a number that is written with its lowest byte
  * first. For each line it writes one: the number that is returned, and what the bytes of each b and p are then.
  * tests/target_calls.mjs does the same over WebAssembly. It takes C99 alone, 32 bits or 64, in any order of bytes.
+ * With -DVERIFY_ONLY it has the calls of slh_verify.h alone.
  */
+#ifdef VERIFY_ONLY
+#include <slh_verify.h>
+#else
 #include <slh_internal.h>
+#endif
 
 #include <stdio.h>
 #include <stdlib.h>
@@ -55,16 +60,19 @@ static void put_back(int i) {
     if (strcmp(call, #name) == 0) return name(__VA_ARGS__)
 
 static uint32_t run(const char *call) {
+    CALL(slh_verify, N(0), B(1), B(2), B(3), B(4));
+    CALL(slh_hash_verify, N(0), N(1), B(2), B(3), B(4), B(5));
+    CALL(slh_hash_verify_digest, N(0), N(1), B(2), B(3), B(4), B(5));
+#ifdef VERIFY_ONLY
+    (void)take;
+#else
     CALL(slh_lengths, N(0), S(1), S(2), S(3), S(4));
     CALL(slh_keygen, N(0), B(1), B(2), B(3), B(4));
     CALL(slh_public, N(0), B(1), B(2));
     CALL(slh_check, N(0), B(1));
     CALL(slh_sign, N(0), B(1), B(2), B(3), B(4), B(5));
-    CALL(slh_verify, N(0), B(1), B(2), B(3), B(4));
     CALL(slh_hash_sign, N(0), N(1), B(2), B(3), B(4), B(5), B(6));
-    CALL(slh_hash_verify, N(0), N(1), B(2), B(3), B(4), B(5));
     CALL(slh_hash_sign_digest, N(0), N(1), B(2), B(3), B(4), B(5), B(6));
-    CALL(slh_hash_verify_digest, N(0), N(1), B(2), B(3), B(4), B(5));
     CALL(slh_sign_internal, N(0), B(1), B(2), B(3), B(4));
     CALL(slh_verify_internal, N(0), B(1), B(2), B(3));
     CALL(slh_sign_jobs, N(0), N(1), N(2), W(3), S(4), S(5));
@@ -77,6 +85,7 @@ static uint32_t run(const char *call) {
     CALL(slh_keygen_job, N(0), N(1), B(2), B(3), B(4), N(5), B(6));
     CALL(slh_keygen_join, N(0), N(1), B(2), B(3), B(4), B(5), B(6));
     CALL(slh_refusal_name, N(0), (char *)B(1));
+#endif
     fprintf(stderr, "no call %s\n", call);
     exit(2);
 }

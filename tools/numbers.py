@@ -1,6 +1,6 @@
 #!/usr/bin/env python3
-"""Compares the sizes of files and the bytes of stack that README.md and the pages of docs/ on the library for C tell
-with those of libraries, or writes them there.
+"""Compares the sizes of files and the bytes of stack and memory that README.md and the pages of docs/ on the library
+for C tell with those of libraries, or writes them there.
 
 usage: tools/numbers.py --check|--write TARGET=FOLDER ..
 
@@ -10,8 +10,8 @@ What needs a target that is not given, or an emulator or processor that is not t
 and that is told. It compiles and runs tests/library_stack.c, by CC or cc, or AARCH64_CC and qemu-aarch64.
 
 A size may be off by 2 %, or by what rounding to KB, 1,000 bytes, takes. Stack is written rounded up to hundreds: a call
-may take no more than is written, and at most 2 % less, since a thread may be given what is written. The last line has
-the counts.
+may take no more than is written, and at most 2 % less, since a thread may be given what is written. The memory of
+slh_verify.c by sets is written as the header has it. The last line has the counts.
 """
 import os
 import pathlib
@@ -33,6 +33,7 @@ KINDS = {
            lambda found: str(round(found / 1000))),
     "bytes": (lambda said, found: abs(said - found) <= OFF * found, lambda found: f"{found:,}"),
     "stack": (lambda said, found: found <= said <= (1 + OFF) * found, lambda found: f"{-(-found // 100) * 100:,}"),
+    "exactly": (lambda said, found: said == found, lambda found: f"{found:,}"),
     "thousands": (lambda said, found: said == round(found, -3) or abs(said - found) <= OFF * found,
                   lambda found: f"{round(found, -3):,}"),
 }
@@ -48,6 +49,7 @@ SPREAD = r"`slh_keygen`\s+by\s+N,\s+`slh_sign`\s+by\s+N\s+and\s+`slh_sign_job`\s
 TARGETS = ["x86-64", *LEVELS, "aarch64", "wasm64", "portable"]
 PORTABLE = ["slh.c", "slh_verify.c"]
 BOARD = ["flash", "stack", "memory"]
+SETS = ["128s", "128f", "192s", "192f", "256s", "256f"]
 
 
 def run(*command, **more):
@@ -110,12 +112,24 @@ def libraries(target, lib):
     return found
 
 
-def portable_facts(folder):
-    """The sizes of the portable C, and what tests/board.sh measures on the emulated board."""
+def memory_facts(headers, work):
+    """The memory of slh_verify.c for each set, as the macros of the header have it."""
+    cc, program = os.environ.get("CC", "cc"), work / "memory"
+    if not shutil.which(cc):
+        return {}
+    says = "".join(f'printf("%lu\\n", (unsigned long)SLH_DSA_SHA2_{it.upper()}_VERIFY_MEMORY);' for it in SETS)
+    program.with_suffix(".c").write_text(f"#include <slh_verify.h>\n#include <stdio.h>\nint main(void) {{ {says} }}\n")
+    run(cc, "-std=c99", "-I", headers, program.with_suffix(".c"), "-o", program)
+    return {f"memory for {name}": int(it) for name, it in zip(SETS, run(program).split(), strict=True)}
+
+
+def portable_facts(folder, work):
+    """The sizes of the portable C, its memory by sets, and what tests/board.sh measures on the emulated board."""
     files = {name: next(folder.rglob(name)) for name in PORTABLE}
     facts = {f"portable {name}": file.stat().st_size for name, file in files.items()}
+    headers = folder / "include" if (folder / "include").is_dir() else HERE / "include"
+    facts |= memory_facts(headers, work)
     if all(map(shutil.which, ("arm-none-eabi-gcc", "qemu-system-arm"))):
-        headers = folder / "include" if (folder / "include").is_dir() else HERE / "include"
         said = run(HERE / "tests/board.sh", headers, files["slh_verify.c"])
         facts |= {f"board {name}": int(number) for name, number in re.findall(r"^(\w+): (\d+)$", said, re.M)}
     return facts
@@ -124,7 +138,7 @@ def portable_facts(folder):
 def facts_of(target, folder, work):
     """What is measured of a target, by name."""
     if target == "portable":
-        return portable_facts(folder)
+        return portable_facts(folder, work)
     lib, facts = folder / "lib" if (folder / "lib").is_dir() else folder, {}
     level = "x86-64-v2" if target == "x86-64" else target  # libslh_verify.a of what is installed is for this level
     for file in sorted(it for it in folder.rglob("*") if it.is_file() and not it.is_symlink()):
@@ -247,6 +261,9 @@ def firmware_page(page):
                  [f"code of {target} libslh_verify.a", f"{target} growth", f"{target} stack of slh_verify",
                   f"{target} stack of slh_hash_verify_digest"], is_needed=target != "x86-64-v4")
     page.row(r"`slh\.c` \(N KB\), `slh_verify\.c` \(N KB\)", ["KB"] * 2, [f"portable {it}" for it in PORTABLE])
+    head = r"\| 128s \| 128f \| 192s \| 192f \| 256s \| 256f \|\n\|[-|]+\n"
+    page.row(head + r"\| N \| N \| N \| N \| N \| N \|", ["exactly"] * 6, [f"memory for {it}" for it in SETS])
+    page.row("memory of the calls that was written, of N ", ["exactly"], ["memory for 128s"])
     for name in BOARD:
         page.row(rf"\n\| {name}\b[^|\n]*\| N bytes", ["stack" if name == "stack" else "bytes"], [f"board {name}"])
 
