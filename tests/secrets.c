@@ -24,13 +24,13 @@
 
 enum { MOST_KNOWN = 1024, SETS = 3, WINDOWS = 3, WINDOW_STEP = 4 };
 
-/* The sets whose names end in f: how many XMSS and FORS trees a signature has. */
+/* The sets whose names end in f: how many XMSS trees a signature has. */
 static const struct {
-    uint32_t set, d, k;
-} sets[SETS] = {{SLH_DSA_SHA2_128F, 22, 33}, {SLH_DSA_SHA2_192F, 22, 33}, {SLH_DSA_SHA2_256F, 17, 35}};
+    uint32_t set, d;
+} sets[SETS] = {{SLH_DSA_SHA2_128F, 22}, {SLH_DSA_SHA2_192F, 22}, {SLH_DSA_SHA2_256F, 17}};
 
 static const uint8_t msg[] = "a message that is signed", formatted[] = "\0\0a message that is signed";
-static uint32_t set, d, k, jobs;
+static uint32_t set, d, jobs;
 static size_t pk_len, sk_len, sig_len, n, start_len, answers_len;
 static uint8_t seeds[3 * SLH_MAX_N], sk[SLH_MAX_SECRET_KEY], sig[SLH_MAX_SIGNATURE], start[SLH_MAX_START];
 static uint8_t random_bytes[SLH_MAX_N], digest[32], made[SLH_MAX_SIGNATURE], *answers;
@@ -223,7 +223,8 @@ static void pre_hash(size_t len) {
         slh_hash_sign_digest(set, function, sk, sk_len, digest, 32, NULL, 0, random_bytes, len, made, sig_len));
 }
 
-/* One signature as jobs: each verdict on a tag, on a tree's two roots and on the top root is told once. */
+/* One signature as jobs: each verdict on a tag, on the roots of all FORS trees, on the two roots of an XMSS tree and on
+ * the top root is told once. */
 UNUSED_WHERE_IT_LEAKS static void by_jobs(void) {
     must(slh_sign(set, sk, sk_len, msg, sizeof msg, NULL, 0, NULL, 0, sig, sig_len) == SLH_DONE, "sign");
     learn(0, sig);
@@ -245,7 +246,7 @@ UNUSED_WHERE_IT_LEAKS static void by_jobs(void) {
         must(result == SLH_DONE, "job");
     }
     tell("slh_sign_job, all jobs", VALGRIND_COUNT_ERRORS - before, jobs, jobs, 0);
-    TRY("slh_sign_join", 1 + jobs + k + d + 1, d,
+    TRY("slh_sign_join", 1 + jobs + 1 + d + 1, d,
         slh_sign_join(set, 1, 1, sk, sk_len, start, start_len, answers, answers_len, made, sig_len));
     must(memcmp(made, sig, sig_len) == 0, "another signature by jobs");
 }
@@ -267,7 +268,7 @@ int main(int argc, char **argv) {
     memset(random_bytes, 0xc3, sizeof random_bytes);
     for (size_t i = 0; i < SETS; i++) {
         if (argc > 1 && (uint32_t)atoi(argv[1]) != sets[i].set) continue;
-        set = sets[i].set, d = sets[i].d, k = sets[i].k;
+        set = sets[i].set, d = sets[i].d;
         must(slh_lengths(set, &pk_len, &sk_len, &sig_len, &n) == SLH_DONE, "lengths");
         must(slh_sign_jobs(set, 1, 1, &jobs, &start_len, &answers_len) == SLH_DONE, "jobs");
         must(slh_keygen(set, seeds, n, seeds + n, n, seeds + 2 * n, n, sk, sk_len) == SLH_DONE, "keygen");

@@ -8,7 +8,7 @@ ghost use Rattle.slh_core.specs.Randomizers.{HasLength};
 ghost use Rattle.slh_core.specs.Signatures.{signature_by, IsValid};
 
 use crate::fault::SignFault;
-use crate::formatted_message::FormattedMessage;
+use crate::formatted_message::{FormattedMessage, MOST_CONTEXT_LEN};
 use crate::pre_hash::PreHash;
 use crate::pre_hash_form::pre_hash_digest;
 use crate::public_key::PublicKey;
@@ -42,6 +42,10 @@ impl Form {
         ensures accepted { IsSome result ↔ (length ctx.now ≤ 255) }
         ensures bytes { IfSome result (λ message. bytes_of message ≡ message_in_form self ctx.now msg.now) }
     {
+        // No message is hashed for a context that is refused.
+        if ctx.len() > MOST_CONTEXT_LEN {
+            return None;
+        }
         match self {
             Form::Pure => FormattedMessage::of_message(msg, ctx),
             Form::PreHash(function) => {

@@ -6,7 +6,7 @@ ghost use Rattle.slh_core.specs.Messages.{bytes_of, message_bytes, oid_bytes, pu
 use crate::message_digest::MessageDigest;
 
 /// The most bytes of a context: one byte of M' has their number (FIPS 205, Algorithm 22, line 8).
-const MOST_CONTEXT_LEN: usize = u8::MAX as usize;
+pub(crate) const MOST_CONTEXT_LEN: usize = u8::MAX as usize;
 
 /// The first two bytes of M': its form, and the length of the context. `None` for a context of over 255
 /// bytes, which has no M'.

@@ -1,18 +1,22 @@
--- Eight keys beside one another: the one among them, and that T over the ends of their chains is what they are.
+-- Eight keys beside one another: the one among them, their chains run on, and that T over the ends of these is what
+-- the keys are.
 use Rattle.std.proofs.Common.{◌≡◌, ℕ, ◌+◌, ◌-◌, ◌%◌, ◌^◌, ◌<◌, List, [], ◌++◌, length, slice_index_or, ap, ap₂, subst, sym, ◌∙◌, arith}
 use Rattle.arrayvec.specs.ArrayVec.{ArrayVec}
-use Rattle.slh_params.specs.Address.{Address, WOTS_PK}
+use Rattle.slh_params.specs.Address.{Address, WOTS_HASH, WOTS_PK}
 use Rattle.slh_params.specs.Params.{Params, len}
 use Rattle.slh_params.specs.ParamSet.{params}
 use Rattle.slh_params.specs.declared.param_set.ParamSet.{ParamSet}
 use Rattle.slh_hash.specs.Hash.{T}
-use Rattle.slh_lanes.specs.Lanes.{value_at}
-use Rattle.slh_few.specs.KeyStreams.{AreEnds, HasAbsorbedKey, HaveAbsorbedEnds}
+use Rattle.slh_lanes.specs.Lanes.{HasAddress, value_at}
+use Rattle.slh_lanes.specs.Steps.{steps}
+use Rattle.slh_few.specs.KeyStreams.{AreAfter, AreEnds, HasAbsorbedKey, HaveAbsorbedEnds, key_at}
 use Rattle.slh_few.specs.Parts.{end_to_end}
-use Rattle.slh_few.specs.Wots.{wots_address, whole_chain, wots_pk}
+use Rattle.slh_few.specs.Wots.{wots_address, chain, secret, whole_chain, wots_pk}
 use Rattle.slh_few.specs.Xmss.{AreKeysFrom, place}
 use Rattle.slh_few.specs.declared.key_streams.KeyStreams.{KeyStreams}
 use Rattle.slh_few.specs.declared.place.Place.{Place}
+use Rattle.slh_few.proofs.ChainLanes.{chain-steps}
+use Rattle.slh_few.proofs.Chains.{chain-on}
 use Rattle.slh_few.proofs.Ends.{end_to_end-more, end_to_end-none}
 use Rattle.slh_few.proofs.WotsLaw.{ends_few}
 
@@ -22,6 +26,18 @@ pub among_eight : (at first : Place) → first ≡ place at.layer at.tree (at.pa
 among_eight at first is =
     let same : at.pair - at.pair % 8 + at.pair % 8 ≡ at.pair = omega arith in
     ap (λ (a : Place). place a.layer a.tree (a.pair + at.pair % 8)) is ∙ ap (place at.layer at.tree) same
+
+-- chains that are run on have taken so many steps more
+pub run_on : (p : Params) (sk pk : List ℕ) (at : Place) (c start from count next : ℕ) (adrs old new : List (List ℕ))
+    → from ≡ start → start + count ≡ next
+    → ((j : ℕ) → j < 8 → HasAddress adrs j (wots_address (key_at at j) WOTS_HASH c 0))
+    → ((j : ℕ) → j < 8 → (a : Address) → HasAddress adrs j a → value_at new j p.n ≡ steps p pk a (value_at old j p.n) from count)
+    → AreAfter p sk pk at c start old → AreAfter p sk pk at c next new
+run_on p sk pk at c start from count next adrs old new is all held run before = λ j lane.
+    let key = key_at at j in
+    let x = secret p sk pk key c in
+    run j lane _ (held j lane) ∙ chain-steps p pk key c (value_at old j p.n) from count
+    ∙ (λ i. chain p pk key c (before j lane i) (is i) count) ∙ chain-on p pk key c x start count ∙ ap (λ k. chain p pk key c x 0 k) all
 
 -- where each key's stream has absorbed the ends of all chains, T gives the keys
 pub finished_keys : (s : ParamSet) (sk pk : List ℕ) (at : Place) (streams : KeyStreams) (keys : List (ArrayVec ℕ)) (k : ℕ)

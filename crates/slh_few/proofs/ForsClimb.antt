@@ -1,14 +1,21 @@
 -- The climbs of FORS trees whose nodes are numbered on from one tree to the next.
-use Rattle.std.proofs.Common.{◌≡◌, ℕ, ◌+◌, ◌-◌, ◌*◌, ◌/◌, ◌%◌, ◌^◌, ◌<◌, eqb, List, take, drop, ap, sym, ◌∙◌, ◌⊎◌, inl, inr, arith}
+use Rattle.std.proofs.Common.{◌≡◌, ℕ, ◌+◌, ◌-◌, ◌*◌, ◌/◌, ◌%◌, ◌^◌, ◌<◌, eqb, zero, suc, List, length, take, drop, ap, sym, ◌∙◌, ◌⊎◌, inl, inr, arith}
 use Rattle.std.proofs.lemmas.Bool.{cond-true, cond-false, ne_eqb, eq-eqb, cases_lt}
 use Rattle.std.proofs.lemmas.List.{drop-drop}
 use Rattle.std.proofs.lemmas.Nat.{pow-add}
 use Rattle.slh_params.specs.Address.{address, FORS_TREE}
 use Rattle.slh_params.specs.Params.{Params}
+use Rattle.slh_params.specs.declared.param_set.ParamSet.{ParamSet}
+use Rattle.slh_params.specs.ParamSet.{params}
+use Rattle.slh_params.proofs.Bounds.{n_high}
 use Rattle.slh_hash.specs.Hash.{H}
-use Rattle.slh_tree.specs.Climb.{parent, path_node}
+use Rattle.slh_hash.proofs.Lengths.{length-F}
+use Rattle.slh_tree.specs.Climb.{climb_to, parent, path_node}
+use Rattle.slh_tree.specs.Tree.{MerkleTree, Lawful}
 use Rattle.slh_few.specs.Fors.{fors_tree}
+use Rattle.slh_few.specs.ForsRoots.{climbed}
 use Rattle.slh_few.specs.Parts.{part}
+use Rattle.slh_few.specs.Trees.{fors_tree-lawful}
 
 -- one level down the trees before have twice as many nodes
 before_twice : (t a z : ℕ) → z < a → t * 2 ^ (a - z) ≡ 2 * (t * 2 ^ (a - (z + 1)))
@@ -52,3 +59,22 @@ pub path_after : (n z : ℕ) (own : List ℕ) → part n own (z + 1) ≡ path_no
 path_after n z own =
     let e : (z + 1) * n ≡ n + z * n = omega arith in
     ap (λ (k : ℕ). take n (drop k own)) e ∙ ap (take n) (sym (drop-drop (z * n) n own))
+
+-- a climb ends with a node of the tree's length
+length-parent : (t : MerkleTree) → Lawful t → (z i : ℕ) (own other : List ℕ) → length (parent t z i own other) ≡ t.width
+length-parent t law z i own other =
+    elim (even_or_odd i) [
+      | inl e ↦ ap length (cond-true (eqb (i % 2) 0) _ _ (eq-eqb _ _ e)) ∙ law.join_width z (i / 2) own other
+      | inr o ↦ ap length (cond-false (eqb (i % 2) 0) _ _ (ne_eqb _ _ (λ e. omega arith))) ∙ law.join_width z (i / 2) other own
+    ]
+
+length-climb_to : (t : MerkleTree) → Lawful t → (i : ℕ) (x : List ℕ) (f : ℕ → List ℕ) (k : ℕ) → length x ≡ t.width → length (climb_to t i x f k) ≡ t.width
+unfolding climb_to
+length-climb_to t law i x f zero is = is
+length-climb_to t law i x f (suc k) is = length-parent t law (suc k) (i / 2 ^ k) (climb_to t i x f k) (f k)
+
+-- so has the climb in a FORS tree
+pub length-climbed : (s : ParamSet) (sk pk : List ℕ) (t i j x : ℕ) (own : List ℕ) (z : ℕ) → length (climbed (params s) sk pk t i j x own z) ≡ (params s).n
+length-climbed s sk pk t i j x own z =
+    length-climb_to (fors_tree (params s) sk pk t i j) (fors_tree-lawful s sk pk t i j) x _ (path_node (params s).n (drop (params s).n own)) z
+    (length-F (params s) pk _ _ (n_high s))

@@ -8,7 +8,7 @@ use Rattle.slh_lanes.specs.Lanes.{value_at}
 use Rattle.slh_lanes.specs.LaneStreams.{HasAbsorbedAt}
 use Rattle.slh_lanes.specs.declared.words.TheConstants.{GROUP}
 use Rattle.slh_few.specs.Parts.{end_to_end}
-use Rattle.slh_few.specs.Wots.{wots_address, whole_chain}
+use Rattle.slh_few.specs.Wots.{wots_address, chain, secret, whole_chain}
 use Rattle.slh_few.specs.Xmss.{place}
 use Rattle.slh_few.specs.declared.place.Place.{Place}
 use Rattle.slh_few.specs.declared.key_streams.KeyStreams.{KeyStreams}
@@ -19,13 +19,26 @@ abbrev pub HasAbsorbedKey : KeyStreams → ℕ → Params → List ℕ → Addre
 HasAbsorbedKey (Lanes s) j p pk_seed adrs x = HasAbsorbedAt s j p pk_seed adrs x
 HasAbsorbedKey (Alone ss) j p pk_seed adrs x = (d : TStream) → HasAbsorbed (slice_index_or ss j d) p pk_seed adrs x
 
+-- the key in lane j of the eight from this place on
+abbrev pub key_at : Place → ℕ → Place
+key_at at j = place at.layer at.tree (at.pair + j)
+
+-- the value of chain c after so many steps from its secret
+abbrev pub value_after : Params → List ℕ → List ℕ → Place → ℕ → ℕ → List ℕ
+value_after p sk_seed pk_seed at c steps = chain p pk_seed at c (secret p sk_seed pk_seed at c) 0 steps
+
+-- the lanes hold the values of chain c, after so many steps, of the eight keys from this place on
+abbrev pub AreAfter : Params → List ℕ → List ℕ → Place → ℕ → ℕ → List (List ℕ) → Type 0
+AreAfter p sk_seed pk_seed at c steps values =
+    (j : ℕ) → j < GROUP → value_at values j p.n ≡ value_after p sk_seed pk_seed (key_at at j) c steps
+
 -- the lanes hold the ends of chain c of the eight keys from this place on
 abbrev pub AreEnds : Params → List ℕ → List ℕ → Place → ℕ → List (List ℕ) → Type 0
 AreEnds p sk_seed pk_seed at c ends =
-    (j : ℕ) → j < GROUP → value_at ends j p.n ≡ whole_chain p sk_seed pk_seed (place at.layer at.tree (at.pair + j)) c
+    (j : ℕ) → j < GROUP → value_at ends j p.n ≡ whole_chain p sk_seed pk_seed (key_at at j) c
 
 -- T of each of these keys has absorbed the ends of its first k chains
 abbrev pub HaveAbsorbedEnds : Params → List ℕ → List ℕ → Place → ℕ → KeyStreams → Type 0
 HaveAbsorbedEnds p sk_seed pk_seed at k streams =
-    (j : ℕ) → j < GROUP → HasAbsorbedKey streams j p pk_seed (wots_address (place at.layer at.tree (at.pair + j)) WOTS_PK 0 0)
-    (end_to_end (whole_chain p sk_seed pk_seed (place at.layer at.tree (at.pair + j))) k)
+    (j : ℕ) → j < GROUP → HasAbsorbedKey streams j p pk_seed (wots_address (key_at at j) WOTS_PK 0 0)
+    (end_to_end (whole_chain p sk_seed pk_seed (key_at at j)) k)

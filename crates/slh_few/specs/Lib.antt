@@ -1,11 +1,13 @@
 pub mod Parts
 pub mod LaneValues
+pub mod Levels
 pub mod ChainOrder
 pub mod Wots
 pub mod RunningChains
 pub mod KeptChains
 pub mod Xmss
 pub mod KeyStreams
+pub mod SignedValues
 pub mod Hypertree
 pub mod Fors
 pub mod ForsHashes

@@ -102,6 +102,24 @@ pub(crate) fn run_lanes(
     lanes.chains_each(&chain_adrs(at, AdrsType::WotsHash, group), x, from, counts)
 }
 
+/// Runs the group's chains on, all from the same step and by the same number of steps.
+pub(crate) fn run_alike(
+    lanes: &SeededLanes,
+    at: Place,
+    group: &ChainGroup,
+    x: &LaneNodes,
+    from: u32,
+    count: u32,
+) -> LaneNodes
+    requires { from + count ≤ MOST_STEPS }
+    ensures { (p : Params) (pk_seed : List ℕ) → IsSeededLanes lanes.now p pk_seed → (j : ℕ) → j < GROUP
+        → value_at result j p.n
+        ≡ chain_of p pk_seed at (slice_index group.now j) (value_at x.now j p.n) from count }
+{
+    let counts = Words::splat(count);
+    run_lanes(lanes, at, group, x, Words::splat(from), counts)
+}
+
 /// Writes the values of n bytes in the first `used` lanes as the parts of `out` that have the chains' numbers.
 pub(crate) fn put_lanes(
     out: &mut [u8],

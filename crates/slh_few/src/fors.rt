@@ -6,13 +6,15 @@ ghost use Rattle.slh_lanes.specs.TreeLanes.{IsSeededTreeLanes};
 ghost use Rattle.slh_tree.specs.Cover.{past_leaf};
 ghost use Rattle.slh_tree.specs.Tree.{node, root as root_of};
 ghost use Rattle.slh_tree.specs.Climb.{path as path_of, climb as climb_of};
-ghost use Rattle.slh_few.specs.Fors.{fors_tree, fors_leaf, fors_secret, fors_part_len, fors_sig, fors_pk_from_sig, compressed_roots};
+ghost use Rattle.slh_few.specs.Fors.{fors_tree, fors_leaf, fors_secret, fors_part_len, fors_sig, fors_root, fors_pk_from_sig, compressed_roots};
+ghost use Rattle.slh_few.specs.ForsHashes.{AreSeeded};
 ghost use Rattle.slh_few.specs.Parts.{part};
 ghost use Rattle.slh_few.specs.declared.fors.TheConstants.{MOST_FORS_PART_LEN};
 
-use crate::fors_climb::absorb_in_lanes;
+use crate::fors_climb::{absorb_in_lanes, put_in_lanes};
 use crate::fors_parts::{fors_indices, fors_roots};
 use crate::fors_tree::{fors_adrs, index_in_forest};
+use crate::nodes::put_part;
 use crate::place::{Public, Seeds};
 use crate::seeded_trees::{ForsHashes, SeededForsTree};
 use slh_lanes::SeededTreeLanes;
@@ -45,7 +47,7 @@ pub fn fors_node(seeds: &Seeds, idx_tree: u64, idx_leaf: u32, tree_no: u32, z: u
 {
     let hashes = ForsHashes::new(seeds.set, seeds.pk_seed);
     let tree = SeededForsTree::at(&hashes, seeds, idx_tree, idx_leaf, tree_no);
-    tree.node(&SeededTreeLanes::new(hashes.lanes()), z, i)
+    tree.node(&hashes.join_lanes(), z, i)
 }
 
 /// Writes the secret of leaf `i`, then the leaf's path.
@@ -108,7 +110,7 @@ pub fn fors_sign(seeds: &Seeds, idx_tree: u64, idx_leaf: u32, md: &[u8], out: &m
     let indices = fors_indices(seeds.set, md);
     let size = fors_part_len(seeds.set);
     let hashes = ForsHashes::new(seeds.set, seeds.pk_seed);
-    let join_lanes = SeededTreeLanes::new(hashes.lanes());
+    let join_lanes = hashes.join_lanes();
     for j in 0..seeds.set.k() {
         let tree = SeededForsTree::at(&hashes, seeds, idx_tree, idx_leaf, j);
         put_tree(
@@ -157,32 +159,39 @@ fn root_at(seeded_tree: &SeededForsTree, i: u32, sig: &[u8]) -> Node
     root_from(seeded_tree, i, &sig[start..start + size])
 }
 
-/// The root of tree `tree_no` that its part of a signature, a secret and a path, gives for leaf `index`: n bytes
-/// (Algorithm 17, lines 3 to 20).
-pub fn fors_root_from_sig(
-    public: &Public,
+/// Writes the roots of all trees that a signature of a digest of md_len bytes, of k * (1 + a) * n bytes itself, gives:
+/// n bytes each (Algorithm 17, lines 2 to 20). The hash states are made once for all trees.
+pub fn put_fors_roots<'s>(
+    hashes: &ForsHashes<'s>,
+    public: &Public<'s>,
     idx_tree: u64,
     idx_leaf: u32,
-    tree_no: u32,
-    index: u32,
+    md: &[u8],
     sig: &[u8],
-) -> Node
-    requires tree { tree_no < (params public.now.set).k }
-    requires leaf { index < 2 ^ (params public.now.set).a }
-    requires sig { length sig.now ≡ fors_part_len (params public.now.set) }
-    ensures value { let p = params public.now.set in let pk_seed = public.now.pk_seed.now in
-        result.items ≡ climb_of (fors_tree p [] pk_seed idx_tree idx_leaf tree_no) index
-        (fors_leaf p pk_seed idx_tree idx_leaf (tree_no * 2 ^ p.a + index) (take p.n sig.now)) (drop p.n sig.now) }
-    ensures len { length result.items ≡ (params public.now.set).n }
+    out: &mut [u8],
+)
+    requires hashes { ∥ AreSeeded hashes.now (params public.now.set) public.now.pk_seed.now ∥₁ }
+    requires md { length md.now ≡ md_len (params public.now.set) }
+    requires sig { let p = params public.now.set in
+        length sig.now ≡ p.k * fors_part_len p }
+    requires out { let p = params public.now.set in length out.old ≡ p.k * p.n }
+    ensures { let p = params public.now.set in let pk_seed = public.now.pk_seed.now in
+        (j : ℕ) → j < p.k → part p.n out.new j
+        ≡ fors_root p pk_seed idx_tree idx_leaf md.now j (part (fors_part_len p) sig.now j) }
 {
+    let indices = fors_indices(public.set, md);
     let seeds = Seeds {
         set: public.set,
         sk_seed: &[],
         pk_seed: public.pk_seed,
     };
-    let hashes = ForsHashes::new(public.set, public.pk_seed);
-    let tree = SeededForsTree::at(&hashes, &seeds, idx_tree, idx_leaf, tree_no);
-    root_from(&tree, index, sig)
+    let lanes = hashes.lanes();
+    let done = put_in_lanes(lanes, &seeds, idx_tree, idx_leaf, &indices, sig, out);
+    for j in done..public.set.k() {
+        let tree = SeededForsTree::at(hashes, &seeds, idx_tree, idx_leaf, j);
+        let root = root_at(&tree, indices[j as usize], sig);
+        put_part(out, public.set.n(), j as usize, &root);
+    }
 }
 
 /// The public key that a signature of a digest of md_len bytes, of k * (1 + a) * n bytes itself,

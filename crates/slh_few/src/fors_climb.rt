@@ -8,12 +8,12 @@ ghost use Rattle.slh_hash.specs.Hash.{H};
 ghost use Rattle.slh_hash.specs.Stream.{HasAbsorbed};
 ghost use Rattle.slh_few.specs.Fors.{fors_leaf, fors_part_len};
 ghost use Rattle.slh_few.specs.ForsRoots.{root_given};
-ghost use Rattle.slh_few.specs.Parts.{end_to_end, part};
+ghost use Rattle.slh_few.specs.Parts.{HasParts, end_to_end, part};
 
 use crate::fors::fors_part_len;
 use crate::fors_parts::MOST_TREES;
 use crate::fors_tree::{ForsTree, fors_adrs, index_in_forest};
-use crate::nodes::{first_nodes, part_at};
+use crate::nodes::{first_nodes, part_at, put_part};
 use crate::place::Seeds;
 use slh_hash::TStream;
 use slh_lanes::{
@@ -233,6 +233,62 @@ pub(crate) fn absorb_in_lanes(
     for turn in 0..groups {
         let first = ForsTree::at(seeds, idx_tree, idx_leaf, GROUP as u32 * turn);
         absorb_eight(roots, &first, lanes, indices, sig);
+    }
+    (GROUP as u32 * groups).min(seeds.set.k())
+}
+
+/// Writes the roots of the eight trees from this one on, or of fewer up to the last tree, at their places among those
+/// of all trees.
+fn put_eight(
+    first: &ForsTree,
+    lanes: &SeededLanes,
+    indices: &[u32; MOST_TREES],
+    sig: &[u8],
+    out: &mut [u8],
+)
+    requires lanes { IsSeededLanes lanes.now (params first.now.seeds.set) first.now.seeds.pk_seed.now }
+    requires n { (params first.now.seeds.set).n ≡ 16 }
+    requires pk_seed { length first.now.seeds.pk_seed.now ≡ 16 }
+    requires tree { first.now.tree_no < (params first.now.seeds.set).k }
+    requires trees { first.now.tree_no + GROUP ≤ MOST_TREES }
+    requires leaves { (j : ℕ) → slice_index indices.now j < 2 ^ (params first.now.seeds.set).a }
+    requires sig { let p = params first.now.seeds.set in length sig.now ≡ p.k * fors_part_len p }
+    requires out { let p = params first.now.seeds.set in length out.old ≡ p.k * p.n }
+    ensures { let t = first.now in let p = params t.seeds.set in
+        let given = root_given p t.seeds.sk_seed.now t.seeds.pk_seed.now t.idx_tree t.idx_leaf indices.now sig.now in
+        HasParts p.n out.old given t.tree_no → HasParts p.n out.new given (min (t.tree_no + GROUP) p.k) }
+{
+    let set = first.seeds.set;
+    let used = (set.k() - first.tree_no).min(GROUP as u32) as usize;
+    let group = first.roots_from_lanes(lanes, indices, used, sig);
+    for j in 0..used {
+        put_part(out, set.n(), first.tree_no as usize + j, &group[j]);
+    }
+}
+
+/// Writes the roots of the first trees, and gives their number: of all that are climbed in lanes.
+pub(crate) fn put_in_lanes(
+    lanes: &SeededLanes,
+    seeds: &Seeds,
+    idx_tree: u64,
+    idx_leaf: u32,
+    indices: &[u32; MOST_TREES],
+    sig: &[u8],
+    out: &mut [u8],
+) -> u32
+    requires lanes { IsSeededLanes lanes.now (params seeds.now.set) seeds.now.pk_seed.now }
+    requires leaves { (j : ℕ) → slice_index indices.now j < 2 ^ (params seeds.now.set).a }
+    requires sig { let p = params seeds.now.set in length sig.now ≡ p.k * fors_part_len p }
+    requires out { let p = params seeds.now.set in length out.old ≡ p.k * p.n }
+    ensures count { result ≤ (params seeds.now.set).k }
+    ensures roots { let p = params seeds.now.set in let sk_seed = seeds.now.sk_seed.now in
+        let pk_seed = seeds.now.pk_seed.now in
+        HasParts p.n out.new (root_given p sk_seed pk_seed idx_tree idx_leaf indices.now sig.now) result }
+{
+    let groups = lane_groups(seeds);
+    for turn in 0..groups {
+        let first = ForsTree::at(seeds, idx_tree, idx_leaf, GROUP as u32 * turn);
+        put_eight(&first, lanes, indices, sig, out);
     }
     (GROUP as u32 * groups).min(seeds.set.k())
 }

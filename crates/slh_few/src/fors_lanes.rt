@@ -7,13 +7,18 @@ ghost use Rattle.slh_tree.specs.Climb.{path};
 ghost use Rattle.slh_tree.specs.Cover.{past_leaf};
 ghost use Rattle.slh_tree.specs.Tree.{node};
 ghost use Rattle.slh_few.specs.Fors.{fors_tree};
+ghost use Rattle.slh_few.specs.Levels.{AreParents};
+ghost use Rattle.slh_few.specs.Parts.{part};
 ghost use Rattle.slh_few.specs.Trees.{fors_tree_of};
 
 use crate::fors_tree::ForsTree;
+use crate::nodes::{first_nodes, part_at};
 use crate::seeded_trees::SeededForsTree;
-use slh_lanes::{GROUP, LaneNodes, SeededTreeLanes, even_lanes, lane_node, odd_lanes};
-use slh_params::{AdrsType, Node, put_node};
-use slh_tree::node;
+use slh_lanes::{
+    GROUP, LaneNodes, SeededTreeLanes, even_lanes, lane_node, node_lanes, odd_lanes, set_lane,
+};
+use slh_params::{AdrsType, Node, ParamSet, put_node};
+use slh_tree::{Leaves, node};
 
 impl<'a> ForsTree<'a> {
     /// The nodes of height `z` from index `i` on: H of their children, which are the sixteen nodes of the two.
@@ -77,6 +82,53 @@ impl<'a> ForsTree<'a> {
         let two = self.join_lanes(lanes, z - 1, 2 * i, &four, &four);
         let one = self.join_lanes(lanes, z, i, &two, &two);
         lane_node(&one, 0, self.seeds.set.n())
+    }
+}
+
+/// The children on one side of the nodes from index `first` on, one in each lane up to the lane `count`, from the nodes
+/// of the height below, which stand end to end: 0 is the left side, 1 the right one.
+fn children(set: ParamSet, below: &[u8], first: u32, side: usize, count: usize) -> LaneNodes
+    requires side { side ≤ 1 }
+    requires lanes { count ≤ GROUP }
+    requires below { 2 * (first + count) * (params set).n ≤ length below.now }
+    ensures { (j : ℕ) → j < count
+        → value_at result j (params set).n ≡ part (params set).n below.now (2 * (first + j) + side) }
+{
+    let mut nodes = node_lanes(&[]);
+    for j in 0..count {
+        let child = 2 * (first as usize + j) + side;
+        set_lane(&mut nodes, j, part_at(below, set.n(), child));
+    }
+    nodes
+}
+
+impl<'a> ForsTree<'a> {
+    /// The nodes of height `z` from index `first` on, as many as `count`, from the nodes of the height below, which
+    /// stand end to end.
+    pub(crate) fn parents_from_lanes(
+        &self,
+        lanes: &SeededTreeLanes,
+        z: u32,
+        first: u32,
+        count: usize,
+        below: &[u8],
+    ) -> Leaves
+        requires height { z ≤ (params self.now.seeds.set).a }
+        requires some { 1 ≤ count }
+        requires few { count ≤ GROUP }
+        requires within { first + count ≤ 2 ^ ((params self.now.seeds.set).a - z) }
+        requires below { 2 * (first + count) * (params self.now.seeds.set).n ≤ length below.now }
+        ensures len { length result.items ≡ count }
+        ensures parents { let p = params self.now.seeds.set in let sk_seed = self.now.seeds.sk_seed.now in
+            (pk_seed : List ℕ) → IsSeededTreeLanes lanes.now p pk_seed → length pk_seed ≡ p.n
+            → AreParents (fors_tree p sk_seed pk_seed self.now.idx_tree self.now.idx_leaf self.now.tree_no) p.n z first
+            below.now result.items }
+    {
+        let set = self.seeds.set;
+        let left = children(set, below, first, 0, count);
+        let right = children(set, below, first, 1, count);
+        let nodes = lanes.h(&self.lane_adrs(AdrsType::ForsTree, z, first), &left, &right);
+        first_nodes(&nodes, set.n(), count)
     }
 }
 

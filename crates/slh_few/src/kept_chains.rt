@@ -9,13 +9,13 @@ ghost use Rattle.slh_few.specs.Wots.{whole_chain, wots_pk, wots_sig};
 ghost use Rattle.slh_few.specs.KeptChains.{spacing as spacing_of, kept_count as kept_count_of, kept_chain_len as chain_len, kept_chains_len as chains_len, kept_value, kept_chain, kept_chains, run_from_kept, wots_sig_from};
 ghost use Rattle.slh_few.specs.declared.kept_chains.TheConstants.{MOST_KEPT_CHAIN_LEN, MOST_KEPT_CHAINS_LEN};
 
-use crate::chain_lanes::{put_lanes, run_lanes, secret_lanes};
+use crate::chain_lanes::{put_lanes, run_alike, secret_lanes};
 use crate::nodes::{node_at, part_at, put_part};
 use crate::place::{Place, Public, Seeds};
 use crate::wots::{MOST_WOTS_SIG_LEN, compressed_ends, run_chain, wots_sig_len};
 use crate::wots_digits::{MOST_CHAINS, digits_of};
 use slh_hash::SeededHash;
-use slh_lanes::{GROUP, LaneNodes, SeededLanes, Words, consecutive, lane_node};
+use slh_lanes::{GROUP, LaneNodes, SeededLanes, consecutive, lane_node};
 use slh_params::{Node, ParamSet, put_node};
 
 /// The most values of a chain that are kept.
@@ -121,24 +121,10 @@ fn keep_chains(
     let mut nodes = secret_lanes(lanes, seeds.sk_seed, at, &group);
     for j in 0..last {
         put_values(seeds.set, kept, c, j as usize, &nodes, used);
-        nodes = run_lanes(
-            lanes,
-            at,
-            &group,
-            &nodes,
-            Words::splat(j * every),
-            Words::splat(every),
-        );
+        nodes = run_alike(lanes, at, &group, &nodes, j * every, every);
     }
     put_values(seeds.set, kept, c, last as usize, &nodes, used);
-    run_lanes(
-        lanes,
-        at,
-        &group,
-        &nodes,
-        Words::splat(last * every),
-        Words::splat(every - 1),
-    )
+    run_alike(lanes, at, &group, &nodes, last * every, every - 1)
 }
 
 /// The public key at a place, n bytes (Algorithm 6). Into `kept` it writes values of the key's chains, of

@@ -17,24 +17,28 @@ mod kept_chains;
 mod key_lanes;
 mod key_streams;
 mod known_leaves;
+mod levels;
 mod nodes;
 mod path_bytes;
 mod place;
 mod ranges;
 mod seeded_trees;
 mod two_chains;
+mod two_chains_keeping;
+mod two_chains_signing;
 mod wots;
 mod wots_digits;
 mod xmss;
 mod xmss_tree;
 
-pub use fors::{fors_node, fors_part_len, fors_pk_from_sig, fors_root_from_sig, fors_sign};
+pub use fors::{fors_node, fors_part_len, fors_pk_from_sig, fors_sign, put_fors_roots};
 pub use fors_parts::{MOST_TREES, fors_indices, fors_roots, fors_secret};
 pub use fors_tree::ForsTree;
 pub use hypertree::{
     MOST_LAYERS, MOST_XMSS_SIG_LEN, ht_sign, ht_verify, layer_place, layer_places, xmss_sig_len,
 };
 pub use kept_chains::{kept_chains_len, wots_pk_keeping, wots_sign_kept};
+pub use levels::{LevelTree, path_from_leaves};
 pub use path_bytes::put_path;
 pub use place::{Place, Public, Seeds};
 pub use ranges::{fors_range, xmss_range, xmss_range_keeping};

@@ -4,7 +4,6 @@ ghost use Rattle.slh_params.specs.ParamSet.{params};
 ghost use Rattle.slh_tree.specs.declared.cover.Placed.{Placed};
 ghost use Rattle.slh_tree.specs.Cover.{IsCover, first_leaf, past_leaf};
 ghost use Rattle.slh_tree.specs.Record.{Gains, LiesInRange};
-ghost use Rattle.slh_hash.specs.Stream.{IsSeededTree};
 ghost use Rattle.slh_few.specs.Trees.{xmss_tree_of};
 ghost use Rattle.slh_few.specs.KeptChains.{kept_chains_len, kept_chains};
 ghost use Rattle.slh_few.specs.Xmss.{xmss_tree};
@@ -12,12 +11,13 @@ ghost use Rattle.slh_few.specs.Fors.{fors_tree};
 
 use crate::fors_blocks::block_height;
 use crate::kept_chains::wots_pk_keeping;
-use crate::key_lanes::{eight_pks_keeping, first_of_eight};
+use crate::key_lanes::{eight_keys, first_of_eight, lane_among_eight};
 use crate::known_leaves::KnownLeavesTree;
 use crate::place::{Place, Seeds};
 use crate::seeded_trees::{ForsHashes, SeededForsTree, SeededXmssTree};
+use crate::two_chains_keeping::KeptValues;
 use slh_hash::SeededTreeHash;
-use slh_lanes::{GROUP, SeededTreeLanes};
+use slh_lanes::GROUP;
 use slh_tree::{Cover, Leaves, PathRec, hash_range};
 
 /// The cover of the leaves from `lo` to `hi`, `hi` left out, of tree `tree` of layer `layer`. The record, of a leaf of
@@ -50,36 +50,9 @@ fn has_eight_in_range(at: Place, lo: u32, hi: u32) -> bool {
     lo <= first && first <= hi && hi - first >= GROUP as u32
 }
 
-/// The tree over a place, with the leaf at the place made here. What `wots_pk_keeping` keeps of that leaf's key is
-/// written into `kept`. Where `has_eight_in_range`, all eight leaves are made, at once.
-fn tree_keeping<'a, 'h>(
-    joins: &'h SeededTreeHash,
-    seeds: &Seeds<'a>,
-    at: Place,
-    lo: u32,
-    hi: u32,
-    kept: &mut [u8],
-) -> KnownLeavesTree<'a, 'h>
-    requires joins { ∥ IsSeededTree joins.now (params seeds.now.set) seeds.now.pk_seed.now ∥₁ }
-    requires kept { length kept.old ≡ kept_chains_len (params seeds.now.set) }
-    ensures tree { let p = params seeds.now.set in let sk_seed = seeds.now.sk_seed.now in
-        let pk_seed = seeds.now.pk_seed.now in
-        xmss_tree_of result.tree.tree ≡ xmss_tree p sk_seed pk_seed at.layer at.tree }
-    ensures kept { let p = params seeds.now.set in let sk_seed = seeds.now.sk_seed.now in
-        let pk_seed = seeds.now.pk_seed.now in
-        kept.new ≡ kept_chains p sk_seed pk_seed at }
-{
-    if has_eight_in_range(at, lo, hi) {
-        let group = eight_pks_keeping(seeds, at, kept);
-        return KnownLeavesTree::new(joins, seeds, first_of_eight(at), group);
-    }
-    let mut known = Leaves::new();
-    known.push(wots_pk_keeping(seeds, at, kept));
-    KnownLeavesTree::new(joins, seeds, at, known)
-}
-
 /// What `xmss_range` gives, of the tree over a place. Into `kept` it writes `kept_chains_len` bytes: what
 /// `wots_pk_keeping` keeps of the key at the place. Where that leaf lies in the range, no other chains are computed.
+/// Where the seven others below its node of height 3 lie in the range too, all eight are made at once.
 #[tactic(auto, unfolding(crate::specs::Trees::xmss_tree_of))]
 pub fn xmss_range_keeping(
     seeds: &Seeds,
@@ -108,7 +81,16 @@ pub fn xmss_range_keeping(
         kept.new ≡ kept_chains p sk_seed pk_seed at }
 {
     let joins = SeededTreeHash::new(seeds.set, seeds.pk_seed);
-    let tree = tree_keeping(&joins, seeds, at, lo, hi, kept);
+    let tree = if has_eight_in_range(at, lo, hi) {
+        let first = first_of_eight(at);
+        let lane = lane_among_eight(at);
+        let group = eight_keys(seeds, first, &KeptValues { lane }, kept);
+        KnownLeavesTree::new(&joins, seeds, first, group)
+    } else {
+        let mut known = Leaves::new();
+        known.push(wots_pk_keeping(seeds, at, kept));
+        KnownLeavesTree::new(&joins, seeds, at, known)
+    };
     hash_range(&tree, lo, hi, rec)
 }
 
@@ -143,7 +125,7 @@ pub fn fors_range(
     let hashes = ForsHashes::new(seeds.set, seeds.pk_seed);
     let tree = SeededForsTree::at(&hashes, seeds, idx_tree, idx_leaf, tree_no);
     if let Some(z) = block_height(lo, hi) {
-        return tree.hash_block(&SeededTreeLanes::new(hashes.lanes()), z, lo, hi, rec);
+        return tree.hash_block(&hashes.join_lanes(), z, lo, hi, rec);
     }
     hash_range(&tree, lo, hi, rec)
 }

@@ -6,14 +6,16 @@ ghost use Rattle.slh_hash.specs.Stream.{IsSeededTree};
 ghost use Rattle.slh_few.specs.Trees.{xmss_tree_of};
 ghost use Rattle.slh_few.specs.Xmss.{xmss_tree};
 ghost use Rattle.slh_lanes.specs.Lanes.{IsSeededLanes};
+ghost use Rattle.slh_lanes.specs.TreeLanes.{IsSeededTreeLanes};
 ghost use Rattle.slh_few.specs.Fors.{fors_tree};
 ghost use Rattle.slh_few.specs.ForsHashes.{AreSeeded};
 
 use crate::fors_tree::ForsTree;
+use crate::levels::{LevelTree, joined_in_turn};
 use crate::place::Seeds;
 use crate::xmss_tree::XmssTree;
 use slh_hash::{SeededHash, SeededTreeHash};
-use slh_lanes::SeededLanes;
+use slh_lanes::{SeededLanes, SeededTreeLanes};
 use slh_params::{Node, ParamSet};
 use slh_tree::{Leaves, Tree};
 
@@ -70,6 +72,12 @@ impl<'a, 'h> Tree for SeededXmssTree<'a, 'h> {
     }
 }
 
+impl<'a, 'h> LevelTree for SeededXmssTree<'a, 'h> {
+    fn parents(&self, z: u32, first: u32, count: u32, n: usize, below: &[u8]) -> Leaves {
+        joined_in_turn(self, z, first, count, n, below)
+    }
+}
+
 /// The hash states of PK.seed that a call makes for all its FORS trees: for leaves one at a time, for leaves eight at a
 /// time, and for the nodes above them. Contracts see them by the relation `AreSeeded`.
 #[derive(Drop)]
@@ -100,6 +108,15 @@ impl<'a> ForsHashes<'a> {
         &self.lanes
     }
 
+    /// The state for the nodes above the leaves eight at a time. It is made here, and so not for verifying, which needs
+    /// none.
+    #[tactic(auto, unfolding(crate::specs::ForsHashes::AreSeeded))]
+    pub(crate) fn join_lanes(&self) -> SeededTreeLanes<'a>
+        ensures { (p : Params) (pk_seed : List ℕ) → AreSeeded self.now p pk_seed → IsSeededTreeLanes result p pk_seed }
+    {
+        SeededTreeLanes::new(&self.lanes)
+    }
+
     /// The state for the nodes above the leaves.
     #[tactic(auto, unfolding(crate::specs::ForsHashes::AreSeeded))]
     pub fn joins(&self) -> &SeededTreeHash
@@ -108,6 +125,9 @@ impl<'a> ForsHashes<'a> {
         &self.joins
     }
 }
+
+/// So many nodes of a level at least are joined in lanes: fewer are joined one after another.
+const LEAST_IN_LANES: u32 = 3;
 
 /// A FORS tree with the hash states that one call makes for all its trees.
 #[derive(Drop)]
@@ -179,11 +199,24 @@ impl<'s, 'h> Tree for SeededForsTree<'s, 'h> {
 
     #[tactic(auto, unfolding(crate::specs::Trees::fors_tree_of))]
     fn leaves(&self, first: u32, count: u32) -> Leaves {
-        self.tree.leaves_from(&self.hashes.lanes, first, count)
+        self.tree.leaves_from(self.hashes.lanes(), first, count)
     }
 
     #[tactic(auto, unfolding(crate::specs::Trees::fors_tree_of))]
     fn join(&self, z: u32, i: u32, l: &Node, r: &Node) -> Node {
         self.tree.join_from(&self.hashes.joins, z, i, l, r)
+    }
+}
+
+impl<'s, 'h> LevelTree for SeededForsTree<'s, 'h> {
+    #[tactic(auto, unfolding(crate::specs::Trees::fors_tree_of))]
+    fn parents(&self, z: u32, first: u32, count: u32, n: usize, below: &[u8]) -> Leaves {
+        if LEAST_IN_LANES <= count && self.tree.seeds.pk_seed.len() == n {
+            let lanes = self.hashes.join_lanes();
+            self.tree
+                .parents_from_lanes(&lanes, z, first, count as usize, below)
+        } else {
+            joined_in_turn(self, z, first, count, n, below)
+        }
     }
 }

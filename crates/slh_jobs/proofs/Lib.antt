@@ -9,4 +9,5 @@ pub mod Keys
 pub mod Verified
 pub mod Signed
 pub mod Tagged
+pub mod GroupTags
 pub mod Cutting

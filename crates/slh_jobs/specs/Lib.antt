@@ -1,6 +1,7 @@
 pub mod Ranges
 pub mod UpperTrees
 pub mod Tags
+pub mod AnswerTags
 pub mod Jobs
 pub mod Starts
 pub mod Joined

@@ -5,8 +5,9 @@ ghost use Rattle.slh_few.specs.ForsHashes.{AreSeeded};
 ghost use Rattle.slh_subtrees.specs.Jobs.{IsTreeOf};
 ghost use Rattle.slh_subtrees.specs.SigningTrees.{source_of};
 ghost use Rattle.slh_jobs.specs.Ranges.{answer_len};
-ghost use Rattle.slh_jobs.specs.Jobs.{HoldsFront, xmss_shape, fors_shape, shape_of, xmss_jobs, fors_jobs, first_of_kind, source, rest_len, answers_len};
+ghost use Rattle.slh_jobs.specs.Jobs.{xmss_shape, fors_shape, shape_of, xmss_jobs, fors_jobs, first_of_kind, source, rest_len, answers_len};
 ghost use Rattle.slh_jobs.specs.Starts.{IsStart};
+ghost use Rattle.slh_jobs.specs.AnswerTags.{AreTagsOfAnswers};
 ghost use Rattle.slh_jobs.specs.Tags.{start_len};
 ghost use Rattle.slh_jobs.specs.Joined.{fors_answers, answers_of_kind, rest_in};
 ghost use Rattle.slh_subtrees.specs.declared.jobs.TheConstants.{MOST_JOBS_OF_A_KIND};
@@ -14,10 +15,9 @@ ghost use Rattle.slh_subtrees.specs.declared.jobs.TheConstants.{MOST_JOBS_OF_A_K
 use crate::answer_bytes::AnswerBytes;
 use crate::levels::Levels;
 use crate::signing::Signing;
-use crate::tag::keyed_for_answers;
+use crate::tag::{AnswerTags, tags_of_answers};
 use slh_core::SecretKey;
 use slh_few::ForsHashes;
-use slh_hash::CategoryHmac;
 use slh_subtrees::JobTree;
 
 /// The answers of all jobs of a signature, as they are handed in.
@@ -27,14 +27,14 @@ pub(crate) struct AllAnswers<'a> {
     pub(crate) xmss: AnswerBytes<'a>,
     pub(crate) fors: AnswerBytes<'a>,
     pub(crate) hashes: ForsHashes<'a>,
-    pub(crate) keyed: CategoryHmac,
+    pub(crate) tags: AnswerTags,
     ghost xmss_cut: { xmss.shape ≡ xmss_shape signing.levels },
     ghost fors_cut: { fors.shape ≡ fors_shape signing.levels },
     ghost rest: { fors.bytes.now ≡ fors_answers signing.levels xmss.bytes.now },
     ghost xmss_there: { xmss_jobs signing.levels * answer_len (xmss_shape signing.levels) ≤ length xmss.bytes.now },
     ghost fors_there: { fors_jobs signing.levels * answer_len (fors_shape signing.levels) ≤ length fors.bytes.now },
     ghost seeded: { ∥ AreSeeded hashes (params signing.trees.seeds.set) signing.trees.seeds.pk_seed.now ∥₁ },
-    ghost holds: { ∥ HoldsFront keyed signing.levels signing.sk.now signing.start.now ∥₁ },
+    ghost begun: { ∥ AreTagsOfAnswers tags signing.levels signing.sk.now signing.start.now ∥₁ },
 }
 
 impl<'a> AllAnswers<'a> {
@@ -68,13 +68,13 @@ impl<'a> AllAnswers<'a> {
             bytes: &answers[xmss_len..],
         };
         let hashes = ForsHashes::new(signing.trees.seeds.set, signing.trees.seeds.pk_seed);
-        let keyed = keyed_for_answers(levels, sk, start);
+        let tags = tags_of_answers(levels, sk, start);
         Some(AllAnswers {
             signing,
             xmss,
             fors,
             hashes,
-            keyed,
+            tags,
         })
     }
 

@@ -1,18 +1,22 @@
 //! Answers as they are handed in, bytes that nobody has looked at, and their nodes, which are copied out of them and
 //! compared with their tags.
-ghost use Rattle.std.specs.Prelude.{◌≡◌, ◌↔◌, ℕ, List, ◌+◌, ◌*◌, ◌<◌, ◌≤◌, ◌^◌, IsSome, IfSome, length};
+ghost use Rattle.std.specs.Prelude.{◌≡◌, ◌↔◌, ℕ, List, ◌+◌, ◌*◌, ◌<◌, ◌≤◌, ◌^◌, IsTrue, IsSome, IfSome, length, take};
 ghost use Rattle.slh_params.specs.Params.{Params};
 ghost use Rattle.slh_hash.specs.Stream.{IsKeyed};
-ghost use Rattle.slh_few.specs.Parts.{end_to_end};
+ghost use Rattle.slh_few.specs.Parts.{HasParts, end_to_end};
 ghost use Rattle.slh_jobs.specs.Ranges.{IsShape, below, answer_len, given, node_given, tag_given, path_given, rest_given};
+ghost use Rattle.slh_lanes.specs.HmacLanes.{IsBegun};
+ghost use Rattle.slh_lanes.specs.Lanes.{value_at};
 ghost use Rattle.slh_jobs.specs.Tags.{node_tag};
+ghost use Rattle.slh_jobs.specs.AnswerTags.{AreBegun, HaveTags};
 ghost use Rattle.slh_jobs.specs.declared.shape.TheConstants.{MOST_OWN_LEN};
 ghost use Rattle.slh_subtrees.specs.declared.jobs.TheConstants.{MOST_JOBS_OF_A_KIND};
 
 use crate::jobs::ranges;
 use crate::shape::Shape;
-use crate::tag::{answer_tag, are_same};
+use crate::tag::{AnswerTags, answer_tag, are_same};
 use slh_hash::CategoryHmac;
+use slh_lanes::{GROUP, HmacLanes, LaneNodes, lane_node, node_lanes, set_lane};
 use slh_params::{Node, node_of, put_node};
 
 /// Answers of one shape, put end to end, and whatever bytes follow them.
@@ -104,6 +108,16 @@ impl<'n, 'a> JudgedNodes<'n, 'a> {
         let start = range as usize * n;
         node_of(&self.copies[start..start + n])
     }
+
+    /// The nodes of all ranges, end to end.
+    pub(crate) fn all(&self) -> &'n [u8]
+        ensures nodes { HasParts self.now.given.shape.n result.now
+            (λ r. node_given self.now.given.shape self.now.given.bytes.now (self.now.first + r))
+            (2 ^ self.now.given.shape.levels) }
+        ensures len { length result.now ≡ 2 ^ self.now.given.shape.levels * self.now.given.shape.n }
+    {
+        self.copies
+    }
 }
 
 /// The node of answer `c`, where it has the tag of this job.
@@ -123,12 +137,145 @@ fn judged_node(given: &AnswerBytes, c: u32, keyed: &CategoryHmac, job: u32) -> O
     }
 }
 
+/// Copies the nodes of a tree's ranges, whose answers begin with answer `first`, one after another. Whether each has its
+/// tag, where the first is that of job `job`.
+fn judged_alone(
+    given: &AnswerBytes,
+    first: u32,
+    keyed: &CategoryHmac,
+    job: u32,
+    copies: &mut [u8],
+) -> bool
+    requires shape { IsShape given.now.shape }
+    requires few { first ≤ MOST_JOBS_OF_A_KIND }
+    requires job { job ≤ 2 * MOST_JOBS_OF_A_KIND }
+    requires there { (first + 2 ^ given.now.shape.levels) * answer_len given.now.shape ≤ length given.now.bytes.now }
+    requires copies { length copies.old ≡ 2 ^ given.now.shape.levels * given.now.shape.n }
+    ensures tags { (p : Params) (key front : List ℕ) → IsKeyed keyed.now p key front
+        → IsTrue result ↔ HaveTags p key front given.now.shape given.now.bytes.now job first
+        (2 ^ given.now.shape.levels) }
+    ensures copied { IsTrue result → copies.new
+        ≡ end_to_end (λ r. node_given given.now.shape given.now.bytes.now (first + r)) (2 ^ given.now.shape.levels) }
+{
+    let n = given.shape.n;
+    for r in 0..ranges(given.shape.levels) {
+        let Some(node) = judged_node(given, first + r, keyed, job + r) else {
+            return false;
+        };
+        put_node(copies, r as usize * n, &node);
+    }
+    true
+}
+
+/// The nodes of 16 bytes of the ranges from `r` on, as many as `used`, one in each lane. Each is read once, and copied.
+fn copied_group(
+    given: &AnswerBytes,
+    first: u32,
+    r: usize,
+    used: usize,
+    copies: &mut [u8],
+) -> LaneNodes
+    requires n { given.now.shape.n ≡ 16 }
+    requires used { used ≤ GROUP }
+    requires few { first ≤ MOST_JOBS_OF_A_KIND }
+    requires there { (first + (r + used)) * answer_len given.now.shape ≤ length given.now.bytes.now }
+    requires copies { (r + used) * 16 ≤ length copies.old }
+    ensures len { length copies.new ≡ length copies.old }
+    ensures lanes { (j : ℕ) → j < used
+        → value_at result j 16 ≡ node_given given.now.shape given.now.bytes.now (first + (r + j)) }
+    ensures copied { let node = λ (i : ℕ). node_given given.now.shape given.now.bytes.now (first + i) in
+        take (r * 16) copies.old ≡ end_to_end node r → take ((r + used) * 16) copies.new ≡ end_to_end node (r + used) }
+{
+    let mut nodes = node_lanes(&[]);
+    for j in 0..used {
+        let node = given.node(first as usize + (r + j));
+        put_node(copies, (r + j) * 16, &node);
+        set_lane(&mut nodes, j, &node);
+    }
+    nodes
+}
+
+/// Whether the tags of the ranges from `r` on, as many as `used`, begin the values in the lanes.
+fn have_tags(given: &AnswerBytes, first: u32, r: usize, used: usize, values: &LaneNodes) -> bool
+    requires used { used ≤ GROUP }
+    requires few { first ≤ MOST_JOBS_OF_A_KIND }
+    requires there { (first + (r + used)) * answer_len given.now.shape ≤ length given.now.bytes.now }
+    ensures { IsTrue result ↔ ((j : ℕ) → j < used
+        → value_at values.now j 16 ≡ tag_given given.now.shape given.now.bytes.now (first + (r + j))) }
+{
+    for j in 0..used {
+        let tag = given.tag(first as usize + (r + j));
+        if !are_same(&lane_node(values, j, 16), &tag) {
+            return false;
+        }
+    }
+    true
+}
+
+/// What `judged_alone` does, of nodes of 16 bytes, eight at a time.
+fn judged_in_lanes(
+    given: &AnswerBytes,
+    first: u32,
+    lanes: &HmacLanes,
+    job: u32,
+    copies: &mut [u8],
+) -> bool
+    requires n { given.now.shape.n ≡ 16 }
+    requires shape { IsShape given.now.shape }
+    requires few { first ≤ MOST_JOBS_OF_A_KIND }
+    requires job { job ≤ 2 * MOST_JOBS_OF_A_KIND }
+    requires there { (first + 2 ^ given.now.shape.levels) * answer_len given.now.shape ≤ length given.now.bytes.now }
+    requires copies { length copies.old ≡ 2 ^ given.now.shape.levels * 16 }
+    ensures tags { (p : Params) (key front : List ℕ) → p.n ≡ 16 → IsBegun lanes.now key front
+        → IsTrue result ↔ HaveTags p key front given.now.shape given.now.bytes.now job first
+        (2 ^ given.now.shape.levels) }
+    ensures copied { IsTrue result → copies.new
+        ≡ end_to_end (λ r. node_given given.now.shape given.now.bytes.now (first + r)) (2 ^ given.now.shape.levels) }
+{
+    let count = ranges(given.shape.levels) as usize;
+    for group in 0..count.div_ceil(GROUP) {
+        let r = GROUP * group;
+        let used = (count - r).min(GROUP);
+        let nodes = copied_group(given, first, r, used, copies);
+        let values = lanes.digests(job + r as u32, &nodes);
+        if !have_tags(given, first, r, used, &values) {
+            return false;
+        }
+    }
+    true
+}
+
+/// What `judged_alone` does, eight at a time where the tags have lanes for such nodes.
+fn are_judged(
+    given: &AnswerBytes,
+    first: u32,
+    tags: &AnswerTags,
+    job: u32,
+    copies: &mut [u8],
+) -> bool
+    requires shape { IsShape given.now.shape }
+    requires few { first ≤ MOST_JOBS_OF_A_KIND }
+    requires job { job ≤ 2 * MOST_JOBS_OF_A_KIND }
+    requires there { (first + 2 ^ given.now.shape.levels) * answer_len given.now.shape ≤ length given.now.bytes.now }
+    requires copies { length copies.old ≡ 2 ^ given.now.shape.levels * given.now.shape.n }
+    ensures tags { (p : Params) (key front : List ℕ) → AreBegun tags.now p key front
+        → IsTrue result ↔ HaveTags p key front given.now.shape given.now.bytes.now job first
+        (2 ^ given.now.shape.levels) }
+    ensures copied { IsTrue result → copies.new
+        ≡ end_to_end (λ r. node_given given.now.shape given.now.bytes.now (first + r)) (2 ^ given.now.shape.levels) }
+{
+    match tags.lanes_for(given.shape.n) {
+        Some(lanes) => judged_in_lanes(given, first, lanes, job, copies),
+        None => judged_alone(given, first, &tags.keyed, job, copies),
+    }
+}
+
 /// Copies of the nodes of a tree's ranges, whose answers begin with answer `first`, in `copies`; `None` where one has
 /// not its tag. The first of them is that of job `job`.
 pub(crate) fn judged_nodes<'n, 'a>(
     given: &AnswerBytes<'a>,
     first: u32,
-    keyed: &CategoryHmac,
+    tags: &AnswerTags,
     job: u32,
     copies: &'n mut [u8],
 ) -> Option<JudgedNodes<'n, 'a>>
@@ -137,19 +284,14 @@ pub(crate) fn judged_nodes<'n, 'a>(
     requires job { job ≤ 2 * MOST_JOBS_OF_A_KIND }
     requires there { (first + 2 ^ given.now.shape.levels) * answer_len given.now.shape ≤ length given.now.bytes.now }
     requires copies { length copies.old ≡ 2 ^ given.now.shape.levels * given.now.shape.n }
-    ensures tags { (p : Params) (key front : List ℕ) → IsKeyed keyed.now p key front
-        → IsSome result ↔ ((r : ℕ) → r < 2 ^ given.now.shape.levels
-        → node_tag p key front (job + r) (node_given given.now.shape given.now.bytes.now (first + r))
-        ≡ tag_given given.now.shape given.now.bytes.now (first + r)) }
+    ensures tags { (p : Params) (key front : List ℕ) → AreBegun tags.now p key front
+        → IsSome result ↔ HaveTags p key front given.now.shape given.now.bytes.now job first
+        (2 ^ given.now.shape.levels) }
     ensures given { IfSome result (λ nodes. nodes.given ≡ given.now) }
     ensures first { IfSome result (λ nodes. nodes.first ≡ first) }
 {
-    let n = given.shape.n;
-    for r in 0..ranges(given.shape.levels) {
-        let Some(node) = judged_node(given, first + r, keyed, job + r) else {
-            return None;
-        };
-        put_node(copies, r as usize * n, &node);
+    if !are_judged(given, first, tags, job, copies) {
+        return None;
     }
     Some(JudgedNodes {
         given: *given,

@@ -12,7 +12,7 @@ use crate::fault::JobFault;
 use crate::jobs::ranges;
 use crate::levels::Levels;
 use crate::shape::Shape;
-use crate::tag::{answer_tag, keyed_for_key};
+use crate::tag::{answer_tag, keyed_for_key, tags_of_key};
 use crate::upper_tree::top_root;
 use slh_core::SecretKey;
 use slh_few::{SeededXmssTree, Seeds, xmss_node};
@@ -108,10 +108,10 @@ fn judged_root(
     ensures len { IfSome result (λ root. length root.items ≡ (params levels.now.set).n) }
 {
     let set = levels.set;
-    let keyed = keyed_for_key(levels, sk_seed, sk_prf, pk_seed);
+    let tags = tags_of_key(levels, sk_seed, sk_prf, pk_seed);
     let mut copies = [0; MOST_NODES_LEN];
     let copies = &mut copies[..keygen_jobs(levels) as usize * set.n()];
-    let Some(nodes) = judged_nodes(given, 0, &keyed, 0, copies) else {
+    let Some(nodes) = judged_nodes(given, 0, &tags, 0, copies) else {
         return None;
     };
     let seeds = Seeds {

@@ -2,7 +2,7 @@
 ghost use Rattle.std.specs.Prelude.{◌≡◌, ◌↔◌, ℕ, ◌+◌, ◌*◌, ◌<◌, ◌≤◌, ◌++◌, IsTrue, IsSome, IfSome, length, take};
 ghost use Rattle.slh_few.specs.Fors.{fors_part_len};
 ghost use Rattle.slh_few.specs.KeptChains.{wots_sig_from};
-ghost use Rattle.slh_few.specs.Parts.{end_to_end};
+ghost use Rattle.slh_few.specs.Parts.{HasParts, end_to_end};
 ghost use Rattle.slh_few.specs.Xmss.{wots_sig_len, xmss_sig_len};
 ghost use Rattle.slh_core.specs.Keys.{public_of, pk_root};
 ghost use Rattle.slh_subtrees.specs.Assembled.{fors_part_by, signed_by, layer_part_by, sig_fors_by};
@@ -14,14 +14,17 @@ ghost use Rattle.slh_jobs.specs.AllAnswers.{params_in, source_in, answers_in, pa
 use crate::all_answers::AllAnswers;
 use crate::answer_bytes::{MOST_NODES_LEN, judged_nodes};
 use crate::jobs::ranges;
-use crate::tag::are_same;
+use crate::tag::{are_same, have_same_bytes};
 use crate::upper_tree::put_auth;
 use slh_few::{
-    MOST_XMSS_SIG_LEN, SeededForsTree, SeededXmssTree, fors_part_len, fors_root_from_sig,
-    fors_roots, wots_sig_len, wots_sign_kept, xmss_pk_from_sig, xmss_sig_len,
+    MOST_TREES, MOST_XMSS_SIG_LEN, SeededForsTree, SeededXmssTree, fors_part_len, fors_roots,
+    put_fors_roots, wots_sig_len, wots_sign_kept, xmss_pk_from_sig, xmss_sig_len,
 };
 use slh_params::{Node, copy_of, node_of, put_node};
 use slh_subtrees::JobTree;
+
+/// At least the length of the roots of all FORS trees in any set.
+const MOST_ROOTS_LEN: usize = MOST_TREES * 32;
 
 impl<'a> AllAnswers<'a> {
     /// Writes the path of a tree's signing leaf, and returns the root that the nodes of the tree's ranges give; `None`
@@ -44,7 +47,7 @@ impl<'a> AllAnswers<'a> {
         let job = self.signing.levels.first_job(tree);
         let mut copies = [0; MOST_NODES_LEN];
         let copies = &mut copies[..ranges(given.shape.levels) as usize * given.shape.n];
-        let Some(nodes) = judged_nodes(given, first, &self.keyed, job, copies) else {
+        let Some(nodes) = judged_nodes(given, first, &self.tags, job, copies) else {
             return None;
         };
         let leaf = trees.leaf(tree);
@@ -68,59 +71,100 @@ impl<'a> AllAnswers<'a> {
         })
     }
 
-    /// Writes what a FORS tree adds to the signature, and returns the root that the tree's ranges give; `None` where
-    /// one of their nodes has not its tag, or the secret and the path give another root.
-    fn fors_root(&self, number: u32, part: &mut [u8]) -> Option<Node>
+    /// Writes what a FORS tree adds to the signature, and returns the root that the tree's ranges give; `None` where one
+    /// of their nodes has not its tag.
+    fn put_fors_part(&self, number: u32, part: &mut [u8]) -> Option<Node>
         requires tree { number < (params_in self.now).k }
         requires out { length part.old ≡ fors_part_len (params_in self.now) }
         ensures part { IsSome result → part.new ≡ fors_part_by (answers_in self.now) number }
-        ensures fits { let t = self.now.signing in
-            IsSome result ↔ (NodesFit t.levels t.sk.now t.start.now self.now.xmss.bytes.now (JobTree.Fors number)
-            × ForsFits (source_in self.now) (answers_in self.now) number) }
+        ensures tags { let t = self.now.signing in
+            IsSome result ↔ NodesFit t.levels t.sk.now t.start.now self.now.xmss.bytes.now (JobTree.Fors number) }
         ensures root { IfSome result (λ root. root.items ≡ (answers_in self.now).root (JobTree.Fors number)) }
         ensures len { IfSome result (λ root. length root.items ≡ (params_in self.now).n) }
     {
-        let trees = &self.signing.trees;
-        let (secret, auth) = part.split_at_mut(trees.seeds.set.n());
+        let (secret, auth) = part.split_at_mut(self.signing.trees.seeds.set.n());
         secret.copy_from_slice(self.rest(JobTree::Fors(number)));
-        let Some(root) = self.put_path(JobTree::Fors(number), auth) else {
-            return None;
-        };
-        let climbed = fors_root_from_sig(
-            &trees.public(),
-            trees.idx_tree,
-            trees.idx_leaf,
-            number,
-            trees.fors_index(number),
-            part,
-        );
-        if are_same(&climbed, &root) {
-            Some(root)
-        } else {
-            None
-        }
+        self.put_path(JobTree::Fors(number), auth)
     }
 
     /// The same, written from `start` on.
-    fn fors_root_at(&self, number: u32, out: &mut [u8], start: usize) -> Option<Node>
+    fn put_fors_part_at(&self, number: u32, out: &mut [u8], start: usize) -> Option<Node>
         requires tree { number < (params_in self.now).k }
         requires out { start + fors_part_len (params_in self.now) ≤ length out.old }
         ensures part_len { IsSome result → length (fors_part_by (answers_in self.now) number)
             ≡ fors_part_len (params_in self.now) }
         ensures part { IsSome result → take (start + fors_part_len (params_in self.now)) out.new
             ≡ take start out.old ++ fors_part_by (answers_in self.now) number }
-        ensures fits { let t = self.now.signing in
-            IsSome result ↔ (NodesFit t.levels t.sk.now t.start.now self.now.xmss.bytes.now (JobTree.Fors number)
-            × ForsFits (source_in self.now) (answers_in self.now) number) }
+        ensures tags { let t = self.now.signing in
+            IsSome result ↔ NodesFit t.levels t.sk.now t.start.now self.now.xmss.bytes.now (JobTree.Fors number) }
         ensures root { IfSome result (λ root. root.items ≡ (answers_in self.now).root (JobTree.Fors number)) }
         ensures len { IfSome result (λ root. length root.items ≡ (params_in self.now).n) }
     {
         let end = start + fors_part_len(self.signing.trees.seeds.set);
-        self.fors_root(number, &mut out[start..end])
+        self.put_fors_part(number, &mut out[start..end])
+    }
+
+    /// Writes the FORS signature, and the roots that the ranges of its trees give, n bytes each. Returns T over these;
+    /// `None` where a node has not its tag.
+    fn put_fors(&self, sig_fors: &mut [u8], tops: &mut [u8]) -> Option<Node>
+        requires sig_fors { length sig_fors.old ≡ (params_in self.now).k * fors_part_len (params_in self.now) }
+        requires tops { length tops.old ≡ (params_in self.now).k * (params_in self.now).n }
+        ensures tags { let t = self.now.signing in IsSome result ↔ ((j : ℕ) → j < (params_in self.now).k
+            → NodesFit t.levels t.sk.now t.start.now self.now.xmss.bytes.now (JobTree.Fors j)) }
+        ensures pk_fors { IfSome result (λ key. key.items ≡ signed_by (source_in self.now) (answers_in self.now) 0) }
+        ensures len { IfSome result (λ key. length key.items ≡ (params_in self.now).n) }
+        ensures parts { IsSome result → (j : ℕ) → j < (params_in self.now).k
+            → length (fors_part_by (answers_in self.now) j) ≡ fors_part_len (params_in self.now) }
+        ensures sig_fors { IsSome result → sig_fors.new ≡ sig_fors_by (source_in self.now) (answers_in self.now) }
+        ensures tops { IsSome result → HasParts (params_in self.now).n tops.new
+            (λ j. (answers_in self.now).root (JobTree.Fors j)) (params_in self.now).k }
+    {
+        let trees = &self.signing.trees;
+        let set = trees.seeds.set;
+        let (n, size) = (set.n(), fors_part_len(set));
+        let mut roots = fors_roots(&trees.public(), trees.idx_tree, trees.idx_leaf);
+        for j in 0..set.k() {
+            let Some(root) = self.put_fors_part_at(j, sig_fors, j as usize * size) else {
+                return None;
+            };
+            put_node(tops, j as usize * n, &root);
+            roots.absorb(&root);
+        }
+        Some(roots.finish())
+    }
+
+    /// Whether the secret and the path of each FORS tree give the root that the tree's ranges give.
+    // The buffer is not to lie below `put_path` on the stack.
+    #[inline(never)]
+    fn fors_roots_fit(&self, sig_fors: &[u8], tops: &[u8]) -> bool
+        requires sig_fors { sig_fors.now ≡ sig_fors_by (source_in self.now) (answers_in self.now) }
+        requires parts { (j : ℕ) → j < (params_in self.now).k
+            → length (fors_part_by (answers_in self.now) j) ≡ fors_part_len (params_in self.now) }
+        requires tops { HasParts (params_in self.now).n tops.now
+            (λ j. (answers_in self.now).root (JobTree.Fors j)) (params_in self.now).k }
+        requires len { length tops.now ≡ (params_in self.now).k * (params_in self.now).n }
+        ensures { IsTrue result
+            ↔ ((j : ℕ) → j < (params_in self.now).k → ForsFits (source_in self.now) (answers_in self.now) j) }
+    {
+        let trees = &self.signing.trees;
+        let mut buffer = [0; MOST_ROOTS_LEN];
+        let climbed = &mut buffer[..tops.len()];
+        put_fors_roots(
+            &self.hashes,
+            &trees.public(),
+            trees.idx_tree,
+            trees.idx_leaf,
+            trees.md,
+            sig_fors,
+            climbed,
+        );
+        have_same_bytes(climbed, tops)
     }
 
     /// Writes the FORS signature, and returns T over the roots that the ranges give; `None` where a node has not its
     /// tag, or in some tree the secret and the path give another root.
+    // The buffer is not to lie below the hashing of WOTS+ keys on the stack.
+    #[inline(never)]
     pub(crate) fn judge_fors(&self, sig_fors: &mut [u8]) -> Option<Node>
         requires { length sig_fors.old
             ≡ (params_in self.now).k * fors_part_len (params_in self.now) }
@@ -137,16 +181,17 @@ impl<'a> AllAnswers<'a> {
             → length (fors_part_by (answers_in self.now) j) ≡ fors_part_len (params_in self.now) }
         ensures sig_fors { IsSome result → sig_fors.new ≡ sig_fors_by (source_in self.now) (answers_in self.now) }
     {
-        let trees = &self.signing.trees;
-        let size = fors_part_len(self.signing.trees.seeds.set);
-        let mut roots = fors_roots(&trees.public(), trees.idx_tree, trees.idx_leaf);
-        for j in 0..self.signing.trees.seeds.set.k() {
-            let Some(root) = self.fors_root_at(j, sig_fors, j as usize * size) else {
-                return None;
-            };
-            roots.absorb(&root);
+        let set = self.signing.trees.seeds.set;
+        let mut buffer = [0; MOST_ROOTS_LEN];
+        let tops = &mut buffer[..set.k() as usize * set.n()];
+        let Some(pk_fors) = self.put_fors(sig_fors, tops) else {
+            return None;
+        };
+        if self.fors_roots_fit(sig_fors, tops) {
+            Some(pk_fors)
+        } else {
+            None
         }
-        Some(roots.finish())
     }
 
     /// Writes the WOTS+ signature of `msg` by the key that signs on the layer, from what is kept of its chains.
@@ -164,6 +209,8 @@ impl<'a> AllAnswers<'a> {
 
     /// Writes the path of the layer's leaf, and returns the root that the ranges of the layer's tree give. `None` where
     /// one of their nodes has not its tag, or the layer signs `msg` and its key and path give another root.
+    // The buffer is not to lie below the FORS trees' `put_path` on the stack.
+    #[inline(never)]
     fn layer_root(&self, layer: u8, msg: &Node, path: &mut [u8]) -> Option<Node>
         requires layer { layer < (params_in self.now).d }
         requires msg { msg.now.items ≡ signed_by (source_in self.now) (answers_in self.now) layer }

@@ -1,6 +1,6 @@
 //! Tags, by which a start or the node of an answer is found that was made under another key, for another set, message
 //! or job, or changed since.
-ghost use Rattle.std.specs.Prelude.{◌≡◌, ◌↔◌, ℕ, List, [], ◌∷◌, ◌*◌, ◌^◌, ◌<◌, ◌≤◌, IsTrue, length};
+ghost use Rattle.std.specs.Prelude.{◌≡◌, ◌↔◌, ℕ, List, [], ◌∷◌, ◌*◌, ◌^◌, ◌+◌, ◌<◌, ◌≤◌, IsTrue, IsSome, IfSome, length};
 ghost use Rattle.slh_params.specs.Params.{Params};
 ghost use Rattle.slh_params.specs.ParamSet.{params};
 ghost use Rattle.slh_params.specs.declared.param_set.ParamSet.{ParamSet};
@@ -10,12 +10,18 @@ ghost use Rattle.slh_hash.specs.Stream.{IsKeyed};
 ghost use Rattle.slh_jobs.specs.Jobs.{HoldsFront};
 ghost use Rattle.slh_jobs.specs.KeyJobs.{HoldsKeyFront};
 ghost use Rattle.slh_jobs.specs.Starts.{start_tag};
+ghost use Rattle.slh_jobs.specs.AnswerTags.{AreBegun, AreTagsOfAnswers, AreTagsOfKey};
+ghost use Rattle.slh_lanes.specs.HmacLanes.{IsBegun};
+ghost use Rattle.slh_jobs.specs.declared.start.TheConstants.{MOST_START_LEN};
+ghost use Rattle.slh_jobs.specs.declared.tag.TheConstants.{HEAD_LEN, MOST_FRONT_LEN};
 ghost use Rattle.slh_jobs.specs.Tags.{Tagged, IsSized, head, node_tag, tag_key, text};
 
 use crate::levels::Levels;
+use crate::start::MOST_START_LEN;
 use arrayvec::ArrayVec;
 use slh_core::SecretKey;
 use slh_hash::CategoryHmac;
+use slh_lanes::HmacLanes;
 use slh_params::{Node, ParamSet};
 
 /// What a text begins with, by what is tagged.
@@ -33,6 +39,16 @@ const KEY_END: u8 = 1;
 
 /// No key of the tags is longer: three seeds of 32 bytes and the last byte.
 const MOST_KEY_LEN: usize = 3 * 32 + 1;
+
+/// The length of what a text begins with.
+const HEAD_LEN: usize = 8;
+
+/// What stands before the number of a job in the text of an answer is no longer, in any set: a start and two levels
+/// follow what the text begins with.
+pub(crate) const MOST_FRONT_LEN: usize = HEAD_LEN + MOST_START_LEN + 2;
+
+/// What stands before the number of a job in a text.
+type Front = ArrayVec<u8, MOST_FRONT_LEN>;
 
 /// A law: no two different things have one text, where their parts have the lengths that the kind and the record fix.
 pub fn texts_differ()
@@ -64,6 +80,22 @@ fn key_of_tags(sk_seed: &[u8], sk_prf: &[u8], pk_seed: &[u8]) -> ArrayVec<u8, MO
     key
 }
 
+/// What a text begins with: the kind of what is tagged, the encoding and the numbers of the set.
+fn head_of(set: ParamSet, kind: u8) -> [u8; HEAD_LEN]
+    ensures { result ≡ head kind (params set) }
+{
+    [
+        kind,
+        ENCODING,
+        set.n() as u8,
+        set.lg_w() as u8,
+        set.hp() as u8,
+        set.d() as u8,
+        set.a() as u8,
+        set.k() as u8,
+    ]
+}
+
 /// HMAC under the key of the tags, after the kind of what is tagged, the encoding and the numbers of the set.
 fn keyed_for(set: ParamSet, sk_seed: &[u8], sk_prf: &[u8], pk_seed: &[u8], kind: u8) -> CategoryHmac
     requires sk_seed { length sk_seed.now ≡ (params set).n }
@@ -73,16 +105,7 @@ fn keyed_for(set: ParamSet, sk_seed: &[u8], sk_prf: &[u8], pk_seed: &[u8], kind:
 {
     let key = key_of_tags(sk_seed, sk_prf, pk_seed);
     let mut keyed = CategoryHmac::new(set, key.as_slice());
-    keyed.update(&[
-        kind,
-        ENCODING,
-        set.n() as u8,
-        set.lg_w() as u8,
-        set.hp() as u8,
-        set.d() as u8,
-        set.a() as u8,
-        set.k() as u8,
-    ]);
+    keyed.update(&head_of(set, kind));
     keyed
 }
 
@@ -125,6 +148,76 @@ pub(crate) fn keyed_for_key(
     keyed
 }
 
+/// The tags of the nodes of answers, under one key and after what stands before the number of a job in their texts.
+#[derive(Drop)]
+pub(crate) struct AnswerTags {
+    pub(crate) keyed: CategoryHmac,
+    lanes: Option<HmacLanes>,
+}
+
+impl AnswerTags {
+    /// The lanes for nodes of `n` bytes, if there are any.
+    pub(crate) fn lanes_for(&self, n: usize) -> Option<&HmacLanes>
+        ensures n { IsSome result → n ≡ 16 }
+        ensures lanes { (p : Params) (key front : List ℕ) → AreBegun self.now p key front
+            → IfSome result (λ lanes. (p.n ≡ 16) × IsBegun lanes.now key front) }
+    {
+        if n == 16 { self.lanes.as_ref() } else { None }
+    }
+}
+
+/// The lanes for tags under a key, after this front of their texts: where HMAC's hash function is SHA-256.
+fn lanes_after(set: ParamSet, key: &[u8], front: &[u8]) -> Option<HmacLanes>
+    requires key { length key.now ≡ 3 * (params set).n + 1 }
+    requires front { length front.now ≤ MOST_FRONT_LEN }
+    ensures { IfSome result (λ lanes. ((params set).n ≡ 16) × IsBegun lanes key.now front.now) }
+{
+    if set.n() == 16 {
+        HmacLanes::new(key, front)
+    } else {
+        None
+    }
+}
+
+/// The tags of a signature's answers.
+pub(crate) fn tags_of_answers(levels: &Levels, sk: &SecretKey, start: &[u8]) -> AnswerTags
+    requires set { sk.now.set ≡ levels.now.set }
+    requires start { length start.now ≤ MOST_START_LEN }
+    ensures { AreTagsOfAnswers result levels.now sk.now start.now }
+{
+    let key = key_of_tags(sk.sk_seed(), sk.sk_prf(), sk.pk_seed());
+    let mut front = Front::new();
+    let _ = front.try_extend_from_slice(&head_of(levels.set, ANSWER));
+    let _ = front.try_extend_from_slice(start);
+    let _ = front.try_extend_from_slice(&[levels.xmss as u8, levels.fors as u8]);
+    AnswerTags {
+        keyed: keyed_for_answers(levels, sk, start),
+        lanes: lanes_after(levels.set, key.as_slice(), front.as_slice()),
+    }
+}
+
+/// The tags of a key's answers.
+pub(crate) fn tags_of_key(
+    levels: &Levels,
+    sk_seed: &[u8],
+    sk_prf: &[u8],
+    pk_seed: &[u8],
+) -> AnswerTags
+    requires sk_seed { length sk_seed.now ≡ (params levels.now.set).n }
+    requires sk_prf { length sk_prf.now ≡ (params levels.now.set).n }
+    requires pk_seed { length pk_seed.now ≡ (params levels.now.set).n }
+    ensures { AreTagsOfKey result levels.now sk_seed.now sk_prf.now pk_seed.now }
+{
+    let key = key_of_tags(sk_seed, sk_prf, pk_seed);
+    let mut front = Front::new();
+    let _ = front.try_extend_from_slice(&head_of(levels.set, KEY_ANSWER));
+    let _ = front.try_extend_from_slice(&[levels.xmss as u8]);
+    AnswerTags {
+        keyed: keyed_for_key(levels, sk_seed, sk_prf, pk_seed),
+        lanes: lanes_after(levels.set, key.as_slice(), front.as_slice()),
+    }
+}
+
 /// The tag of the node that a job answers, from the HMAC up to the job's number.
 pub(crate) fn answer_tag(keyed: &CategoryHmac, job: u32, node: &Node) -> Node
     ensures value { (p : Params) (key front : List ℕ) → IsKeyed keyed.now p key front
@@ -145,7 +238,7 @@ pub(crate) fn are_same(left: &Node, right: &Node) -> bool
 }
 
 /// Whether two slices of one length have the same bytes. All are looked at before the answer.
-fn have_same_bytes(left: &[u8], right: &[u8]) -> bool
+pub(crate) fn have_same_bytes(left: &[u8], right: &[u8]) -> bool
     requires { length left.now ≡ length right.now }
     ensures { IsTrue result ↔ (left.now ≡ right.now) }
 {

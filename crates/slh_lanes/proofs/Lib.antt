@@ -16,6 +16,7 @@ mod Streams
 mod LongStreams
 mod LaneStreams
 mod LongTweaked
-mod FirstBytes
+mod LastBlock
+pub mod FirstBytes
 mod Picks
 pub mod NodeLengths

@@ -7,3 +7,4 @@ pub mod TreeLanes
 pub mod Steps
 pub mod Streams
 pub mod LaneStreams
+pub mod HmacLanes

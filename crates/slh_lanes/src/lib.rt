@@ -5,6 +5,7 @@
 mod block;
 mod bytes;
 mod eight_blocks;
+mod hmac_lanes;
 mod lane_adrs;
 mod lane_nodes;
 mod lane_stream;
@@ -25,6 +26,7 @@ mod sixteen_blocks;
 mod words;
 
 pub use eight_blocks::compress;
+pub use hmac_lanes::{HmacLanes, MOST_FRONT_LEN};
 pub use lane_adrs::{LaneAdrs, adrs_lanes, set_chains, set_hashes, set_pairs};
 pub use lane_nodes::{
     LaneNodes, even_lanes, lane_node, node_lanes, odd_lanes, pick_nodes, set_lane,

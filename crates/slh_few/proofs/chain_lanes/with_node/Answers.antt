@@ -1,5 +1,5 @@
 -- The choice takes the value where the word is 1, and so in lane j alone.
-use Rattle.std.proofs.Common.{◌≡◌, ℕ, ◌<◌, ◌≤◌, length, slice_index, ◌∙◌, arith}
+use Rattle.std.proofs.Common.{ℕ, length, ◌∙◌, arith}
 use Rattle.slh_lanes.proofs.Columns.{splat_lane}
 use Rattle.slh_few.proofs.chain_lanes.with_node.Goals as goal
 

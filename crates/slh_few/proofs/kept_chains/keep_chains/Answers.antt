@@ -2,7 +2,6 @@
 use Rattle.std.proofs.Common.{◌≡◌, ℕ, ◌+◌, ◌-◌, ◌*◌, ◌<◌, inl, inr, refl, ap, sym, ◌∙◌, arith}
 use Rattle.std.proofs.lemmas.Bool.{cases_lt}
 use Rattle.slh_params.specs.ParamSet.{params}
-use Rattle.slh_lanes.proofs.Columns.{splat_lane}
 use Rattle.slh_few.specs.Wots.{chain, secret}
 use Rattle.slh_few.specs.KeptChains.{spacing, kept_count, kept_chain_len, kept_value}
 use Rattle.slh_few.specs.Parts.{part}
@@ -39,10 +38,8 @@ loop-j-preserved c =
     record {
       nodes = λ i lane.
           let d : ℕ = c.args.c + i in
-          let from = splat_lane (now * every) i lane ∙ ap (λ k. now * k) is in
-          let count = splat_lane every i lane ∙ is in
-          c.run_lanes-nodes.ensures p pk c.requires.lanes i lane
-          ∙ (λ k. chain p pk at (c.consecutive.ensures i lane k) (old.nodes i lane k) (from k) (count k)) ∙ kept_value-more p sk pk at d now;
+          c.run_alike-nodes.ensures p pk c.requires.lanes i lane
+          ∙ (λ k. chain p pk at (c.consecutive.ensures i lane k) (old.nodes i lane k) (now * is k) (is k)) ∙ kept_value-more p sk pk at d now;
       kept = λ i j low lt. elim (cases_lt j now) [
         | inl below ↦ c.put_values.ensures.others (c.args.c + i) j (omega arith) ∙ old.kept i j low below
         | inr ge ↦
@@ -67,8 +64,6 @@ returns-clause-ends c = λ i lane.
     let count : c.kept_count-last.result ≡ kept_count p = c.kept_count-last.ensures.value in
     let last : c.loop-j.j ≡ kept_count p - 1 = omega (arith, count) in
     let node = c.loop-j.invariant.nodes i lane ∙ ap (λ k. chain p pk at d x 0 (k * spacing p)) last in
-    let from = splat_lane ((c.kept_count-last.result - 1) * c.spacing-every.result) i lane ∙ (λ k. (count k - 1) * is k) in
-    let steps = splat_lane (c.spacing-every.result - 1) i lane ∙ ap (λ k. k - 1) is in
-    c.run_lanes.ensures p pk c.requires.lanes i lane ∙ (λ k. chain p pk at (c.consecutive.ensures i lane k) (node k) (from k) (steps k))
+    c.run_alike.ensures p pk c.requires.lanes i lane ∙ (λ k. chain p pk at (c.consecutive.ensures i lane k) (node k) ((count k - 1) * is k) (is k - 1))
     ∙ chain-on p pk at d x ((kept_count p - 1) * spacing p) (spacing p - 1)
     ∙ ap (λ k. chain p pk at d x 0 k) (kept_end s)

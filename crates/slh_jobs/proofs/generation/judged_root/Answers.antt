@@ -22,7 +22,7 @@ judged_nodes-requires-clause-copies c =
 -- the copies have their tags where the nodes of the tree have them
 fits : (c : After-judged_nodes) → IsSome c.judged_nodes.result ↔ AreTagged c.args.levels.now c.args.sk_seed.now c.args.sk_prf.now c.args.pk_seed.now c.args.given.now.bytes.now
 fits c =
-    let all = c.judged_nodes.ensures.tags _ _ _ c.keyed_for_key-keyed.ensures in (
+    let all = c.judged_nodes.ensures.tags _ _ _ c.tags_of_key-tags.ensures in (
       λ some. tagged_from c.args.levels.now c.args.sk_seed.now c.args.sk_prf.now c.args.pk_seed.now c.args.given.now.bytes.now _ c.requires.shape (all.0 some),
       λ own. all.1 (tagged_to c.args.levels.now c.args.sk_seed.now c.args.sk_prf.now c.args.pk_seed.now c.args.given.now.bytes.now _ c.requires.shape own),
     )

@@ -1,59 +1,28 @@
--- After each tree one root more is absorbed, one part more is written, and the roots so far are the same.
-use Rattle.std.proofs.Common.{◌≡◌, ℕ, ◌+◌, ◌*◌, ◌<◌, ◌++◌, List, length, take, refl, arith, sym, subst, ap, ◌∙◌}
-use Rattle.slh_params.specs.Address.{address}
-use Rattle.slh_hash.specs.Stream.{HasAbsorbed}
-use Rattle.slh_few.specs.Fors.{fors_part_len}
-use Rattle.slh_few.specs.Parts.{end_to_end}
-use Rattle.slh_few.proofs.Ends.{end_to_end-none, end_to_end-more, writes-more, part_fits, written_all}
-use Rattle.slh_subtrees.specs.Assembled.{fors_part_by}
-use Rattle.slh_subtrees.specs.declared.range.JobTree.TheVariants.{Fors}
-use Rattle.slh_jobs.specs.AllAnswers.{params_in, source_in, answers_in}
-use Rattle.slh_jobs.specs.Joined.{NodesFit, ForsFits}
-use Rattle.slh_jobs.proofs.Indices.{below_more}
+-- The buffer has room for the roots of any set.
+use Rattle.std.proofs.Common.{◌≡◌, ◌*◌, ◌≤◌, length-take-le, sym, ◌∙◌, refl, arith}
+use Rattle.std.proofs.Math.Nat.{mul-le-mul}
+use Rattle.slh_params.proofs.Bounds.{k_high, n_high}
+use Rattle.slh_jobs.specs.AllAnswers.{params_in}
 use Rattle.slh_jobs.proofs.all_answers.AllAnswers.judge_fors.Goals as goal
 
-pub fors_root_at-requires-clause-out : goal.fors_root_at-requires-clause-out
-fors_root_at-requires-clause-out c =
-    let p = params_in c.args.self.now in
-    let b : c.loop-j.j < p.k = omega (arith, c.k-j-end.ensures) in
-    let q : length c.loop-j.sig_fors ≡ p.k * fors_part_len p = omega (arith, c.requires) in
-    rw c.fors_part_len-size.ensures.value (part_fits c.loop-j.j p.k (fors_part_len p) (length c.loop-j.sig_fors) b q)
+pub slice_bounds-tops-end : goal.slice_bounds-tops-end
+slice_bounds-tops-end c =
+    let s = c.args.self.now.signing.trees.seeds.set in
+    let fits : c.k.result * c.n.result ≤ 2048 = rw (c.k.ensures, c.n.ensures) (mul-le-mul {n₂ = 64} {m₂ = 32} (k_high s) (n_high s)) in
+    sym (length-take-le (c.k.result * c.n.result) _ fits)
 
-pub loop-j-init : goal.loop-j-init
-loop-j-init c =
-    let zero : 0 * fors_part_len (params_in c.args.self.now) ≡ 0 = omega arith in (
-      rw (end_to_end-none _) (rw (c.public.ensures.set, c.public.ensures.pk_seed) at c.fors_roots-roots.ensures),
-      ap (λ k. take k c.args.sig_fors.now) zero ∙ sym (end_to_end-none _),
-      λ i lt. absurd (omega (arith, lt)),
-      λ i lt. absurd (omega (arith, lt)),
-      λ i lt. absurd (omega (arith, lt)),
-    )
-
-pub loop-j-preserved : goal.loop-j-preserved
-loop-j-preserved c =
+pub put_fors-requires-clause-tops : goal.put_fors-requires-clause-tops
+put_fors-requires-clause-tops c =
+    let s = c.args.self.now.signing.trees.seeds.set in
     let p = params_in c.args.self.now in
-    let s = source_in c.args.self.now in
-    let a = answers_in c.args.self.now in
-    let adrs = address 0 s.idx_tree 4 s.idx_leaf 0 0 in
-    let n = fors_part_len p in
-    let j = c.loop-j.j in
-    let roots : ℕ → List ℕ = λ i. a.root (Fors i) in
-    let part : ℕ → List ℕ = fors_part_by a in
-    let Sized : ℕ → Type 0 = λ i. length (part i) ≡ n in
-    let more : end_to_end roots (j + 1) ≡ end_to_end roots j ++ c.in-Some.root.items = end_to_end-more roots j ∙ ap (λ y. end_to_end roots j ++ y) (sym c.in-Some.ensures.root) in
-    let size : length (part j) ≡ n = c.in-Some.ensures.part_len refl in
-    let put : take (j * n + n) c.fors_root_at.new.out ≡ take (j * n) c.loop-j.sig_fors ++ part j = rw c.fors_part_len-size.ensures.value at (c.in-Some.ensures.part refl) in
-    let t = c.args.self.now.signing in
-    let Tagged : ℕ → Type 0 = λ i. NodesFit t.levels t.sk.now t.start.now c.args.self.now.xmss.bytes.now (Fors i) in
-    let here : Tagged j × ForsFits s a j = c.in-Some.ensures.fits.0 refl in (
-      subst (λ (xs : List ℕ). HasAbsorbed c.absorb.new.self p s.pk_seed adrs xs) (sym more) (c.absorb.ensures p s.pk_seed adrs (end_to_end roots j) c.loop-j.invariant.0),
-      writes-more part j n c.loop-j.sig_fors c.fors_root_at.new.out (part j) refl size c.loop-j.invariant.1 (ap (λ k. take (j * n + k) c.fors_root_at.new.out) size ∙ put),
-      below_more Sized j c.loop-j.invariant.2 size,
-      below_more Tagged j c.loop-j.invariant.3 here.0,
-      below_more (ForsFits s a) j c.loop-j.invariant.4 here.1,
-    )
+    let fits : c.k.result * c.n.result ≤ 2048 = rw (c.k.ensures, c.n.ensures) (mul-le-mul {n₂ = 64} {m₂ = 32} (k_high s) (n_high s)) in
+    let size : c.k.result * c.n.result ≡ p.k * p.n = rw (c.k.ensures, c.n.ensures) refl in
+    length-take-le (c.k.result * c.n.result) _ fits ∙ size
 
-pub returns-clause-sig_fors : goal.returns-clause-sig_fors
-returns-clause-sig_fors c = λ some.
+pub fors_roots_fit-requires-clause-len : goal.fors_roots_fit-requires-clause-len
+fors_roots_fit-requires-clause-len c =
+    let s = c.args.self.now.signing.trees.seeds.set in
     let p = params_in c.args.self.now in
-    written_all _ p.k (fors_part_len p) c.loop-j.j c.loop-j.sig_fors (omega (arith, c.k-j-end.ensures)) (omega (arith, c.requires)) c.loop-j.invariant.1
+    let fits : c.k.result * c.n.result ≤ 2048 = rw (c.k.ensures, c.n.ensures) (mul-le-mul {n₂ = 64} {m₂ = 32} (k_high s) (n_high s)) in
+    let size : c.k.result * c.n.result ≡ p.k * p.n = rw (c.k.ensures, c.n.ensures) refl in
+    c.put_fors.auto.tops ∙ length-take-le (c.k.result * c.n.result) _ fits ∙ size

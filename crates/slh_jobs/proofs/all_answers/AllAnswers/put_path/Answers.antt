@@ -28,7 +28,7 @@ judged_nodes-requires-clause-copies c =
 -- the copies have their tags where the nodes of the tree have them
 fits : (c : After-judged_nodes) → IsSome c.judged_nodes.result ↔ NodesFit c.args.self.now.signing.levels c.args.self.now.signing.sk.now c.args.self.now.signing.start.now c.args.self.now.xmss.bytes.now c.args.tree
 fits c =
-    ∥∥₁_elim c.args.self.now.holds (hlevel props)
+    ∥∥₁_elim c.args.self.now.begun (hlevel props)
     (λ is. rw (c.of_kind-given.ensures.shape, c.of_kind-given.ensures.bytes, c.first-first.ensures.value, c.first_job-job.ensures.value) at (c.judged_nodes.ensures.tags _ _ _ is))
 
 pub returns-in_default-clause-tags : goal.returns-in_default-clause-tags

@@ -1,0 +1,121 @@
+//! The nodes of a tree level by level, where all leaves are there: each level takes the place of the one below it.
+ghost use Rattle.std.specs.Prelude.{◌≡◌, ℕ, List, ◌+◌, ◌-◌, ◌*◌, ◌^◌, ◌<◌, ◌≤◌, length};
+ghost use Rattle.slh_tree.specs.Climb.{path};
+ghost use Rattle.slh_tree.specs.Tree.{root};
+ghost use Rattle.slh_few.specs.Levels.{AreJoined, AreParents};
+ghost use Rattle.slh_few.specs.Parts.{part};
+
+use crate::nodes::{node_at, part_at, put_part};
+use slh_params::Node;
+use slh_tree::{Leaves, MOST_LEAVES, Tree};
+
+/// A tree that makes several nodes of one level at once.
+pub trait LevelTree: Tree {
+    /// The nodes of height `z` from index `first` on, as many as `count`, from the nodes of the height below, which
+    /// stand end to end, each of `n` bytes.
+    fn parents(&self, z: u32, first: u32, count: u32, n: usize, below: &[u8]) -> Leaves
+        requires low { 1 ≤ z }
+        requires high { z ≤ (Self.tree self.now).height }
+        requires few { count ≤ MOST_LEAVES }
+        requires within { first + count ≤ 2 ^ ((Self.tree self.now).height - z) }
+        requires n { n ≡ (Self.tree self.now).width }
+        requires n_high { n ≤ 32 }
+        requires below { 2 * (first + count) * n ≤ length below.now }
+        ensures len { length result.items ≡ count }
+        ensures parents { AreParents (Self.tree self.now) n z first below.now result.items };
+}
+
+/// The nodes that `parents` gives, joined one after another.
+pub(crate) fn joined_in_turn<T: Tree>(
+    tree: &T,
+    z: u32,
+    first: u32,
+    count: u32,
+    n: usize,
+    below: &[u8],
+) -> Leaves
+    requires low { 1 ≤ z }
+    requires high { z ≤ (T.tree tree.now).height }
+    requires few { count ≤ MOST_LEAVES }
+    requires within { first + count ≤ 2 ^ ((T.tree tree.now).height - z) }
+    requires n { n ≡ (T.tree tree.now).width }
+    requires n_high { n ≤ 32 }
+    requires below { 2 * (first + count) * n ≤ length below.now }
+    ensures len { length result.items ≡ count }
+    ensures parents { AreParents (T.tree tree.now) n z first below.now result.items }
+{
+    // For the prover: a tree has a height of at most 14.
+    let _highest = tree.height();
+    let mut nodes = Leaves::new();
+    for j in 0..count {
+        let i = first + j;
+        let left = node_at(below, n, 2 * i as usize);
+        let right = node_at(below, n, 2 * i as usize + 1);
+        nodes.push(tree.join(z, i, &left, &right));
+    }
+    nodes
+}
+
+/// Puts nodes of height `z` from index `first` on, as many as `count`, at their places. Those of the height below, from
+/// the first one that these need on, still stand end to end.
+fn put_parents<T: LevelTree>(tree: &T, z: u32, first: u32, count: u32, n: usize, nodes: &mut [u8])
+    requires low { 1 ≤ z }
+    requires high { z ≤ (T.tree tree.now).height }
+    requires few { count ≤ MOST_LEAVES }
+    requires within { first + count ≤ 2 ^ ((T.tree tree.now).height - z) }
+    requires n { n ≡ (T.tree tree.now).width }
+    requires n_high { n ≤ 32 }
+    requires nodes { 2 * (first + count) * n ≤ length nodes.old }
+    ensures { (below : List ℕ) → AreJoined (T.tree tree.now) n z below first nodes.old
+        → AreJoined (T.tree tree.now) n z below (first + count) nodes.new }
+{
+    let parents = tree.parents(z, first, count, n, nodes);
+    for j in 0..count as usize {
+        put_part(nodes, n, first as usize + j, &parents[j]);
+    }
+}
+
+/// Puts all nodes of height `z` in place of the first of those of the height below, which stand end to end.
+fn put_level<T: LevelTree>(tree: &T, z: u32, n: usize, nodes: &mut [u8])
+    requires low { 1 ≤ z }
+    requires high { z ≤ (T.tree tree.now).height }
+    requires n { n ≡ (T.tree tree.now).width }
+    requires n_high { n ≤ 32 }
+    requires nodes { 2 * 2 ^ ((T.tree tree.now).height - z) * n ≤ length nodes.old }
+    ensures { AreJoined (T.tree tree.now) n z nodes.old (2 ^ ((T.tree tree.now).height - z)) nodes.new }
+{
+    let group = MOST_LEAVES as u32;
+    let count: u32 = 1 << (tree.height() - z);
+    for turn in 0..(count + 7) / group {
+        let first = group * turn;
+        put_parents(tree, z, first, (count - first).min(group), n, nodes);
+    }
+}
+
+/// Writes the path of leaf `idx`, as `path` of `slh_tree` does, and returns the root: from all leaves of the tree, which
+/// stand end to end in `nodes`, each of `n` bytes. The nodes above them take their place.
+pub fn path_from_leaves<T: LevelTree>(
+    tree: &T,
+    idx: u32,
+    n: usize,
+    nodes: &mut [u8],
+    out: &mut [u8],
+) -> Node
+    requires index { idx < 2 ^ (T.tree tree.now).height }
+    requires n { n ≡ (T.tree tree.now).width }
+    requires n_high { n ≤ 32 }
+    requires len { length nodes.old ≡ 2 ^ (T.tree tree.now).height * n }
+    requires leaves { (i : ℕ) → i < 2 ^ (T.tree tree.now).height
+        → part n nodes.old i ≡ (T.tree tree.now).leaf i }
+    requires out { length out.old ≡ (T.tree tree.now).height * n }
+    ensures path { out.new ≡ path (T.tree tree.now) idx }
+    ensures root { result.items ≡ root (T.tree tree.now) }
+    ensures width { length result.items ≡ n }
+{
+    for level in 0..tree.height() {
+        let sibling = (idx >> level) ^ 1;
+        put_part(out, n, level as usize, part_at(nodes, n, sibling as usize));
+        put_level(tree, level + 1, n, nodes);
+    }
+    node_at(nodes, n, 0)
+}
