@@ -59,12 +59,12 @@ LANES = {
     32: re.compile(r"slh_lanes::(?!.*512).*\bcompress(?!ed)\w*(::<.*>)?$"),
     64: re.compile(r"slh_lanes::.*512.*\bcompress(?!ed)\w*(::<.*>)?$"),
 }
-SEED_LANES = re.compile(r"slh_lanes::.*\b(new|state_after)\w*(::<.*>)?$")
+SEED_LANES = re.compile(r"slh_lanes::.*\b(new|hash_after)\w*(::<.*>)?$")
 
 # What is marked, by crate.
 MARKED = {
     "slh_hash": r"pub fn (?:f|prf|h|stream)\b",
-    "slh_lanes": r"(?:pub(?:\(crate\))? )?fn (?:compress(?!ed)\w*|new\w*|state_after\w*)\b",
+    "slh_lanes": r"(?:pub(?:\(crate\))? )?fn (?:compress(?!ed)\w*|new\w*|hash_after\w*)\b",
 }
 
 

@@ -184,7 +184,15 @@ func (secret *SecretKey) taken() ([]byte, error) {
 	if secret.held.isDestroyed {
 		return nil, ErrDestroyed
 	}
-	return append([]byte(nil), secret.held.bytes...), nil
+	return copied(secret.held.bytes), nil
+}
+
+// copied returns a copy of secret bytes, made byte by byte. On x86-64 append leaves the bytes in vector registers. Where
+// the runtime interrupts a goroutine it writes these to the goroutine's stack, and the system to the handler's.
+func copied(bytes []byte) []byte {
+	it := make([]byte, len(bytes))
+	subtle.ConstantTimeCopy(1, it, bytes)
+	return it
 }
 
 // Destroy overwrites the bytes with zeros, those of copies of this SecretKey, too. Calls that run in other goroutines
@@ -211,7 +219,7 @@ func NewSecretKey(set Set, bytes []byte) (*SecretKey, error) {
 	if len(bytes) != lengths.SecretKey {
 		return nil, BadLength
 	}
-	return &SecretKey{set, lengths, &held{bytes: append([]byte(nil), bytes...)}}, nil
+	return &SecretKey{set, lengths, &held{bytes: copied(bytes)}}, nil
 }
 
 // Generate makes a key (Algorithm 21). Its seeds come from the source, or from crypto/rand where that is nil. It is

@@ -1,11 +1,29 @@
-// A program for tests/packages_memory.py, which says what it does.
+// A program for tests/packages_memory.py, which says what it does. Where a signal interrupts a goroutine the system saves
+// the registers. So on x86-64 this also looks whether a call leaves SK.seed or SK.prf in xmm0 to xmm15.
 package main
+
+/*
+#include <stdint.h>
+
+static void copy_vectors(uint8_t *to) {
+#ifdef __x86_64__
+#define COPY(number) __asm__ volatile("movdqu %%xmm" #number ", (%0)" : : "r"(to + 16 * number) : "memory")
+    COPY(0); COPY(1); COPY(2); COPY(3); COPY(4); COPY(5); COPY(6); COPY(7);
+    COPY(8); COPY(9); COPY(10); COPY(11); COPY(12); COPY(13); COPY(14); COPY(15);
+#else
+    (void)to;
+#endif
+}
+*/
+import "C"
 
 import (
 	"bufio"
+	"crypto/subtle"
 	"fmt"
 	"io"
 	"os"
+	"unsafe"
 
 	"pipitscreen/slh"
 )
@@ -14,15 +32,21 @@ func main() {
 	message, in := []byte("letter"), bufio.NewReader(os.Stdin)
 	secret, err := slh.Generate(nil, slh.SLH_DSA_SHA2_128F)
 	expect(err)
-	bytes := secret.Bytes()
-	for at := range bytes {
-		fmt.Printf("%02x", bytes[at]^0x5a)
-		bytes[at] = 0
+	key := secret.Bytes()
+	expectNoneInVectors(key)
+	again, err := slh.NewSecretKey(slh.SLH_DSA_SHA2_128F, key)
+	expectNoneInVectors(key)
+	expect(err)
+	again.Destroy()
+	expect(secret.Check())
+	expectNoneInVectors(key)
+	for at := range key {
+		fmt.Printf("%02x", key[at]^0x5a)
+		key[at] = 0
 	}
 	fmt.Println()
 	_, err = in.ReadString('\n')
 	expect(err)
-	expect(secret.Check())
 	public := secret.PublicKey()
 	for _, options := range []slh.Options{{}, {Workers: 3}, {Twice: true}, {Workers: 3, Twice: true}} {
 		options.Deterministic = true
@@ -37,6 +61,20 @@ func main() {
 	secret.Destroy()
 	fmt.Println("erased")
 	io.Copy(io.Discard, in)
+}
+
+// expectNoneInVectors panics on x86-64 where SK.seed or SK.prf stands in a register for vectors, and elsewhere it does
+// nothing. It compares byte by byte, and so leaves none there.
+func expectNoneInVectors(key []byte) {
+	var to [256]C.uint8_t
+	C.copy_vectors(&to[0])
+	vectors := C.GoBytes(unsafe.Pointer(&to[0]), C.int(len(to)))
+	for at := 0; at < len(vectors); at += 16 {
+		it := vectors[at : at+16]
+		if subtle.ConstantTimeCompare(it, key[:16])|subtle.ConstantTimeCompare(it, key[16:32]) != 0 {
+			panic("the key is in a register")
+		}
+	}
 }
 
 func expect(err error) {

@@ -1,13 +1,10 @@
 //! How workers share the trees.
 
-use slh_par::Workers;
+use slh_par::{MOST_LEVELS, Workers};
 use slh_params::ParamSet;
 
 /// As many jobs for each worker, where the trees have as many leaves, keep all workers at work until nearly the end.
 const JOBS_EACH: u32 = 16;
-
-/// No tree is cut by more levels.
-const MOST_LEVELS: u32 = 8;
 
 /// The workers, and the levels by which the trees are cut.
 #[derive(Clone, Copy)]

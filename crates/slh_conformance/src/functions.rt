@@ -59,7 +59,7 @@ fn run_scheme(function: &str, row: &mut Row) -> bool {
         "keygen_from_pcg32" => keys::keygen_from_pcg32(row),
         "secret_key" => keys::secret_key(row),
         "public_key" => keys::public_key(row),
-        "cut_digest" => signatures::cut_digest_row(row),
+        "digest_indices" => signatures::digest_indices_row(row),
         "pre_hash" => signatures::pre_hash(row),
         "digest" => signatures::digest(row),
         "sign" => signatures::sign_row(row),

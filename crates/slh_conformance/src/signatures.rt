@@ -8,20 +8,20 @@ use crate::row::Row;
 use crate::way::{Way, function_of, way_of};
 use slh_core::signing_steps::fors_sig_len;
 use slh_core::{
-    MessageDigest, PreHash, PreHasher, Randomizer, SecretKey, cut_digest, hash_sign,
+    MessageDigest, PreHash, PreHasher, Randomizer, SecretKey, digest_indices, hash_sign,
     hash_sign_digest, hash_verify, hash_verify_digest, sign, sign_internal, verify,
     verify_internal,
 };
 use slh_params::{Node, ParamSet};
 
 /// A set, a digest of m bytes; the tree and the leaf that it names.
-pub fn cut_digest_row(row: &mut Row) {
+pub fn digest_indices_row(row: &mut Row) {
     let set = row.set();
     let digest = row.bytes();
     if digest.len() != set.m() {
         return row.refuse();
     }
-    let cut = cut_digest(set, &digest);
+    let cut = digest_indices(set, &digest);
     row.is_number(cut.idx_tree);
     row.is_number(cut.idx_leaf as u64);
 }

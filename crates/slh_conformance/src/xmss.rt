@@ -10,6 +10,7 @@ use slh_few::{
     xmss_sig_len, xmss_sign,
 };
 use slh_params::ParamSet;
+use slh_subtrees::top_layer;
 use slh_tree::root;
 
 /// A set, SK.seed, PK.seed, a layer, a tree; its root.
@@ -76,7 +77,7 @@ pub fn ht_sign_row(row: &mut Row) {
     let seeds = seeds_of(set, &sk_seed, &pk_seed);
     let public = public_of(set, &pk_seed);
     ht_sign(&seeds, tree, leaf, &msg, &mut sig);
-    let top = root(&XmssTree::new(&seeds, set.d() as u8 - 1, 0));
+    let top = root(&XmssTree::new(&seeds, top_layer(set), 0));
     row.is_true(ht_verify(&public, &top, tree, leaf, &msg, &sig));
     row.is_true(!ht_verify(&public, &top, tree, other, &msg, &sig));
     let shorter = top.as_slice().get(1..).unwrap_or(b"");

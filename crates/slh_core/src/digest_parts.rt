@@ -30,7 +30,7 @@ fn low_bits(x: u64, count: u32) -> u64
 /// The key pair that a message digest of m bytes names: what follows its first `md_len` bytes, which FORS
 /// signs (FIPS 205, Algorithm 19, lines 7 to 10).
 #[tactic(auto, using(slh_params::proofs::Bounds::digest_bounds), unfolding(crate::specs::DigestParts::idx_tree, crate::specs::DigestParts::idx_leaf))]
-pub fn cut_digest(set: ParamSet, digest: &[u8]) -> DigestIndices
+pub fn digest_indices(set: ParamSet, digest: &[u8]) -> DigestIndices
     requires { length digest.now ≡ m (params set) }
     ensures few { length digest.now ≤ MOST_DIGEST_LEN }
     ensures tree { result.idx_tree ≡ idx_tree (params set) digest.now }

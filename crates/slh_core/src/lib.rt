@@ -2,7 +2,7 @@
 //! signing and verifying.
 #![tactic(auto, using(slh_params::proofs::Bounds::n_high))]
 
-pub use digest_parts::{DigestIndices, cut_digest};
+pub use digest_parts::{DigestIndices, digest_indices};
 pub use fault::{KeyFault, KeygenFault, SignFault};
 pub use form::Form;
 pub use formatted_message::FormattedMessage;

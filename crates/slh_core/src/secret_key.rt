@@ -7,6 +7,7 @@ ghost use Rattle.slh_core.specs.Keys.{Key, sk_seed, sk_prf, public_of, pk_seed, 
 use crate::fault::KeyFault;
 use crate::public_key::PublicKey;
 use arrayvec::ArrayVec;
+use slh_few::Seeds;
 use slh_params::ParamSet;
 use std::marker::Model;
 
@@ -116,6 +117,19 @@ impl SecretKey {
         ensures len { length result.now ≡ (params self.now.set).n }
     {
         &self.public_bytes()[self.set.n()..]
+    }
+
+    /// The set, SK.seed and PK.seed: what the trees of the key are made from.
+    pub fn seeds(&self) -> Seeds<'_>
+        ensures set { result.set ≡ self.now.set }
+        ensures sk_seed { result.sk_seed.now ≡ sk_seed self.now }
+        ensures pk_seed { result.pk_seed.now ≡ pk_seed (public_of self.now) }
+    {
+        Seeds {
+            set: self.set,
+            sk_seed: self.sk_seed(),
+            pk_seed: self.pk_seed(),
+        }
     }
 
     /// The public key that belongs to this key.

@@ -7,11 +7,11 @@ ghost use Rattle.slh_core.specs.Keys.{public_of, IsGeneratedKey};
 ghost use Rattle.slh_core.specs.Randomizers.{HasLength};
 ghost use Rattle.slh_core.specs.Signatures.{r_by, digest_of, signature_of_digest, signature_by, IsValid};
 
-use crate::digest_parts::{MOST_DIGEST_LEN, cut_digest};
+use crate::digest_parts::{MOST_DIGEST_LEN, digest_indices};
 use crate::layout::fors_sig_len;
 use crate::randomizer::Randomizer;
 use crate::secret_key::SecretKey;
-use slh_few::{Public, Seeds, fors_pk_from_sig, fors_sign, ht_sign};
+use slh_few::{Public, fors_pk_from_sig, fors_sign, ht_sign};
 use slh_hash::{h_msg, prf_msg};
 use slh_params::Node;
 
@@ -23,23 +23,16 @@ fn sign_digest(sk: &SecretKey, digest: &[u8], out: &mut [u8])
     ensures { out.new ≡ signature_of_digest sk.now digest.now }
 {
     let set = sk.set();
-    let pk_seed = sk.pk_seed();
-    let seeds = Seeds {
+    let seeds = sk.seeds();
+    let public = Public {
         set,
-        sk_seed: sk.sk_seed(),
-        pk_seed,
+        pk_seed: seeds.pk_seed,
     };
     let md = &digest[..set.md_len()];
-    let indices = cut_digest(set, digest);
+    let indices = digest_indices(set, digest);
     let (sig_fors, sig_ht) = out.split_at_mut(fors_sig_len(set));
     fors_sign(&seeds, indices.idx_tree, indices.idx_leaf, md, sig_fors);
-    let pk_fors = fors_pk_from_sig(
-        &Public { set, pk_seed },
-        indices.idx_tree,
-        indices.idx_leaf,
-        md,
-        sig_fors,
-    );
+    let pk_fors = fors_pk_from_sig(&public, indices.idx_tree, indices.idx_leaf, md, sig_fors);
     ht_sign(&seeds, indices.idx_tree, indices.idx_leaf, &pk_fors, sig_ht);
 }
 

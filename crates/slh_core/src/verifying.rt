@@ -7,7 +7,7 @@ ghost use Rattle.slh_few.specs.Xmss.{xmss_sig_len};
 ghost use Rattle.slh_core.specs.Keys.{pk_root};
 ghost use Rattle.slh_core.specs.Signatures.{fors_sig_len, get_sig_fors, get_sig_ht, root_of_parts, IsValid};
 
-use crate::digest_parts::{MOST_DIGEST_LEN, cut_digest};
+use crate::digest_parts::{MOST_DIGEST_LEN, digest_indices};
 use crate::layout::fors_sig_len;
 use crate::public_key::PublicKey;
 use slh_few::{Public, fors_pk_from_sig, ht_verify};
@@ -27,7 +27,7 @@ fn verify_digest(pk: &PublicKey, digest: &[u8], sig_fors: &[u8], sig_ht: &[u8]) 
         pk_seed: pk.pk_seed(),
     };
     let md = &digest[..set.md_len()];
-    let indices = cut_digest(set, digest);
+    let indices = digest_indices(set, digest);
     let pk_fors = fors_pk_from_sig(&public, indices.idx_tree, indices.idx_leaf, md, sig_fors);
     ht_verify(
         &public,

@@ -13,7 +13,7 @@ use Rattle.slh_few.specs.KeyStreams.{AreAfter, AreEnds, HasAbsorbedKey, HaveAbso
 use Rattle.slh_few.specs.Parts.{end_to_end}
 use Rattle.slh_few.specs.Wots.{wots_address, chain, secret, whole_chain, wots_pk}
 use Rattle.slh_few.specs.Xmss.{AreKeysFrom, place}
-use Rattle.slh_few.specs.declared.key_streams.KeyStreams.{KeyStreams}
+use Rattle.slh_few.specs.declared.lanes.key_streams.KeyStreams.{KeyStreams}
 use Rattle.slh_few.specs.declared.place.Place.{Place}
 use Rattle.slh_few.proofs.ChainLanes.{chain-steps}
 use Rattle.slh_few.proofs.Chains.{chain-on}

@@ -11,7 +11,7 @@ use Rattle.slh_lanes.proofs.Columns.{splat_lane}
 use Rattle.slh_few.specs.Parts.{part}
 use Rattle.slh_few.specs.RunningChains.{EndAt, IsSameChain}
 use Rattle.slh_few.specs.Wots.{chain}
-use Rattle.slh_few.specs.declared.chain_lanes.RunningChains.{RunningChains}
+use Rattle.slh_few.specs.declared.lanes.chains.RunningChains.{RunningChains}
 use Rattle.slh_few.specs.declared.place.Place.{Place}
 use Rattle.slh_few.proofs.Chains.{chain-split, chain-start}
 

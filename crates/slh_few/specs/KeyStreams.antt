@@ -11,8 +11,8 @@ use Rattle.slh_few.specs.Parts.{end_to_end}
 use Rattle.slh_few.specs.Wots.{wots_address, chain, secret, whole_chain}
 use Rattle.slh_few.specs.Xmss.{place}
 use Rattle.slh_few.specs.declared.place.Place.{Place}
-use Rattle.slh_few.specs.declared.key_streams.KeyStreams.{KeyStreams}
-use Rattle.slh_few.specs.declared.key_streams.KeyStreams.TheVariants.{Lanes, Alone}
+use Rattle.slh_few.specs.declared.lanes.key_streams.KeyStreams.{KeyStreams}
+use Rattle.slh_few.specs.declared.lanes.key_streams.KeyStreams.TheVariants.{Lanes, Alone}
 
 -- T of key j has absorbed x, under these parameters, this PK.seed and this address
 abbrev pub HasAbsorbedKey : KeyStreams → ℕ → Params → List ℕ → Address → List ℕ → Type 0

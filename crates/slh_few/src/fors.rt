@@ -2,23 +2,23 @@
 ghost use Rattle.std.specs.Prelude.{[], take, drop, ◌≡◌, ℕ, List, ◌+◌, ◌*◌, ◌^◌, ◌≤◌, ◌<◌, ◌++◌, length, slice_index};
 ghost use Rattle.slh_params.specs.Params.{md_len};
 ghost use Rattle.slh_params.specs.ParamSet.{params};
-ghost use Rattle.slh_lanes.specs.TreeLanes.{IsSeededTreeLanes};
 ghost use Rattle.slh_tree.specs.Cover.{past_leaf};
 ghost use Rattle.slh_tree.specs.Tree.{node, root as root_of};
 ghost use Rattle.slh_tree.specs.Climb.{path as path_of, climb as climb_of};
 ghost use Rattle.slh_few.specs.Fors.{fors_tree, fors_leaf, fors_secret, fors_part_len, fors_sig, fors_root, fors_pk_from_sig, compressed_roots};
 ghost use Rattle.slh_few.specs.ForsHashes.{AreSeeded};
 ghost use Rattle.slh_few.specs.Parts.{part};
+ghost use Rattle.slh_few.specs.Trees.{fors_tree_of};
 ghost use Rattle.slh_few.specs.declared.fors.TheConstants.{MOST_FORS_PART_LEN};
 
-use crate::fors_climb::{absorb_in_lanes, put_in_lanes};
 use crate::fors_parts::{fors_indices, fors_roots};
 use crate::fors_tree::{fors_adrs, index_in_forest};
+use crate::lanes::{absorb_first_roots, put_first_roots};
 use crate::nodes::put_part;
 use crate::place::{Public, Seeds};
-use crate::seeded_trees::{ForsHashes, SeededForsTree};
-use slh_lanes::SeededTreeLanes;
-use slh_params::{AdrsType, Node, ParamSet, node_of};
+use crate::seeded_trees::{ClimbedForsTree, ForsHashes, SeededForsTree};
+use slh_hash::{SeededHash, SeededTreeHash};
+use slh_params::{AdrsType, Node, ParamSet, node_of, put_node};
 use slh_tree::climb;
 
 /// At least the length of a tree's part of a signature in any set: a secret and 14 nodes of 32 bytes.
@@ -47,14 +47,27 @@ pub fn fors_node(seeds: &Seeds, idx_tree: u64, idx_leaf: u32, tree_no: u32, z: u
 {
     let hashes = ForsHashes::new(seeds.set, seeds.pk_seed);
     let tree = SeededForsTree::at(&hashes, seeds, idx_tree, idx_leaf, tree_no);
-    tree.node(&hashes.join_lanes(), z, i)
+    tree.node(z, i)
+}
+
+impl<'s, 'h> SeededForsTree<'s, 'h> {
+    /// Writes the path of leaf `i` (Algorithm 16, lines 5 to 9).
+    #[tactic(auto, unfolding(crate::specs::Trees::fors_tree_of))]
+    fn put_path(&self, i: u32, out: &mut [u8])
+        requires index { i < 2 ^ (params self.now.tree.seeds.set).a }
+        requires length { length out.old ≡ (params self.now.tree.seeds.set).a * (params self.now.tree.seeds.set).n }
+        ensures { out.new ≡ path_of (fors_tree_of self.now.tree) i }
+    {
+        for level in 0..self.tree.seeds.set.a() {
+            let node = self.node(level, (i >> level) ^ 1);
+            put_node(out, level as usize * node.len(), &node);
+        }
+    }
 }
 
 /// Writes the secret of leaf `i`, then the leaf's path.
 #[tactic(auto, unfolding(crate::specs::Trees::fors_tree_of))]
-fn sign_tree(seeded_tree: &SeededForsTree, lanes: &SeededTreeLanes, i: u32, out: &mut [u8])
-    requires lanes { let seeds = seeded_tree.now.tree.seeds in
-        IsSeededTreeLanes lanes.now (params seeds.set) seeds.pk_seed.now }
+fn sign_tree(seeded_tree: &SeededForsTree, i: u32, out: &mut [u8])
     requires leaf { i < 2 ^ (params seeded_tree.now.tree.seeds.set).a }
     requires out { length out.old ≡ fors_part_len (params seeded_tree.now.tree.seeds.set) }
     ensures { let t = seeded_tree.now.tree in let p = params t.seeds.set in
@@ -65,20 +78,12 @@ fn sign_tree(seeded_tree: &SeededForsTree, lanes: &SeededTreeLanes, i: u32, out:
     let tree = &seeded_tree.tree;
     let (secret, auth) = out.split_at_mut(tree.seeds.set.n());
     secret.copy_from_slice(&tree.secret(&seeded_tree.hashes.seeded, i));
-    seeded_tree.put_path(lanes, i, auth);
+    seeded_tree.put_path(i, auth);
 }
 
 /// Writes the secret of leaf `i`, then the leaf's path, from `start` on.
 #[tactic(auto)]
-fn put_tree(
-    seeded_tree: &SeededForsTree,
-    lanes: &SeededTreeLanes,
-    i: u32,
-    out: &mut [u8],
-    start: usize,
-)
-    requires lanes { let seeds = seeded_tree.now.tree.seeds in
-        IsSeededTreeLanes lanes.now (params seeds.set) seeds.pk_seed.now }
+fn put_tree(seeded_tree: &SeededForsTree, i: u32, out: &mut [u8], start: usize)
     requires leaf { i < 2 ^ (params seeded_tree.now.tree.seeds.set).a }
     requires out { start + fors_part_len (params seeded_tree.now.tree.seeds.set) ≤ length out.old }
     ensures { let t = seeded_tree.now.tree in let p = params t.seeds.set in
@@ -88,7 +93,7 @@ fn put_tree(
         ++ path_of (fors_tree p sk_seed pk_seed t.idx_tree t.idx_leaf t.tree_no) i) }
 {
     let end = start + fors_part_len(seeded_tree.tree.seeds.set);
-    sign_tree(seeded_tree, lanes, i, &mut out[start..end]);
+    sign_tree(seeded_tree, i, &mut out[start..end]);
 }
 
 /// Writes the signature of a digest of md_len bytes by the key at leaf `idx_leaf` of tree `idx_tree`:
@@ -110,22 +115,15 @@ pub fn fors_sign(seeds: &Seeds, idx_tree: u64, idx_leaf: u32, md: &[u8], out: &m
     let indices = fors_indices(seeds.set, md);
     let size = fors_part_len(seeds.set);
     let hashes = ForsHashes::new(seeds.set, seeds.pk_seed);
-    let join_lanes = hashes.join_lanes();
     for j in 0..seeds.set.k() {
         let tree = SeededForsTree::at(&hashes, seeds, idx_tree, idx_leaf, j);
-        put_tree(
-            &tree,
-            &join_lanes,
-            indices[j as usize],
-            out,
-            j as usize * size,
-        );
+        put_tree(&tree, indices[j as usize], out, j as usize * size);
     }
 }
 
 /// The root of the tree that its part of a signature gives for leaf `i`.
 #[tactic(auto, using(slh_params::proofs::Bounds::n_high, slh_params::proofs::Bounds::a_high), unfolding(crate::specs::Trees::fors_tree_of))]
-fn root_from(seeded_tree: &SeededForsTree, i: u32, sig: &[u8]) -> Node
+fn root_from(seeded_tree: &ClimbedForsTree, i: u32, sig: &[u8]) -> Node
     requires leaf { i < 2 ^ (params seeded_tree.now.tree.seeds.set).a }
     requires sig { length sig.now ≡ fors_part_len (params seeded_tree.now.tree.seeds.set) }
     ensures value { let t = seeded_tree.now.tree in let p = params t.seeds.set in
@@ -139,12 +137,12 @@ fn root_from(seeded_tree: &SeededForsTree, i: u32, sig: &[u8]) -> Node
     let (secret, auth) = sig.split_at(tree.seeds.set.n());
     let index = index_in_forest(tree.tree_no, tree.seeds.set.a(), i);
     let adrs = fors_adrs(tree.idx_tree, tree.idx_leaf, AdrsType::ForsTree, 0, index);
-    let leaf = seeded_tree.hashes.seeded.f(&adrs, &node_of(secret));
+    let leaf = seeded_tree.seeded.f(&adrs, &node_of(secret));
     climb(seeded_tree, i, &leaf, auth)
 }
 
 /// The root of the tree that its part of a whole signature gives for leaf `i`.
-fn root_at(seeded_tree: &SeededForsTree, i: u32, sig: &[u8]) -> Node
+fn root_at(seeded_tree: &ClimbedForsTree, i: u32, sig: &[u8]) -> Node
     requires leaf { i < 2 ^ (params seeded_tree.now.tree.seeds.set).a }
     requires sig { let t = seeded_tree.now.tree in let p = params t.seeds.set in
         t.tree_no * fors_part_len p + fors_part_len p ≤ length sig.now }
@@ -180,15 +178,11 @@ pub fn put_fors_roots<'s>(
         ≡ fors_root p pk_seed idx_tree idx_leaf md.now j (part (fors_part_len p) sig.now j) }
 {
     let indices = fors_indices(public.set, md);
-    let seeds = Seeds {
-        set: public.set,
-        sk_seed: &[],
-        pk_seed: public.pk_seed,
-    };
-    let lanes = hashes.lanes();
-    let done = put_in_lanes(lanes, &seeds, idx_tree, idx_leaf, &indices, sig, out);
+    let seeds = public.without_secret();
+    let done = put_first_roots(hashes, &seeds, idx_tree, idx_leaf, &indices, sig, out);
+    let joins = hashes.joins();
     for j in done..public.set.k() {
-        let tree = SeededForsTree::at(hashes, &seeds, idx_tree, idx_leaf, j);
+        let tree = ClimbedForsTree::at(&hashes.seeded, joins, &seeds, idx_tree, idx_leaf, j);
         let root = root_at(&tree, indices[j as usize], sig);
         put_part(out, public.set.n(), j as usize, &root);
     }
@@ -211,24 +205,13 @@ pub fn fors_pk_from_sig(
     ensures len { length result.items ≡ (params public.now.set).n }
 {
     let indices = fors_indices(public.set, md);
-    let seeds = Seeds {
-        set: public.set,
-        sk_seed: &[],
-        pk_seed: public.pk_seed,
-    };
-    let hashes = ForsHashes::new(public.set, public.pk_seed);
+    let seeds = public.without_secret();
     let mut roots = fors_roots(public, idx_tree, idx_leaf);
-    let done = absorb_in_lanes(
-        &mut roots,
-        hashes.lanes(),
-        &seeds,
-        idx_tree,
-        idx_leaf,
-        &indices,
-        sig,
-    );
+    let done = absorb_first_roots(&mut roots, &seeds, idx_tree, idx_leaf, &indices, sig);
+    let seeded = SeededHash::new(public.set, public.pk_seed);
+    let joins = SeededTreeHash::new(public.set, public.pk_seed);
     for j in done..public.set.k() {
-        let tree = SeededForsTree::at(&hashes, &seeds, idx_tree, idx_leaf, j);
+        let tree = ClimbedForsTree::at(&seeded, &joins, &seeds, idx_tree, idx_leaf, j);
         roots.absorb(&root_at(&tree, indices[j as usize], sig));
     }
     roots.finish()

@@ -2,7 +2,6 @@
 //! section 8.2).
 ghost use Rattle.std.specs.Prelude.{◌≡◌, ℕ, ◌/◌, ◌^◌, ◌<◌, ◌≤◌, IfSome, [], ◌∷◌};
 ghost use Rattle.slh_params.specs.ParamSet.{params};
-ghost use Rattle.slh_lanes.specs.TreeLanes.{IsSeededTreeLanes};
 ghost use Rattle.slh_tree.specs.Tree.{node};
 ghost use Rattle.slh_tree.specs.declared.cover.Placed.{Placed};
 ghost use Rattle.slh_tree.specs.Cover.{IsCover, IsNodeOf, first_leaf, past_leaf};
@@ -11,7 +10,6 @@ ghost use Rattle.slh_few.specs.Trees.{fors_tree_of};
 
 use crate::seeded_trees::SeededForsTree;
 use arrayvec::ArrayVec;
-use slh_lanes::SeededTreeLanes;
 use slh_params::Node;
 use slh_tree::{Cover, PathRec, Placed, Tree, parent};
 
@@ -41,8 +39,7 @@ pub(crate) fn block_height(lo: u32, hi: u32) -> Option<u32>
 impl<'s, 'h> SeededForsTree<'s, 'h> {
     /// The node of height `z` over the record's leaf. The record gains the nodes of its path below that height.
     #[tactic(auto, unfolding(crate::specs::Trees::fors_tree_of))]
-    fn node_over_own_leaf(&self, lanes: &SeededTreeLanes, z: u32, rec: &mut PathRec) -> Node
-        requires lanes { IsSeededTreeLanes lanes.now (params self.now.tree.seeds.set) self.now.tree.seeds.pk_seed.now }
+    fn node_over_own_leaf(&self, z: u32, rec: &mut PathRec) -> Node
         requires height { z ≤ (params self.now.tree.seeds.set).a }
         requires index { rec.old.leaf < 2 ^ (params self.now.tree.seeds.set).a }
         requires same_height { rec.old.height ≡ (params self.now.tree.seeds.set).a }
@@ -56,7 +53,7 @@ impl<'s, 'h> SeededForsTree<'s, 'h> {
             let sibling = Placed {
                 z: level,
                 i,
-                node: self.node(lanes, level, i),
+                node: self.node(level, i),
             };
             rec.note(&sibling);
             node = parent(self, leaf, level, &node, &sibling.node);
@@ -65,8 +62,7 @@ impl<'s, 'h> SeededForsTree<'s, 'h> {
     }
 
     /// The node of height `z` at index `i`. The record gains the nodes of its path that lie in it.
-    fn noted_node(&self, lanes: &SeededTreeLanes, z: u32, i: u32, rec: &mut PathRec) -> Placed
-        requires lanes { IsSeededTreeLanes lanes.now (params self.now.tree.seeds.set) self.now.tree.seeds.pk_seed.now }
+    fn noted_node(&self, z: u32, i: u32, rec: &mut PathRec) -> Placed
         requires height { z ≤ (params self.now.tree.seeds.set).a }
         requires within { past_leaf z i ≤ 2 ^ (params self.now.tree.seeds.set).a }
         requires same_height { rec.old.height ≡ (params self.now.tree.seeds.set).a }
@@ -77,9 +73,9 @@ impl<'s, 'h> SeededForsTree<'s, 'h> {
             (LiesInRange (first_leaf z i) (past_leaf z i) rec.old.leaf) rec.old rec.new }
     {
         let node = if rec.leaf() >> z == i {
-            self.node_over_own_leaf(lanes, z, rec)
+            self.node_over_own_leaf(z, rec)
         } else {
-            self.node(lanes, z, i)
+            self.node(z, i)
         };
         let placed = Placed { z, i, node };
         rec.note(&placed);
@@ -88,15 +84,7 @@ impl<'s, 'h> SeededForsTree<'s, 'h> {
 
     /// What `hash_range` of `slh_tree` gives of the leaves from `lo` to `hi`, those below a node of height `z`.
     #[tactic(auto, unfolding(crate::specs::Trees::fors_tree_of))]
-    pub(crate) fn hash_block(
-        &self,
-        lanes: &SeededTreeLanes,
-        z: u32,
-        lo: u32,
-        hi: u32,
-        rec: &mut PathRec,
-    ) -> Cover
-        requires lanes { IsSeededTreeLanes lanes.now (params self.now.tree.seeds.set) self.now.tree.seeds.pk_seed.now }
+    pub(crate) fn hash_block(&self, z: u32, lo: u32, hi: u32, rec: &mut PathRec) -> Cover
         requires height { z ≤ (params self.now.tree.seeds.set).a }
         requires within { hi ≤ 2 ^ (params self.now.tree.seeds.set).a }
         requires from { first_leaf z (lo / 2 ^ z) ≡ lo }
@@ -108,7 +96,7 @@ impl<'s, 'h> SeededForsTree<'s, 'h> {
         ensures gained { Gains (fors_tree_of self.now.tree) (LiesInRange lo hi rec.old.leaf) rec.old rec.new }
     {
         let mut nodes = ArrayVec::new();
-        nodes.push(self.noted_node(lanes, z, lo >> z, rec));
+        nodes.push(self.noted_node(z, lo >> z, rec));
         Cover { lo, hi, nodes }
     }
 }

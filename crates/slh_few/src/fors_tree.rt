@@ -5,16 +5,13 @@ ghost use Rattle.slh_params.specs.AdrsType.{type_number};
 ghost use Rattle.slh_params.specs.ParamSet.{params};
 ghost use Rattle.slh_hash.specs.Seeded.{IsSeeded};
 ghost use Rattle.slh_hash.specs.Stream.{IsSeededTree};
-ghost use Rattle.slh_lanes.specs.Lanes.{HasAddress, IsSeededLanes, value_at};
-ghost use Rattle.slh_tree.specs.Leaves.{AreLeavesFrom};
 ghost use Rattle.slh_few.specs.Fors.{fors_tree, fors_secret};
 ghost use Rattle.slh_few.specs.declared.fors_parts.TheConstants.{MOST_TREES};
 
 use crate::fors_parts::MOST_TREES;
-use crate::nodes::first_nodes;
 use crate::place::Seeds;
 use slh_hash::{SeededHash, SeededTreeHash};
-use slh_lanes::{GROUP, LaneAdrs, LaneNodes, SeededLanes, adrs_lanes, consecutive, set_hashes};
+use slh_lanes::SeededLanes;
 use slh_params::{Adrs, AdrsType, Node};
 use slh_tree::{Leaves, Tree};
 
@@ -116,49 +113,6 @@ impl<'a> ForsTree<'a> {
         let index = index_in_forest(self.tree_no, self.seeds.set.a(), i);
         let adrs = fors_adrs(self.idx_tree, self.idx_leaf, AdrsType::ForsTree, 0, index);
         seeded.f(&adrs, &self.secret(seeded, i))
-    }
-
-    /// The leaves from `first` on, as many as `count`: F of their secrets, eight at once.
-    pub(crate) fn leaves_from(&self, lanes: &SeededLanes, first: u32, count: u32) -> Leaves
-        requires some { 1 ≤ count }
-        requires few { count ≤ GROUP }
-        requires within { first + count ≤ 2 ^ (params self.now.seeds.set).a }
-        ensures len { length result.items ≡ count }
-        ensures leaves { let p = params self.now.seeds.set in let sk_seed = self.now.seeds.sk_seed.now in
-            (pk_seed : List ℕ) → IsSeededLanes lanes.now p pk_seed
-            → AreLeavesFrom (fors_tree p sk_seed pk_seed self.now.idx_tree self.now.idx_leaf self.now.tree_no)
-            first result.items }
-    {
-        let leaves = self.leaf_lanes(lanes, first);
-        first_nodes(&leaves, self.seeds.set.n(), count as usize)
-    }
-
-    /// The leaves from `first` on, one in each lane: F of their secrets.
-    pub(crate) fn leaf_lanes(&self, lanes: &SeededLanes, first: u32) -> LaneNodes
-        requires { first < 2 ^ (params self.now.seeds.set).a }
-        ensures { let p = params self.now.seeds.set in let sk_seed = self.now.seeds.sk_seed.now in
-            (pk_seed : List ℕ) → IsSeededLanes lanes.now p pk_seed → (j : ℕ) → j < GROUP → value_at result j p.n
-            ≡ (fors_tree p sk_seed pk_seed self.now.idx_tree self.now.idx_leaf self.now.tree_no).leaf (first + j) }
-    {
-        let secrets = lanes.prf(
-            self.seeds.sk_seed,
-            &self.lane_adrs(AdrsType::ForsPrf, 0, first),
-        );
-        lanes.f(&self.lane_adrs(AdrsType::ForsTree, 0, first), &secrets)
-    }
-
-    /// The addresses of a type of the nodes of height `z` from index `first` on, one in each lane.
-    pub(crate) fn lane_adrs(&self, kind: AdrsType, z: u32, first: u32) -> LaneAdrs
-        requires height { z ≤ (params self.now.seeds.set).a }
-        requires index { first < 2 ^ ((params self.now.seeds.set).a - z) }
-        ensures { (j : ℕ) → j < GROUP
-            → HasAddress result j (address 0 self.now.idx_tree (type_number kind) self.now.idx_leaf z
-            (self.now.tree_no * 2 ^ ((params self.now.seeds.set).a - z) + (first + j))) }
-    {
-        let index = index_in_forest(self.tree_no, self.seeds.set.a() - z, first);
-        let mut adrs = adrs_lanes(&fors_adrs(self.idx_tree, self.idx_leaf, kind, z, 0));
-        set_hashes(&mut adrs, consecutive(index));
-        adrs
     }
 
     /// Node `i` of height `z`: H of its two children.

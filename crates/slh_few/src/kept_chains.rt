@@ -3,19 +3,17 @@ ghost use Rattle.std.specs.Prelude.{◌≡◌, ◌≢◌, ℕ, ◌+◌, ◌-◌,
 ghost use Rattle.slh_params.specs.Params.{len, w};
 ghost use Rattle.slh_params.specs.ParamSet.{params};
 ghost use Rattle.slh_hash.specs.Seeded.{IsSeeded};
-ghost use Rattle.slh_lanes.specs.Lanes.{IsSeededLanes, value_at};
 ghost use Rattle.slh_few.specs.Parts.{part};
-ghost use Rattle.slh_few.specs.Wots.{whole_chain, wots_pk, wots_sig};
-ghost use Rattle.slh_few.specs.KeptChains.{spacing as spacing_of, kept_count as kept_count_of, kept_chain_len as chain_len, kept_chains_len as chains_len, kept_value, kept_chain, kept_chains, run_from_kept, wots_sig_from};
+ghost use Rattle.slh_few.specs.Wots.{wots_pk, wots_sig};
+ghost use Rattle.slh_few.specs.KeptChains.{spacing as spacing_of, kept_count as kept_count_of, kept_chain_len as chain_len, kept_chains_len as chains_len, kept_chains, run_from_kept, wots_sig_from};
 ghost use Rattle.slh_few.specs.declared.kept_chains.TheConstants.{MOST_KEPT_CHAIN_LEN, MOST_KEPT_CHAINS_LEN};
 
-use crate::chain_lanes::{put_lanes, run_alike, secret_lanes};
+use crate::lanes::run_keeping;
 use crate::nodes::{node_at, part_at, put_part};
 use crate::place::{Place, Public, Seeds};
 use crate::wots::{MOST_WOTS_SIG_LEN, compressed_ends, run_chain, wots_sig_len};
 use crate::wots_digits::{MOST_CHAINS, digits_of};
 use slh_hash::SeededHash;
-use slh_lanes::{GROUP, LaneNodes, SeededLanes, consecutive, lane_node};
 use slh_params::{Node, ParamSet, put_node};
 
 /// The most values of a chain that are kept.
@@ -76,57 +74,6 @@ pub(crate) fn put_value(set: ParamSet, kept: &mut [u8], c: usize, j: usize, valu
     put_part(&mut kept[start..start + size], set.n(), j, value);
 }
 
-/// Writes value `j` of the kept values of the chains from `c` on, from the first `used` lanes.
-fn put_values(set: ParamSet, kept: &mut [u8], c: usize, j: usize, nodes: &LaneNodes, used: usize)
-    requires kept { length kept.old ≡ chains_len (params set) }
-    requires lanes { used ≤ GROUP }
-    requires chains { c + used ≤ len (params set) }
-    requires number { j < kept_count_of (params set) }
-    ensures set { (i : ℕ) → i < used → part (params set).n (part (chain_len (params set)) kept.new (c + i)) j
-        ≡ value_at nodes.now i (params set).n }
-    ensures others { (d i : ℕ) → i ≢ j → part (params set).n (part (chain_len (params set)) kept.new d) i
-        ≡ part (params set).n (part (chain_len (params set)) kept.old d) i }
-    ensures chains { (d : ℕ) → d < c → part (chain_len (params set)) kept.new d
-        ≡ part (chain_len (params set)) kept.old d }
-{
-    for i in 0..used {
-        put_value(set, kept, c + i, j, &lane_node(nodes, i, set.n()));
-    }
-}
-
-/// Writes the kept values of the chains from `c` on, as many as `used`, and gives the ends of these chains.
-fn keep_chains(
-    lanes: &SeededLanes,
-    seeds: &Seeds,
-    at: Place,
-    c: usize,
-    used: usize,
-    kept: &mut [u8],
-) -> LaneNodes
-    requires lanes { IsSeededLanes lanes.now (params seeds.now.set) seeds.now.pk_seed.now }
-    requires used { used ≤ GROUP }
-    requires chains { c + used ≤ len (params seeds.now.set) }
-    requires kept { length kept.old ≡ chains_len (params seeds.now.set) }
-    ensures ends { let p = params seeds.now.set in (j : ℕ) → j < GROUP
-        → value_at result j p.n ≡ whole_chain p seeds.now.sk_seed.now seeds.now.pk_seed.now at (c + j) }
-    ensures kept { let p = params seeds.now.set in (i j : ℕ) → i < used → j < kept_count_of p
-        → part p.n (part (chain_len p) kept.new (c + i)) j
-        ≡ kept_value p seeds.now.sk_seed.now seeds.now.pk_seed.now at (c + i) j }
-    ensures before { let p = params seeds.now.set in (d : ℕ) → d < c
-        → part (chain_len p) kept.new d ≡ part (chain_len p) kept.old d }
-{
-    let every = spacing(seeds.set);
-    let last = kept_count(seeds.set) - 1;
-    let group = consecutive(c as u32).to_array();
-    let mut nodes = secret_lanes(lanes, seeds.sk_seed, at, &group);
-    for j in 0..last {
-        put_values(seeds.set, kept, c, j as usize, &nodes, used);
-        nodes = run_alike(lanes, at, &group, &nodes, j * every, every);
-    }
-    put_values(seeds.set, kept, c, last as usize, &nodes, used);
-    run_alike(lanes, at, &group, &nodes, last * every, every - 1)
-}
-
 /// The public key at a place, n bytes (Algorithm 6). Into `kept` it writes values of the key's chains, of
 /// `kept_chains_len` bytes, with which `wots_sign_kept` signs.
 #[tactic(auto, using(crate::proofs::Checksum::chain_bounds))]
@@ -140,17 +87,9 @@ pub fn wots_pk_keeping(seeds: &Seeds, at: Place, kept: &mut [u8]) -> Node
         let pk_seed = seeds.now.pk_seed.now in
         kept.new ≡ kept_chains p sk_seed pk_seed at }
 {
-    let lanes = SeededLanes::new(seeds.set, seeds.pk_seed);
     let mut buffer = [0; MOST_WOTS_SIG_LEN];
     let ends = &mut buffer[..wots_sig_len(seeds.set)];
-    let n = seeds.set.n();
-    let count = seeds.set.len();
-    for group in 0..count.div_ceil(GROUP) {
-        let c = GROUP * group;
-        let used = (count - c).min(GROUP);
-        let nodes = keep_chains(&lanes, seeds, at, c, used, kept);
-        put_lanes(ends, n, &consecutive(c as u32).to_array(), &nodes, used);
-    }
+    run_keeping(seeds, at, kept, ends);
     let public = Public {
         set: seeds.set,
         pk_seed: seeds.pk_seed,

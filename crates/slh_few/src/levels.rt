@@ -86,7 +86,7 @@ fn put_level<T: LevelTree>(tree: &T, z: u32, n: usize, nodes: &mut [u8])
 {
     let group = MOST_LEAVES as u32;
     let count: u32 = 1 << (tree.height() - z);
-    for turn in 0..(count + 7) / group {
+    for turn in 0..count.div_ceil(group) {
         let first = group * turn;
         put_parents(tree, z, first, (count - first).min(group), n, nodes);
     }

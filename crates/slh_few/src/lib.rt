@@ -4,28 +4,20 @@
 //! A hash state is made within one call and dropped at its end.
 #![tactic(auto, using(slh_params::proofs::Bounds::bounds))]
 
-mod chain_lanes;
-mod chain_order;
 mod fors;
 mod fors_blocks;
-mod fors_climb;
-mod fors_lanes;
 mod fors_parts;
 mod fors_tree;
 mod hypertree;
 mod kept_chains;
-mod key_lanes;
-mod key_streams;
 mod known_leaves;
+mod lanes;
 mod levels;
 mod nodes;
 mod path_bytes;
 mod place;
 mod ranges;
 mod seeded_trees;
-mod two_chains;
-mod two_chains_keeping;
-mod two_chains_signing;
 mod wots;
 mod wots_digits;
 mod xmss;

@@ -11,11 +11,10 @@ ghost use Rattle.slh_few.specs.Fors.{fors_tree};
 
 use crate::fors_blocks::block_height;
 use crate::kept_chains::wots_pk_keeping;
-use crate::key_lanes::{eight_keys, first_of_eight, lane_among_eight};
 use crate::known_leaves::KnownLeavesTree;
+use crate::lanes::{KeptValues, eight_keys, first_of_eight, lane_among_eight};
 use crate::place::{Place, Seeds};
 use crate::seeded_trees::{ForsHashes, SeededForsTree, SeededXmssTree};
-use crate::two_chains_keeping::KeptValues;
 use slh_hash::SeededTreeHash;
 use slh_lanes::GROUP;
 use slh_tree::{Cover, Leaves, PathRec, hash_range};
@@ -125,7 +124,7 @@ pub fn fors_range(
     let hashes = ForsHashes::new(seeds.set, seeds.pk_seed);
     let tree = SeededForsTree::at(&hashes, seeds, idx_tree, idx_leaf, tree_no);
     if let Some(z) = block_height(lo, hi) {
-        return tree.hash_block(&hashes.join_lanes(), z, lo, hi, rec);
+        return tree.hash_block(z, lo, hi, rec);
     }
     hash_range(&tree, lo, hi, rec)
 }

@@ -6,14 +6,15 @@ ghost use Rattle.slh_params.specs.Params.{Params, len, w};
 ghost use Rattle.slh_params.specs.ParamSet.{params};
 ghost use Rattle.slh_hash.specs.Hash.{T};
 ghost use Rattle.slh_hash.specs.Seeded.{IsSeeded};
+ghost use Rattle.slh_few.specs.Parts.{end_to_end, part};
 ghost use Rattle.slh_few.specs.Wots.{wots_address, chain as chain_of, secret, whole_chain, wots_pk, wots_sig, wots_pk_from_sig};
 ghost use Rattle.slh_few.specs.Xmss.{wots_sig_len};
 ghost use Rattle.slh_few.specs.declared.wots.TheConstants.{MOST_WOTS_SIG_LEN};
 
-use crate::chain_lanes::{ChainNumbers, run_secrets, run_values};
-use crate::nodes::node_at;
+use crate::lanes::{ChainNumbers, MOST_DIGITS, run_secrets, run_values};
+use crate::nodes::{node_at, put_part};
 use crate::place::{Place, Public, Seeds};
-use crate::wots_digits::{MOST_CHAINS, MOST_DIGITS, digits_of};
+use crate::wots_digits::{MOST_CHAINS, digits_of};
 use slh_hash::{SeededHash, TStream};
 use slh_params::{Adrs, AdrsType, Node, ParamSet, copy_of};
 
@@ -147,6 +148,32 @@ fn steps_left(set: ParamSet, digits: &ChainNumbers) -> ChainNumbers
         left[c] = last - digits[c];
     }
     left
+}
+
+/// Writes the value that each chain of a key has when it is run on from the value given, each from its own step and by
+/// its own number of steps, one chain after another (Algorithm 8, lines 8 to 11).
+pub(crate) fn run_values_alone(
+    public: &Public,
+    at: Place,
+    values: &[u8],
+    from: &ChainNumbers,
+    counts: &ChainNumbers,
+    out: &mut [u8],
+)
+    requires steps { (c : ℕ) → c < MOST_DIGITS → slice_index from.now c + slice_index counts.now c ≤ MOST_STEPS }
+    requires values { length values.now ≡ len (params public.now.set) * (params public.now.set).n }
+    requires out { length out.old ≡ len (params public.now.set) * (params public.now.set).n }
+    ensures { let p = params public.now.set in let pk_seed = public.now.pk_seed.now in
+        out.new ≡ end_to_end (λ c. chain_of p pk_seed at c (part p.n values.now c)
+        (slice_index from.now c) (slice_index counts.now c)) (len p) }
+{
+    let seeded = SeededHash::new(public.set, public.pk_seed);
+    let n = public.set.n();
+    for c in 0..public.set.len() {
+        let value = node_at(values, n, c);
+        let end = run_chain(&seeded, at, c as u32, value, from[c], counts[c]);
+        put_part(out, n, c, &end);
+    }
 }
 
 /// The public key that a signature of a message of n bytes gives: n bytes (Algorithm 8).

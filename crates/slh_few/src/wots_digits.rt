@@ -5,15 +5,12 @@ ghost use Rattle.slh_params.specs.ParamSet.{params};
 ghost use Rattle.slh_params.specs.Bits.{AllBytes};
 ghost use Rattle.slh_few.specs.Wots.{digits as digits_of, digit, checksum, checksum_digits, NowhereBelow};
 
+use crate::lanes::{ChainNumbers, MOST_DIGITS};
 use crate::nodes::bytes_of;
-use slh_lanes::GROUP;
 use slh_params::{Node, ParamSet, base_2b, to_byte};
 
 /// The most chains of a key in any set: 128 digits of a message, where n is 32 and lg_w 2, and 5 of its checksum.
 pub(crate) const MOST_CHAINS: usize = 128 + 5;
-
-/// At least as many, and whole groups.
-pub(crate) const MOST_DIGITS: usize = 17 * GROUP;
 
 /// No checksum is larger: at most 128 digits of a message, each at most 255 below w - 1.
 const MOST_CHECKSUM: u32 = 128 * 255;
@@ -65,7 +62,7 @@ pub fn digits(set: ParamSet, msg: &Node, out: &mut [u32])
 }
 
 /// The digits of a message, with zeros after them.
-pub(crate) fn digits_of(set: ParamSet, msg: &Node) -> [u32; MOST_DIGITS]
+pub(crate) fn digits_of(set: ParamSet, msg: &Node) -> ChainNumbers
     requires { length msg.now.items ≡ (params set).n }
     ensures digits { (c : ℕ) → c < len (params set) → slice_index result c
         ≡ digit (params set) msg.now.items c }

@@ -6,14 +6,13 @@ ghost use Rattle.slh_tree.specs.Tree.{node, root as root_of};
 ghost use Rattle.slh_few.specs.Wots.{wots_pk};
 ghost use Rattle.slh_few.specs.Xmss.{xmss_tree, xmss_sig, xmss_pk_from_sig, xmss_sig_len};
 
-use crate::key_lanes::{first_of_eight, sign_among_eight};
-use crate::known_leaves::KnownLeavesTree;
+use crate::lanes::{can_give_leaf, sign_giving_leaf};
 use crate::place::{Place, Public, Seeds};
 use crate::seeded_trees::SeededXmssTree;
 use crate::wots::{wots_pk, wots_pk_from_sig, wots_sign};
 use slh_hash::SeededTreeHash;
-use slh_params::{Node, ParamSet};
-use slh_tree::{Tree, climb, node, path};
+use slh_params::Node;
+use slh_tree::{climb, node, path};
 
 /// xmss_node (Algorithm 9): the node of height `z` at index `i` of tree `tree` of layer `layer`, n bytes, from its own
 /// leaves alone.
@@ -30,35 +29,8 @@ pub fn xmss_node(seeds: &Seeds, layer: u8, tree: u64, z: u32, i: u32) -> Node
     node(&SeededXmssTree::new(&joins, seeds, layer, tree), z, i)
 }
 
-/// Whether the trees of a set have eight leaves or more.
-fn has_eight_leaves(set: ParamSet) -> bool {
-    set.hp() >= 3
-}
-
-/// Writes the signature as `xmss_sign` does, and gives the leaf that signs. That leaf is made together with the seven
-/// others below its node of height 3, and the path's nodes of heights 0 to 2 are made from those. It is for trees of
-/// eight leaves or more.
-fn sign_in_group(seeds: &Seeds, at: Place, msg: &Node, out: &mut [u8]) -> Node
-    requires pair { at.pair < 2 ^ (params seeds.now.set).hp }
-    requires msg { length msg.now.items ≡ (params seeds.now.set).n }
-    requires out { length out.old ≡ xmss_sig_len (params seeds.now.set) }
-    ensures signature { let p = params seeds.now.set in let sk_seed = seeds.now.sk_seed.now in
-        let pk_seed = seeds.now.pk_seed.now in
-        out.new ≡ xmss_sig p sk_seed pk_seed at msg.now.items }
-    ensures leaf { let p = params seeds.now.set in let sk_seed = seeds.now.sk_seed.now in
-        let pk_seed = seeds.now.pk_seed.now in
-        result.items ≡ wots_pk p sk_seed pk_seed at }
-{
-    let (wots, auth) = out.split_at_mut(seeds.set.len() * seeds.set.n());
-    let group = sign_among_eight(seeds, at, msg, wots);
-    let joins = SeededTreeHash::new(seeds.set, seeds.pk_seed);
-    let tree = KnownLeavesTree::new(&joins, seeds, first_of_eight(at), group);
-    path(&tree, at.pair, auth);
-    tree.leaf(at.pair)
-}
-
 /// Writes the signature as `xmss_sign` does. The leaf that signs is not made. It is for trees of fewer than eight
-/// leaves, where a group of eight would have leaves that nobody uses.
+/// leaves, for which `can_give_leaf` is false.
 fn sign_alone(seeds: &Seeds, at: Place, msg: &Node, out: &mut [u8])
     requires pair { at.pair < 2 ^ (params seeds.now.set).hp }
     requires msg { length msg.now.items ≡ (params seeds.now.set).n }
@@ -86,8 +58,8 @@ pub(crate) fn sign_tree(seeds: &Seeds, at: Place, msg: &Node, out: &mut [u8]) ->
         let pk_seed = seeds.now.pk_seed.now in
         result.items ≡ wots_pk p sk_seed pk_seed at }
 {
-    if has_eight_leaves(seeds.set) {
-        return sign_in_group(seeds, at, msg, out);
+    if can_give_leaf(seeds.set) {
+        return sign_giving_leaf(seeds, at, msg, out);
     }
     sign_alone(seeds, at, msg, out);
     let public = Public {
@@ -111,8 +83,8 @@ pub fn xmss_sign(seeds: &Seeds, at: Place, msg: &Node, out: &mut [u8])
         let pk_seed = seeds.now.pk_seed.now in
         xmss_pk_from_sig p pk_seed at msg.now.items out.new ≡ root_of (xmss_tree p sk_seed pk_seed at.layer at.tree) }
 {
-    if has_eight_leaves(seeds.set) {
-        sign_in_group(seeds, at, msg, out);
+    if can_give_leaf(seeds.set) {
+        sign_giving_leaf(seeds, at, msg, out);
     } else {
         sign_alone(seeds, at, msg, out);
     }
@@ -129,11 +101,7 @@ pub fn xmss_pk_from_sig(public: &Public, at: Place, msg: &Node, sig: &[u8]) -> N
 {
     let (wots, auth) = sig.split_at(public.set.len() * public.set.n());
     let leaf = wots_pk_from_sig(public, at, msg, wots);
-    let seeds = Seeds {
-        set: public.set,
-        sk_seed: &[],
-        pk_seed: public.pk_seed,
-    };
+    let seeds = public.without_secret();
     let joins = SeededTreeHash::new(public.set, public.pk_seed);
     let tree = SeededXmssTree::new(&joins, &seeds, at.layer, at.tree);
     climb(&tree, at.pair, &leaf, auth)

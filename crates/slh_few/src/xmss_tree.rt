@@ -6,12 +6,10 @@ ghost use Rattle.slh_few.specs.Trees.{xmss_tree_of};
 ghost use Rattle.slh_few.specs.Wots.{wots_pk};
 ghost use Rattle.slh_few.specs.Xmss.{xmss_tree};
 
-use crate::key_lanes::{eight_keys, pks_in_turn};
+use crate::lanes::wots_pks;
 use crate::place::{Place, Seeds};
-use crate::two_chains::Nothing;
 use crate::wots::wots_pk;
 use slh_hash::SeededTreeHash;
-use slh_lanes::GROUP;
 use slh_params::{Adrs, AdrsType, Node};
 use slh_tree::{Leaves, Tree};
 
@@ -102,11 +100,7 @@ impl<'a> Tree for XmssTree<'a> {
             tree: self.tree,
             pair: first,
         };
-        if count == GROUP as u32 {
-            eight_keys(&self.seeds, at, &Nothing, &mut [])
-        } else {
-            pks_in_turn(&self.seeds, at, count)
-        }
+        wots_pks(&self.seeds, at, count)
     }
 
     #[tactic(auto, unfolding(crate::specs::Trees::xmss_tree_of))]

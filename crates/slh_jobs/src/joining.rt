@@ -207,8 +207,7 @@ pub fn sign_join(
     ensures joined { OnOk result (out.new ≡ signature_given levels.now sk.now start.now answers.now) }
     ensures authentic { (msg : List ℕ) (randomizer : Randomizer) → start.now ≡ start_by sk.now msg randomizer
         → OnOk result (IsValid (public_of sk.now) msg out.new) }
-    ensures right { IsGeneratedKey sk.now → IsStart sk.now start.now
-        → AreAnswers levels.now sk.now start.now answers.now
+    ensures right { IsGeneratedKey sk.now → IsStart sk.now start.now → AreAnswers levels.now sk.now start.now answers.now
         → length answers.now ≡ answers_len levels.now → IsOk result }
     ensures signature { AreAnswers levels.now sk.now start.now answers.now
         → OnOk result (out.new ≡ signature_from sk.now start.now) }

@@ -8,8 +8,7 @@ ghost use Rattle.slh_jobs.specs.Tags.{start_len};
 
 use crate::levels::Levels;
 use crate::start::is_start;
-use slh_core::{SecretKey, cut_digest};
-use slh_few::Seeds;
+use slh_core::{SecretKey, digest_indices};
 use slh_subtrees::SigningTrees;
 
 /// What the jobs of one signature are made from: the key, R and the digest, and the trees of the signature.
@@ -55,17 +54,13 @@ impl<'a> Signing<'a> {
     {
         let set = levels.set;
         let digest = &start[set.n()..][..set.m()];
-        let cut = cut_digest(set, digest);
-        let seeds = Seeds {
-            set,
-            sk_seed: sk.sk_seed(),
-            pk_seed: sk.pk_seed(),
-        };
+        let md = &digest[..set.md_len()];
+        let indices = digest_indices(set, digest);
         Signing {
             levels: *levels,
             sk,
             start,
-            trees: SigningTrees::new(&seeds, cut.idx_tree, cut.idx_leaf, &digest[..set.md_len()]),
+            trees: SigningTrees::new(&sk.seeds(), indices.idx_tree, indices.idx_leaf, md),
         }
     }
 }

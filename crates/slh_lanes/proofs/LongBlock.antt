@@ -6,7 +6,7 @@ use Rattle.std.proofs.lemmas.Nat.{from_be_bytes-to_be_bytes_4}
 use Rattle.sha2.specs.Sha256.{digest_bytes, word_at}
 use Rattle.sha2.specs.Sha512.{word_at as long_word_at}
 use Rattle.slh_lanes.specs.Block.{halves}
-use Rattle.slh_lanes.specs.LongBlock.{HasLongWords, joined, joined_halves, long_second_block, marked_pair}
+use Rattle.slh_lanes.specs.LongBlock.{HasLongWords, long_word, long_word_of_halves, long_second_block, marked_pair}
 use Rattle.slh_lanes.proofs.Halves.{Fit, high_high, low_end, low_high}
 use Rattle.slh_lanes.proofs.SecondBlock.{below_sixteen}
 
@@ -14,28 +14,28 @@ use Rattle.slh_lanes.proofs.SecondBlock.{below_sixteen}
 abbrev HasShortWords : List ℕ → List ℕ → Type 0
 HasShortWords b ws = (k : ℕ) → k < 32 → word_at b (4 * k) ≡ slice_index ws k
 
-joined_bytes : (a b c d e f g h : ℕ) → from_be_bytes w64 (a ∷ b ∷ c ∷ d ∷ e ∷ f ∷ g ∷ h ∷ [])
-    ≡ joined (from_be_bytes w32 (a ∷ b ∷ c ∷ d ∷ [])) (from_be_bytes w32 (e ∷ f ∷ g ∷ h ∷ []))
-joined_bytes a b c d e f g h = omega arith
+long_word_bytes : (a b c d e f g h : ℕ) → from_be_bytes w64 (a ∷ b ∷ c ∷ d ∷ e ∷ f ∷ g ∷ h ∷ [])
+    ≡ long_word (from_be_bytes w32 (a ∷ b ∷ c ∷ d ∷ [])) (from_be_bytes w32 (e ∷ f ∷ g ∷ h ∷ []))
+long_word_bytes a b c d e f g h = omega arith
 
 -- a word of 64 bits is two of 32
-pub joined_words : (b : List ℕ) (i : ℕ) → long_word_at b i ≡ joined (word_at b i) (word_at b (i + 4))
-joined_words b i =
+pub long_word_of_two : (b : List ℕ) (i : ℕ) → long_word_at b i ≡ long_word (word_at b i) (word_at b (i + 4))
+long_word_of_two b i =
     let e5 : i + 5 ≡ i + 4 + 1 = omega arith in
     let e6 : i + 6 ≡ i + 4 + 2 = omega arith in
     let e7 : i + 7 ≡ i + 4 + 3 = omega arith in
     let at = slice_index b in
     (λ q. from_be_bytes w64 (at i ∷ at (i + 1) ∷ at (i + 2) ∷ at (i + 3) ∷ at (i + 4) ∷ at (e5 q) ∷ at (e6 q) ∷ at (e7 q) ∷ []))
-    ∙ joined_bytes (at i) (at (i + 1)) (at (i + 2)) (at (i + 3)) (at (i + 4)) (at (i + 4 + 1)) (at (i + 4 + 2)) (at (i + 4 + 3))
+    ∙ long_word_bytes (at i) (at (i + 1)) (at (i + 2)) (at (i + 3)) (at (i + 4)) (at (i + 4 + 1)) (at (i + 4 + 2)) (at (i + 4 + 3))
 
 -- words of 64 bits from those of 32
 long_words : (b ws vs : List ℕ) → HasShortWords b ws
-    → ((k : ℕ) → k < 16 → slice_index vs k ≡ joined (slice_index ws (2 * k)) (slice_index ws (2 * k + 1))) → HasLongWords b vs
+    → ((k : ℕ) → k < 16 → slice_index vs k ≡ long_word (slice_index ws (2 * k)) (slice_index ws (2 * k + 1))) → HasLongWords b vs
 long_words b ws vs short two k lt =
     let even : 8 * k ≡ 4 * (2 * k) = omega arith in
     let odd : 8 * k + 4 ≡ 4 * (2 * k + 1) = omega arith in
-    joined_words b (8 * k)
-    ∙ ap₂ joined (ap (word_at b) even ∙ short (2 * k) (omega arith)) (ap (word_at b) odd ∙ short (2 * k + 1) (omega arith))
+    long_word_of_two b (8 * k)
+    ∙ ap₂ long_word (ap (word_at b) even ∙ short (2 * k) (omega arith)) (ap (word_at b) odd ∙ short (2 * k + 1) (omega arith))
     ∙ sym (two k lt)
 
 -- what holds of each of the thirty-two words
@@ -65,22 +65,22 @@ second_words a m n =
 -- the words of 64 bits
 abbrev pub second_long_words : List ℕ → List ℕ → ℕ → List ℕ
 second_long_words a m n =
-    joined (slice_index a 0) (slice_index a 1) ∷ joined (slice_index a 2) (slice_index a 3)
-    ∷ joined (slice_index a 4) (halves (slice_index a 5 / 2 ^ 16) (slice_index m 0))
-    ∷ joined_halves (slice_index m 0) (slice_index m 1) (slice_index m 2)
-    ∷ joined_halves (slice_index m 2) (slice_index m 3) (slice_index m 4)
-    ∷ joined_halves (slice_index m 4) (slice_index m 5) (slice_index m 6)
-    ∷ joined_halves (slice_index m 6) (slice_index m 7) (slice_index m 8)
-    ∷ joined_halves (slice_index m 8) (slice_index m 9) (slice_index m 10)
-    ∷ joined_halves (slice_index m 10) (slice_index m 11) (slice_index m 12)
-    ∷ joined_halves (slice_index m 12) (slice_index m 13) (slice_index m 14)
-    ∷ joined_halves (slice_index m 14) (slice_index m 15) (slice_index m 16)
+    long_word (slice_index a 0) (slice_index a 1) ∷ long_word (slice_index a 2) (slice_index a 3)
+    ∷ long_word (slice_index a 4) (halves (slice_index a 5 / 2 ^ 16) (slice_index m 0))
+    ∷ long_word_of_halves (slice_index m 0) (slice_index m 1) (slice_index m 2)
+    ∷ long_word_of_halves (slice_index m 2) (slice_index m 3) (slice_index m 4)
+    ∷ long_word_of_halves (slice_index m 4) (slice_index m 5) (slice_index m 6)
+    ∷ long_word_of_halves (slice_index m 6) (slice_index m 7) (slice_index m 8)
+    ∷ long_word_of_halves (slice_index m 8) (slice_index m 9) (slice_index m 10)
+    ∷ long_word_of_halves (slice_index m 10) (slice_index m 11) (slice_index m 12)
+    ∷ long_word_of_halves (slice_index m 12) (slice_index m 13) (slice_index m 14)
+    ∷ long_word_of_halves (slice_index m 14) (slice_index m 15) (slice_index m 16)
     ∷ 0 ∷ 0 ∷ 0 ∷ 0 ∷ (150 + 2 * n) * 8 ∷ []
 
-second_joined : (a m : List ℕ) (n : ℕ) (k : ℕ) → k < 16
-    → slice_index (second_long_words a m n) k ≡ joined (slice_index (second_words a m n) (2 * k)) (slice_index (second_words a m n) (2 * k + 1))
-second_joined a m n =
-    below_sixteen (λ k. slice_index (second_long_words a m n) k ≡ joined (slice_index (second_words a m n) (2 * k)) (slice_index (second_words a m n) (2 * k + 1)))
+second_of_two : (a m : List ℕ) (n : ℕ) (k : ℕ) → k < 16
+    → slice_index (second_long_words a m n) k ≡ long_word (slice_index (second_words a m n) (2 * k)) (slice_index (second_words a m n) (2 * k + 1))
+second_of_two a m n =
+    below_sixteen (λ k. slice_index (second_long_words a m n) k ≡ long_word (slice_index (second_words a m n) (2 * k)) (slice_index (second_words a m n) (2 * k + 1)))
     refl refl refl refl refl refl refl refl refl refl refl refl refl refl refl (omega arith)
 
 abbrev second : ℕ → List ℕ → List ℕ → List ℕ → List ℕ
@@ -152,7 +152,7 @@ module _ (a x y : List ℕ) (fa : Fit a) (fx : Fit x) (fy : Fit y) where
   pub HasLongWords_second : (n : ℕ) → (n ≡ 24) ⊎ (n ≡ 32) → IsSecond n a x y
   HasLongWords_second n cases =
       let all : (m : ℕ) → IsShort m a x y → IsSecond m a x y = λ m short.
-      long_words _ (second_words a (marked_pair m x y) m) (second_long_words a (marked_pair m x y) m) short (second_joined a (marked_pair m x y) m) in
+      long_words _ (second_words a (marked_pair m x y) m) (second_long_words a (marked_pair m x y) m) short (second_of_two a (marked_pair m x y) m) in
       elim cases [
         | inl e ↦ subst (λ (m : ℕ). IsSecond m a x y) (sym e) (all 24 short_24)
         | inr e ↦ subst (λ (m : ℕ). IsSecond m a x y) (sym e) (all 32 short_32)

@@ -6,24 +6,24 @@ use Rattle.sha2.specs.Sha256.{word_at}
 use Rattle.sha2.specs.Sha512.{IsAbsorbed, final_hash, hash_after, padded_message, padding, word_at as long_word_at}
 use Rattle.sha2.proofs.Absorbing512.{hash_after-append}
 use Rattle.slh_lanes.specs.Block.{halves}
-use Rattle.slh_lanes.specs.LongBlock.{joined, joined_halves}
+use Rattle.slh_lanes.specs.LongBlock.{long_word, long_word_of_halves}
 use Rattle.slh_lanes.specs.Streams.{half_on}
 use Rattle.slh_lanes.proofs.Halves.{byte}
-use Rattle.slh_lanes.proofs.LongBlock.{joined_words}
+use Rattle.slh_lanes.proofs.LongBlock.{long_word_of_two}
 use Rattle.slh_lanes.proofs.Streams.{half_word, zeros_move}
 
 -- long word k of a block of 128 bytes that begins in the middle of a word
 pub half_long_word : (ws : List ℕ) (k : ℕ) → k < 16
     → slice_index ws (2 * k) < 2 ^ 32 → slice_index ws (2 * k + 1) < 2 ^ 32 → slice_index ws (2 * k + 2) < 2 ^ 32
-    → long_word_at (take 128 (half_on ws 33)) (8 * k) ≡ joined_halves (slice_index ws (2 * k)) (slice_index ws (2 * k + 1)) (slice_index ws (2 * k + 2))
+    → long_word_at (take 128 (half_on ws 33)) (8 * k) ≡ long_word_of_halves (slice_index ws (2 * k)) (slice_index ws (2 * k + 1)) (slice_index ws (2 * k + 2))
 half_long_word ws k lt fp fq fr =
     let b : List ℕ = take 128 (half_on ws 33) in
     let even : 8 * k ≡ 4 * (2 * k) = omega arith in
     let odd : 8 * k + 4 ≡ 4 * (2 * k + 1) = omega arith in
     let last : 2 * k + 2 ≡ 2 * k + 1 + 1 = omega arith in
     let fl : slice_index ws (2 * k + 1 + 1) < 2 ^ 32 = subst (λ (q : ℕ). slice_index ws q < 2 ^ 32) last fr in
-    joined_words b (8 * k)
-    ∙ ap₂ joined (ap (word_at b) even ∙ half_word 32 ws (2 * k) (omega arith) fp fq)
+    long_word_of_two b (8 * k)
+    ∙ ap₂ long_word (ap (word_at b) even ∙ half_word 32 ws (2 * k) (omega arith) fp fq)
     (ap (word_at b) odd ∙ half_word 32 ws (2 * k + 1) (omega arith) fq fl
     ∙ ap (λ (q : ℕ). halves (slice_index ws (2 * k + 1)) (slice_index ws q)) (sym last))
 

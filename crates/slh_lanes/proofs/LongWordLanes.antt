@@ -3,7 +3,7 @@ use Rattle.std.proofs.Common.{◌≡◌, ℕ, ◌<◌, ◌*◌, ◌/◌, ◌%◌
 use Rattle.std.specs.Simd.Lanes.{zip2, Each1}
 use Rattle.std.proofs.lemmas.Simd.{Each1-from_get_or}
 use Rattle.sha2.specs.Sha512.{add64}
-use Rattle.slh_lanes.specs.LongBlock.{joined}
+use Rattle.slh_lanes.specs.LongBlock.{long_word}
 use Rattle.slh_lanes.proofs.WordLanes.{IsWords, both_lanes, lane_lt, left, left_lanes, length_both, right, right_lanes}
 
 -- a cast of each lane to a wider word, or to one that it fits
@@ -42,13 +42,13 @@ high_words_lanes x lx j h = ap (λ (l : List ℕ). slice_index l j) (same_words 
 pub low_words_lanes : (x : List ℕ) → length x ≡ 8 → (j : ℕ) → j < 8 → slice_index (map (λ (a : ℕ). a) (right (left w64 x 32) 32)) j ≡ slice_index x j % 2 ^ 32
 low_words_lanes x lx j h = ap (λ (l : List ℕ). slice_index l j) (same_words _) ∙ low_halves_lanes x lx j h
 
-joined_sum : (p q : ℕ) → p < 2 ^ 32 → q < 2 ^ 32 → add64 (p * 2 ^ 32 % 2 ^ 64) q ≡ joined p q
-joined_sum p q fp fq = omega arith
+long_word_sum : (p q : ℕ) → p < 2 ^ 32 → q < 2 ^ 32 → add64 (p * 2 ^ 32 % 2 ^ 64) q ≡ long_word p q
+long_word_sum p q fp fq = omega arith
 
-pub joined_lanes : (p q : List ℕ) → IsWords w32 p → IsWords w32 q → (j : ℕ) → j < 8
+pub long_word_lanes : (p q : List ℕ) → IsWords w32 p → IsWords w32 q → (j : ℕ) → j < 8
     → slice_index (zip2 add64 (left w64 (map (λ (a : ℕ). a) p) 32) (map (λ (a : ℕ). a) q)) j
-    ≡ joined (slice_index p j) (slice_index q j)
-joined_lanes p q wp wq j h =
+    ≡ long_word (slice_index p j) (slice_index q j)
+long_word_lanes p q wp wq j h =
     (λ i. slice_index (zip2 add64 (left w64 (same_words p i) 32) (same_words q i)) j)
     ∙ rw (both_lanes add64 (left w64 p 32) q (length_both _ p (replicate 8 32) wp.0 refl) wq.0 j h, left_lanes w64 32 p wp.0 j h)
-    (joined_sum (slice_index p j) (slice_index q j) (lane_lt w32 p wp j h) (lane_lt w32 q wq j h))
+    (long_word_sum (slice_index p j) (slice_index q j) (lane_lt w32 p wp j h) (lane_lt w32 q wq j h))

@@ -19,12 +19,12 @@ abbrev pub HasLongWords : List ℕ → List ℕ → Type 0
 HasLongWords b ws = (k : ℕ) → k < 16 → word_at b (8 * k) ≡ slice_index ws k
 
 -- one word above another
-abbrev pub joined : ℕ → ℕ → ℕ
-joined p q = p * 2 ^ 32 + q
+abbrev pub long_word : ℕ → ℕ → ℕ
+long_word p q = p * 2 ^ 32 + q
 
 -- the low half of p, q, and the high half of r
-abbrev pub joined_halves : ℕ → ℕ → ℕ → ℕ
-joined_halves p q r = joined (halves p q) (halves q r)
+abbrev pub long_word_of_halves : ℕ → ℕ → ℕ → ℕ
+long_word_of_halves p q r = long_word (halves p q) (halves q r)
 
 -- the words of two nodes of n bytes, the word that begins the padding, and zeros: seventeen words
 abbrev pub marked_pair : ℕ → List ℕ → List ℕ → List ℕ

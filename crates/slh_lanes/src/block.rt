@@ -1,15 +1,21 @@
-//! The block after PK.seed's that F and PRF hash, and H where n is 16, in eight lanes (FIPS 205, section 11.2).
-ghost use Rattle.std.specs.Prelude.{◌≡◌, ℕ, ◌<◌, ◌⊎◌, take};
-ghost use Rattle.sha2.specs.Sha256.{digest_bytes, initial_hash_256};
+//! The block after PK.seed's that F and PRF hash, and H where n is 16, in eight lanes (FIPS 205, section 11.2), and the
+//! hash value before it.
+ghost use Rattle.std.specs.Prelude.{◌≡◌, ℕ, ◌/◌, ◌<◌, ◌⊎◌, length, take};
+ghost use Rattle.sha2.specs.Sha256.{digest_bytes, hash_after, initial_hash_256};
 ghost use Rattle.slh_lanes.specs.Block.{marked, second_block};
 ghost use Rattle.slh_lanes.specs.Columns.{column, HasWords};
 
+use crate::bytes::load_all;
+use crate::eight_blocks::compress;
 use crate::lane_adrs::LaneAdrs;
 use crate::lane_nodes::LaneNodes;
 use crate::words::{GROUP, Words, halves, high, tell_all};
 
+/// The length of a block of SHA-256 in bytes.
+pub(crate) const BLOCK_LEN: usize = 64;
+
 /// The initial hash value (FIPS 180-4, section 5.3.3) in each lane.
-pub(crate) fn initial() -> [Words; 8]
+fn initial() -> [Words; 8]
     ensures { (j : ℕ) → j < GROUP → column j result ≡ initial_hash_256 }
 {
     [
@@ -25,7 +31,7 @@ pub(crate) fn initial() -> [Words; 8]
 }
 
 /// The words in lane 0.
-pub(crate) fn first_lane(words: &[Words; 8]) -> [u32; 8]
+fn first_lane(words: &[Words; 8]) -> [u32; 8]
     ensures { result ≡ column 0 words.now }
 {
     let [a, b, c, d, e, f, g, h] = *words;
@@ -39,6 +45,19 @@ pub(crate) fn first_lane(words: &[Words; 8]) -> [u32; 8]
         g.to_array()[0],
         h.to_array()[0],
     ]
+}
+
+/// The hash value after the whole blocks of the bytes (FIPS 180-4, section 6.2.2).
+pub(crate) fn hash_after(bytes: &[u8]) -> [u32; 8]
+    ensures { result ≡ hash_after initial_hash_256 bytes.now (length bytes.now / 64) }
+{
+    let mut state = initial();
+    for b in 0..bytes.len() / BLOCK_LEN {
+        let mut block = [Words::splat(0); 16];
+        load_all(&mut block, &bytes[BLOCK_LEN * b..BLOCK_LEN * b + BLOCK_LEN]);
+        compress(&mut state, &block);
+    }
+    first_lane(&state)
 }
 
 /// Eight words, each in all eight lanes.

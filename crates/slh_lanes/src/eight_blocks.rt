@@ -28,27 +28,17 @@ pub(crate) fn compress_each(state: &mut [Words; 8], block: &[Words; 16], step: u
         → column j state.new ≡ compress (column j state.old) b }
 {
     match build_widths().short {
-        Width::One => in_ones(state, block, step, counts),
-        Width::Four => in_fours(state, block, step, counts),
+        Width::One => {
+            'lanes: for first in 0..GROUP {
+                compress_part::<u32>(state, block, first, step, counts);
+            }
+        }
+        Width::Four => {
+            compress_part::<u32x4>(state, block, 0, step, counts);
+            compress_part::<u32x4>(state, block, 4, step, counts);
+        }
         Width::Eight | Width::Sixteen => sha256_lanes::compress(state, block),
     }
-}
-
-fn in_ones(state: &mut [Words; 8], block: &[Words; 16], step: u32, counts: Words)
-    ensures { (j : ℕ) → j < GROUP → step < slice_index counts j → (b : List ℕ) → HasWords b (column j block.now)
-        → column j state.new ≡ compress (column j state.old) b }
-{
-    'lanes: for first in 0..GROUP {
-        compress_part::<u32>(state, block, first, step, counts);
-    }
-}
-
-fn in_fours(state: &mut [Words; 8], block: &[Words; 16], step: u32, counts: Words)
-    ensures { (j : ℕ) → j < GROUP → step < slice_index counts j → (b : List ℕ) → HasWords b (column j block.now)
-        → column j state.new ≡ compress (column j state.old) b }
-{
-    compress_part::<u32x4>(state, block, 0, step, counts);
-    compress_part::<u32x4>(state, block, 4, step, counts);
 }
 
 /// The compressions in the lanes from `first` on, unless none of them has a step left.

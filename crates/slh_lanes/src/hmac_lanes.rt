@@ -1,29 +1,30 @@
 //! HMAC-SHA-256 (FIPS 198-1) of eight texts at once, which differ in a number and a node at their end.
-ghost use Rattle.std.specs.Prelude.{◌≡◌, ℕ, List, ◌+◌, ◌-◌, ◌*◌, ◌/◌, ◌%◌, ◌^◌, ◌<◌, ◌≤◌, ◌++◌, IfSome, length};
+ghost use Rattle.std.specs.Prelude.{◌≡◌, ℕ, List, ◌+◌, ◌-◌, ◌*◌, ◌/◌, ◌%◌, ◌^◌, ◌<◌, ◌≤◌, ◌++◌, ◌↔◌, IsSome, IfSome, length};
 ghost use Rattle.sha2.specs.Sha256.{compress, digest_bytes, hash_after, initial_hash_256, padding};
 ghost use Rattle.slh_params.specs.Bits.{to_byte};
 ghost use Rattle.slh_hash.specs.HashFunctions.{SHA_256};
 ghost use Rattle.slh_hash.specs.Keyed.{hmac, key_block, xor_each};
 ghost use Rattle.slh_lanes.specs.Columns.{column};
 ghost use Rattle.slh_lanes.specs.Lanes.{value_at};
-ghost use Rattle.slh_lanes.specs.declared.hmac_lanes.TheConstants.{BLOCK_LEN, END_LEN, MOST_FRONT_LEN};
+ghost use Rattle.slh_lanes.specs.declared.block.TheConstants.{BLOCK_LEN};
+ghost use Rattle.slh_lanes.specs.declared.hmac_lanes.TheConstants.{END_LEN, MOST_FRONT_LEN};
 
-use crate::block::{first_lane, initial, splat_all};
-use crate::bytes::load_all;
+use crate::block::{BLOCK_LEN, hash_after, splat_all};
 use crate::eight_blocks::compress;
 use crate::lane_nodes::{LaneNodes, lane_node, node_lanes, set_lane};
 use crate::words::{GROUP, Words};
 use arrayvec::ArrayVec;
 use slh_params::Node;
 
-/// The length of a block of SHA-256 in bytes.
-const BLOCK_LEN: usize = 64;
-
 /// The length of the end of a text: a number of 4 bytes and a node of 16.
 const END_LEN: usize = 4 + 16;
 
 /// The length of the shortest padding: the byte that begins it, and the length of the message in bits.
 const LEAST_PADDING_LEN: usize = 1 + 8;
+
+/// Where the zeros of a padding end in the second of two blocks: before the 8 bytes of the length. The byte that begins
+/// the padding is counted off.
+const ZEROS_END: usize = 2 * BLOCK_LEN - 8 - 1;
 
 /// The length of a digest.
 const DIGEST_LEN: usize = 32;
@@ -52,14 +53,15 @@ pub struct HmacLanes {
 }
 
 impl HmacLanes {
-    ghost use Rattle.slh_lanes.specs.HmacLanes.{IsBegun};
+    ghost use Rattle.slh_lanes.specs.HmacLanes.{FitsBlock, IsBegun};
 
     /// The lanes after this front, under a key of at most a block. `None` where the end of a text and the padding do not
     /// fit the block that the front has begun.
     pub fn new(key: &[u8], front: &[u8]) -> Option<HmacLanes>
         requires key { length key.now ≤ BLOCK_LEN }
         requires front { length front.now ≤ MOST_FRONT_LEN }
-        ensures { IfSome result (λ lanes. IsBegun lanes key.now front.now) }
+        ensures fits { IsSome result ↔ FitsBlock (length front.now) }
+        ensures begun { IfSome result (λ lanes. IsBegun lanes key.now front.now) }
     {
         let message = message_of(key, front);
         let len = message.len();
@@ -163,22 +165,12 @@ fn padding_of(len: usize) -> Block
 {
     let mut padding = Block::new();
     append(&mut padding, &[0x80]);
-    append(&mut padding, &[0; BLOCK_LEN][..(119 - len % 64) % 64]);
+    append(
+        &mut padding,
+        &[0; BLOCK_LEN][..(ZEROS_END - len % BLOCK_LEN) % BLOCK_LEN],
+    );
     append(&mut padding, &(len as u64 * 8).to_be_bytes());
     padding
-}
-
-/// The hash value after the whole blocks of the bytes (section 6.2.2).
-fn hash_after(bytes: &[u8]) -> [u32; 8]
-    ensures { result ≡ hash_after initial_hash_256 bytes.now (length bytes.now / 64) }
-{
-    let mut state = initial();
-    for b in 0..bytes.len() / BLOCK_LEN {
-        let mut block = [Words::splat(0); 16];
-        load_all(&mut block, &bytes[BLOCK_LEN * b..BLOCK_LEN * b + BLOCK_LEN]);
-        compress(&mut state, &block);
-    }
-    first_lane(&state)
 }
 
 /// The hash value after a block in each lane, from one value before it. A block is given by its halves of 32 bytes.

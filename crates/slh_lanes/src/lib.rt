@@ -34,4 +34,5 @@ pub use lane_nodes::{
 pub use lane_stream::LaneStream;
 pub use seeded_lanes::SeededLanes;
 pub use seeded_tree_lanes::SeededTreeLanes;
+pub use slh_width::{Width, build_widths};
 pub use words::{GROUP, Words, consecutive, half, parity};

@@ -8,7 +8,7 @@ ghost use Rattle.slh_lanes.specs.LongBlock.{HasLongWords, long_second_block, mar
 
 use crate::lane_adrs::LaneAdrs;
 use crate::lane_nodes::LaneNodes;
-use crate::long_words::{LongWords, high_words, joined, joined_halves, low_words};
+use crate::long_words::{LongWords, high_words, long_word, long_word_of_halves, low_words};
 use crate::words::{GROUP, Words, halves, high, tell_all};
 
 /// The initial hash value of SHA-512 (FIPS 180-4, section 5.3.5) in each lane.
@@ -101,17 +101,17 @@ pub(crate) fn second_block(
     let m = marked_pair(left, right, n);
     let zero = LongWords::splat(0);
     [
-        joined(adrs[0], adrs[1]),
-        joined(adrs[2], adrs[3]),
-        joined(adrs[4], halves(high(adrs[5]), m[0])),
-        joined_halves(m[0], m[1], m[2]),
-        joined_halves(m[2], m[3], m[4]),
-        joined_halves(m[4], m[5], m[6]),
-        joined_halves(m[6], m[7], m[8]),
-        joined_halves(m[8], m[9], m[10]),
-        joined_halves(m[10], m[11], m[12]),
-        joined_halves(m[12], m[13], m[14]),
-        joined_halves(m[14], m[15], m[16]),
+        long_word(adrs[0], adrs[1]),
+        long_word(adrs[2], adrs[3]),
+        long_word(adrs[4], halves(high(adrs[5]), m[0])),
+        long_word_of_halves(m[0], m[1], m[2]),
+        long_word_of_halves(m[2], m[3], m[4]),
+        long_word_of_halves(m[4], m[5], m[6]),
+        long_word_of_halves(m[6], m[7], m[8]),
+        long_word_of_halves(m[8], m[9], m[10]),
+        long_word_of_halves(m[10], m[11], m[12]),
+        long_word_of_halves(m[12], m[13], m[14]),
+        long_word_of_halves(m[14], m[15], m[16]),
         zero,
         zero,
         zero,

@@ -18,27 +18,17 @@ pub(crate) fn compress(state: &mut [LongWords; 8], block: &[LongWords; 16])
         → column j state.new ≡ compress (column j state.old) b }
 {
     match build_widths().long {
-        Width::One => in_ones(state, block),
-        Width::Four => in_fours(state, block),
+        Width::One => {
+            'lanes: for first in 0..GROUP {
+                compress_part::<u64>(state, block, first);
+            }
+        }
+        Width::Four => {
+            compress_part::<u64x4>(state, block, 0);
+            compress_part::<u64x4>(state, block, 4);
+        }
         Width::Eight | Width::Sixteen => sha512_lanes::compress(state, block),
     }
-}
-
-fn in_ones(state: &mut [LongWords; 8], block: &[LongWords; 16])
-    ensures { (j : ℕ) → j < GROUP → (b : List ℕ) → HasLongWords b (column j block.now)
-        → column j state.new ≡ compress (column j state.old) b }
-{
-    'lanes: for first in 0..GROUP {
-        compress_part::<u64>(state, block, first);
-    }
-}
-
-fn in_fours(state: &mut [LongWords; 8], block: &[LongWords; 16])
-    ensures { (j : ℕ) → j < GROUP → (b : List ℕ) → HasLongWords b (column j block.now)
-        → column j state.new ≡ compress (column j state.old) b }
-{
-    compress_part::<u64x4>(state, block, 0);
-    compress_part::<u64x4>(state, block, 4);
 }
 
 /// The compressions in the lanes from `first` on.

@@ -13,7 +13,7 @@ use crate::lane_adrs::LaneAdrs;
 use crate::lane_nodes::LaneNodes;
 use crate::long_block::LONG_TWEAK_LEN;
 use crate::long_eight_blocks::compress;
-use crate::long_words::{LongVector, LongWords, joined_halves};
+use crate::long_words::{LongVector, LongWords, long_word_of_halves};
 use crate::short_stream::address_words;
 use crate::words::{GROUP, Vector, Words, high, low, tell_words};
 
@@ -71,7 +71,7 @@ fn shifted(words: &[Vector; 33]) -> [LongWords; 16]
         tell_words(first);
         tell_words(second);
         tell_words(third);
-        block[k] = joined_halves(first, second, third);
+        block[k] = long_word_of_halves(first, second, third);
     }
     block
 }

@@ -1,6 +1,6 @@
 //! Vectors of eight words of 64 bits, one in each lane.
 ghost use Rattle.std.specs.Prelude.{◌≡◌, ℕ, ◌/◌, ◌%◌, ◌^◌, ◌<◌, slice_index};
-ghost use Rattle.slh_lanes.specs.LongBlock.{joined, joined_halves};
+ghost use Rattle.slh_lanes.specs.LongBlock.{long_word, long_word_of_halves};
 
 use crate::words::{GROUP, Words, halves};
 use std::simd::prelude::*;
@@ -16,19 +16,19 @@ pub(crate) struct LongVector {
 
 // Each word of `p` above that of `q`.
 #[inline(always)]
-pub(crate) fn joined(p: Words, q: Words) -> LongWords
-    ensures { (j : ℕ) → j < GROUP → slice_index result j ≡ joined (slice_index p j) (slice_index q j) }
+pub(crate) fn long_word(p: Words, q: Words) -> LongWords
+    ensures { (j : ℕ) → j < GROUP → slice_index result j ≡ long_word (slice_index p j) (slice_index q j) }
 {
     (p.cast::<u64>() << 32) + q.cast::<u64>()
 }
 
 // The low half of each word of `p`, the word of `q`, and the high half of that of `r`.
 #[inline(always)]
-pub(crate) fn joined_halves(p: Words, q: Words, r: Words) -> LongWords
+pub(crate) fn long_word_of_halves(p: Words, q: Words, r: Words) -> LongWords
     ensures { (j : ℕ) → j < GROUP → slice_index result j
-        ≡ joined_halves (slice_index p j) (slice_index q j) (slice_index r j) }
+        ≡ long_word_of_halves (slice_index p j) (slice_index q j) (slice_index r j) }
 {
-    joined(halves(p, q), halves(q, r))
+    long_word(halves(p, q), halves(q, r))
 }
 
 // The high 32 bits of each word.

@@ -6,13 +6,12 @@ ghost use Rattle.slh_params.specs.Params.{Params};
 ghost use Rattle.slh_params.specs.ParamSet.{params};
 ghost use Rattle.slh_hash.specs.Hash.{F, H, PRF, tweaked, tweaked_hash};
 ghost use Rattle.slh_hash.specs.HashFunctions.{SHA_256};
-ghost use Rattle.slh_lanes.specs.Block.{first_block, marked, second_block};
+ghost use Rattle.slh_lanes.specs.Block.{marked, second_block};
 ghost use Rattle.slh_lanes.specs.Columns.{column, HasWords};
 ghost use Rattle.slh_lanes.specs.Lanes.{HasAddress, IsSeededLanes, value_at};
 ghost use Rattle.slh_lanes.specs.Steps.{steps};
 
-use crate::block::{first_lane, initial, second_block, splat_all};
-use crate::bytes::load_all;
+use crate::block::{BLOCK_LEN, hash_after, second_block, splat_all};
 use crate::eight_blocks::{compress, compress_each};
 use crate::lane_adrs::{LaneAdrs, lane_compressed, set_hashes};
 use crate::lane_nodes::{LaneNodes, lane_node, node_lanes, pick_nodes, set_lane, two_short};
@@ -37,7 +36,10 @@ impl<'a> SeededLanes<'a> {
     pub fn new(set: ParamSet, pk_seed: &'a [u8]) -> Self
         ensures { IsSeededLanes result (params set) pk_seed.now }
     {
-        let state = state_after(pk_seed);
+        let len = pk_seed.len().min(BLOCK_LEN);
+        let mut block = [0; BLOCK_LEN];
+        block[..len].copy_from_slice(&pk_seed[..len]);
+        let state = hash_after(&block);
         SeededLanes {
             set,
             pk_seed,
@@ -124,8 +126,8 @@ impl<'a> SeededLanes<'a> {
         nodes
     }
 
-    /// Runs the chains of two groups of eight on, each from its value after `from` steps by `count` steps: those in `x` at
-    /// the addresses `x_adrs`, and those in `y` at `y_adrs`.
+    /// Runs the chains of two groups of eight on, each from its value after `from` steps by `count` steps: those in `x`
+    /// at the addresses `x_adrs`, and those in `y` at `y_adrs`.
     pub fn chains_two(
         &self,
         x_adrs: &LaneAdrs,
@@ -149,7 +151,12 @@ impl<'a> SeededLanes<'a> {
             let mut y_here = *y_adrs;
             set_hashes(&mut x_here, number);
             set_hashes(&mut y_here, number);
-            self.f_two(&x_here, &y_here, x, y);
+            if self.pk_seed.len() == self.set.n() {
+                self.digests_two(&x_here, &y_here, x, y, self.set.n());
+            } else {
+                *x = self.f_alone(&x_here, x);
+                *y = self.f_alone(&y_here, y);
+            }
         }
     }
 
@@ -205,24 +212,6 @@ impl<'a> SeededLanes<'a> {
         let mut state = splat_all(&self.state);
         compress(&mut state, &second_block(len, adrs, x));
         state
-    }
-
-    /// F in each lane of two groups at once: of the values in `x` at the addresses `x_adrs`, and of those in `y` at
-    /// `y_adrs`.
-    fn f_two(&self, x_adrs: &LaneAdrs, y_adrs: &LaneAdrs, x: &mut LaneNodes, y: &mut LaneNodes)
-        ensures x { (p : Params) (pk_seed : List ℕ) → IsSeededLanes self.now p pk_seed
-            → (j : ℕ) → j < GROUP → (a : Address) → HasAddress x_adrs.now j a
-            → value_at x.new j p.n ≡ F p pk_seed a (value_at x.old j p.n) }
-        ensures y { (p : Params) (pk_seed : List ℕ) → IsSeededLanes self.now p pk_seed
-            → (j : ℕ) → j < GROUP → (a : Address) → HasAddress y_adrs.now j a
-            → value_at y.new j p.n ≡ F p pk_seed a (value_at y.old j p.n) }
-    {
-        if self.pk_seed.len() == self.set.n() {
-            self.digests_two(x_adrs, y_adrs, x, y, self.set.n());
-        } else {
-            *x = self.f_alone(x_adrs, x);
-            *y = self.f_alone(y_adrs, y);
-        }
     }
 
     /// In each lane of two groups what `digests` gives, of the values in `x` and of those in `y`.
@@ -291,19 +280,4 @@ impl<'a> SeededLanes<'a> {
         hasher.update(x);
         hasher.finalize()
     }
-}
-
-/// The hash value after the first block, which PK.seed and zeros fill.
-fn state_after(pk_seed: &[u8]) -> [u32; 8]
-    ensures { (p : Params) → length pk_seed.now ≡ p.n → p.n ≤ 32
-        → result ≡ compress initial_hash_256 (first_block p pk_seed.now) }
-{
-    let len = pk_seed.len().min(64);
-    let mut bytes = [0; 64];
-    bytes[..len].copy_from_slice(&pk_seed[..len]);
-    let mut block = [Words::splat(0); 16];
-    load_all(&mut block, &bytes);
-    let mut state = initial();
-    compress(&mut state, &block);
-    first_lane(&state)
 }

@@ -3,8 +3,9 @@ ghost use Rattle.std.specs.Prelude.{◌≡◌, ℕ, ◌+◌, ◌<◌, List, slic
 ghost use Rattle.sha2.specs.Sha256.{compress};
 ghost use Rattle.slh_lanes.specs.Columns.{column, lane_column, HasWords};
 
+use crate::eight_blocks::compress_each;
+use crate::sha256_lanes;
 use crate::words::{GROUP, Words};
-use crate::{eight_blocks, sha256_lanes};
 use slh_width::{Width, build_widths};
 use std::simd::prelude::*;
 
@@ -25,31 +26,21 @@ pub(crate) fn compress_two(
         → column j y.new ≡ compress (column j y.old) b }
 {
     match build_widths().short {
-        Width::Sixteen => in_sixteen(x, y, x_block, y_block),
-        Width::One | Width::Four | Width::Eight => in_eights(x, y, x_block, y_block),
+        Width::Sixteen => {
+            let mut state = join_states(x, y);
+            sha256_lanes::compress(&mut state, &join_blocks(x_block, y_block));
+            *x = low_lanes(&state);
+            *y = high_lanes(&state);
+        }
+        Width::Eight => {
+            sha256_lanes::compress(x, x_block);
+            sha256_lanes::compress(y, y_block);
+        }
+        Width::One | Width::Four => {
+            compress_each(x, x_block, 0, Words::splat(1));
+            compress_each(y, y_block, 0, Words::splat(1));
+        }
     }
-}
-
-fn in_sixteen(x: &mut [Words; 8], y: &mut [Words; 8], x_block: &[Words; 16], y_block: &[Words; 16])
-    ensures x { (j : ℕ) → j < GROUP → (b : List ℕ) → HasWords b (column j x_block.now)
-        → column j x.new ≡ compress (column j x.old) b }
-    ensures y { (j : ℕ) → j < GROUP → (b : List ℕ) → HasWords b (column j y_block.now)
-        → column j y.new ≡ compress (column j y.old) b }
-{
-    let mut state = join_states(x, y);
-    sha256_lanes::compress(&mut state, &join_blocks(x_block, y_block));
-    *x = low_lanes(&state);
-    *y = high_lanes(&state);
-}
-
-fn in_eights(x: &mut [Words; 8], y: &mut [Words; 8], x_block: &[Words; 16], y_block: &[Words; 16])
-    ensures x { (j : ℕ) → j < GROUP → (b : List ℕ) → HasWords b (column j x_block.now)
-        → column j x.new ≡ compress (column j x.old) b }
-    ensures y { (j : ℕ) → j < GROUP → (b : List ℕ) → HasWords b (column j y_block.now)
-        → column j y.new ≡ compress (column j y.old) b }
-{
-    eight_blocks::compress(x, x_block);
-    eight_blocks::compress(y, y_block);
 }
 
 /// The lanes of `x`, and after them those of `y`.

@@ -81,9 +81,11 @@ pub(crate) fn with_lane(words: Words, j: usize, word: u32) -> Words
     ensures set { slice_index result j ≡ word }
     ensures others { (i : ℕ) → i ≢ j → slice_index result i ≡ slice_index words i }
 {
-    let mut lanes = words.to_array();
-    lanes[j] = word;
-    Words::from_array(lanes)
+    // No word is written to memory: a load of all would wait for it.
+    let lanes = consecutive(0);
+    let own = Words::splat(j as u32);
+    let from_own = pick(own, lanes, words, Words::splat(word));
+    pick(lanes, own, words, from_own)
 }
 
 // Of the sixteen words of two vectors the first, the third and so on.

@@ -1,6 +1,8 @@
 -- What the jobs of a signature answer, in memory: ours.
 use Rattle.std.specs.Prelude.{◌≡◌, ℕ, ◌<◌, List, [], ◌∷◌, if◌then◌else◌, length, Option, None, Some, slice_get, slice_index_or}
 use Rattle.slh_params.specs.ParamSet.{params}
+use Rattle.slh_core.specs.DigestParts.{idx_tree, idx_leaf, md}
+use Rattle.slh_core.specs.Keys.{Key, public_of, pk_seed, sk_seed}
 use Rattle.slh_tree.specs.Record.{KnownPath}
 use Rattle.slh_tree.specs.declared.cover.Cover.{Cover}
 use Rattle.slh_subtrees.specs.CutTrees.{CutTrees}
@@ -8,6 +10,7 @@ use Rattle.slh_subtrees.specs.Jobs.{signing_jobs}
 use Rattle.slh_subtrees.specs.Gathered.{IsHashed}
 use Rattle.slh_subtrees.specs.SigningTrees.{tree_in, leaf_in, chains_in, signs_in}
 use Rattle.slh_subtrees.specs.Trees.{TreeSource, chains_of}
+use Rattle.slh_subtrees.specs.declared.hashed_range.HashedRange.{HashedRange}
 use Rattle.slh_subtrees.specs.declared.range.JobTree.{JobTree}
 use Rattle.slh_subtrees.specs.declared.range.JobTree.TheVariants.{Xmss, Fors}
 use Rattle.slh_subtrees.specs.declared.range.JobRange.{JobRange}
@@ -27,6 +30,10 @@ kept_in s (Fors j) lo hi = None
 abbrev pub kept_by : SigningTrees → JobRange → Option (List ℕ)
 kept_by s job = kept_in s job.tree job.lo job.hi
 
+-- an answer to the job of that number: what is made of its range, and what is kept
+abbrev pub IsRight : SigningTrees → CutTrees → ℕ → HashedRange × Option (List ℕ) → Type 0
+IsRight s cut n x = (job : JobRange) → slice_get (signing_jobs cut) n ≡ Some job → IsAnswer s job x.0.cover x.0.path × (x.1 ≡ kept_by s job)
+
 -- the one, if there is one, as a list
 abbrev pub as_list : {X : Type 0} → Option X → List X
 as_list None = []
@@ -42,3 +49,16 @@ pub record AreRangeAnswers (s : SigningTrees) (cut : CutTrees) (cs : List Cover)
 pub record AreChains (s : TreeSource) (xs : List (List ℕ)) : Type 0 where
   pub len : length xs ≡ (params s.set).d
   pub each : (l : ℕ) (x : List ℕ) → l < (params s.set).d → slice_index_or xs l x ≡ chains_of s l
+
+-- what the trees of the signature of a digest are made from
+abbrev pub source_by : Key → List ℕ → TreeSource
+source_by sk digest =
+    let p = params sk.set in
+    record {
+      set = sk.set;
+      sk_seed = sk_seed sk;
+      pk_seed = pk_seed (public_of sk);
+      idx_tree = idx_tree p digest;
+      idx_leaf = idx_leaf p digest;
+      md = md p digest;
+    }

@@ -1,18 +1,22 @@
 //! The trees of a signature, once all their ranges are hashed.
-ghost use Rattle.std.specs.Prelude.{◌≡◌, ◌+◌, ◌<◌, ◌≤◌, ◌^◌, length, take, drop};
+ghost use Rattle.std.specs.Prelude.{◌≡◌, ◌+◌, ◌<◌, ◌≤◌, ◌^◌, IfOk, length, take, drop};
 ghost use Rattle.slh_params.specs.ParamSet.{params};
 ghost use Rattle.slh_subtrees.specs.Assembled.{answers_of};
-ghost use Rattle.slh_subtrees.specs.Jobs.{IsTreeOf, height_of, tree_ranges, tree_jobs};
+ghost use Rattle.slh_subtrees.specs.Jobs.{IsTreeOf, height_of, signing_jobs, tree_ranges, tree_jobs};
 ghost use Rattle.slh_subtrees.specs.Gathered.{IsGathered};
 ghost use Rattle.slh_subtrees.specs.Points.{EndToEnd};
 ghost use Rattle.slh_subtrees.specs.SigningTrees.{source_of, tree_in, leaf_in};
-ghost use Rattle.slh_par.specs.JobAnswers.{AreRangeAnswers, AreChains};
+ghost use Rattle.slh_par.specs.JobAnswers.{AreRangeAnswers, AreChains, IsRight};
+ghost use Rattle.slh_workers.specs.Answers.{RightByPlace};
 
 use crate::kept_chains::KeptChains;
+use crate::ranges::JobAnswer;
+use crate::splitting::split_answers;
 use slh_few::put_path;
 use slh_params::Node;
 use slh_subtrees::{Answers, Cutting, GatheredTree, JobTree, SigningTrees};
 use slh_tree::{Cover, PathRec};
+use slh_workers::NoMemory;
 use std::alloc::Allocator;
 
 /// All trees of a signature, with what is made of their ranges, and what is kept of the chains of the keys that sign.
@@ -31,6 +35,33 @@ pub(crate) struct AnsweredTrees<'t, 's, A: Allocator> {
     ghost same_set: { cutting.now.set ≡ trees.now.seeds.set },
     ghost all_answers: { ∥ AreRangeAnswers trees.now cutting.now covers.items records.items ∥₁ },
     ghost all_chains: { ∥ AreChains (source_of trees.now) chains.items ∥₁ },
+}
+
+impl<'t, 's, A: Allocator + Clone> AnsweredTrees<'t, 's, A> {
+    /// The trees, from the answers of all jobs in the order of their numbers. Refuses `NoMemory` where a growth was
+    /// refused.
+    pub(crate) fn new(
+        alloc: A,
+        trees: &'t SigningTrees<'s>,
+        cutting: &'t Cutting,
+        answers: Vec<JobAnswer<A>, A>,
+    ) -> Result<Self, NoMemory>
+        requires set { cutting.now.set ≡ trees.now.seeds.set }
+        requires count { length answers.items ≡ length (signing_jobs cutting.now) }
+        requires right { RightByPlace (IsRight trees.now cutting.now) answers.items }
+        ensures { IfOk result (λ x. x.trees.now ≡ trees.now) }
+    {
+        let (covers, records, chains) = split_answers(alloc, answers)?;
+        // For the prover: the ranges lie end to end, so that each signing leaf is in one of them.
+        let _ranges = cutting.xmss_ranges();
+        Ok(AnsweredTrees {
+            trees,
+            cutting,
+            covers,
+            records,
+            chains,
+        })
+    }
 }
 
 /// How many ranges the tree has.

@@ -5,12 +5,12 @@ ghost use Rattle.slh_core.specs.Keys.{generated_key, IsGeneratedKey};
 ghost use Rattle.slh_par.specs.declared.fault.ParFault.TheVariants.{ContextTooLong, Stopped};
 
 use crate::fault::ParFault;
-use crate::joins::join_top_tree;
+use crate::top_tree::{TopRanges, gathered_top};
 use slh_core::SecretKey;
 use slh_few::Seeds;
 use slh_params::ParamSet;
 use slh_subtrees::Cutting;
-use slh_workers::{Gate, Workers};
+use slh_workers::{Gate, Workers, run_all};
 use std::alloc::Allocator;
 use std::thread::Threads;
 
@@ -42,6 +42,11 @@ pub fn keygen_par<R: Threads + Sync, A: Allocator + Clone + Send + Sync, G: Gate
         sk_seed,
         pk_seed,
     };
-    let root = join_top_tree(rt, alloc, &seeds, workers, cutting, gate)?;
+    let work = TopRanges {
+        seeds: &seeds,
+        cutting,
+    };
+    let covers = run_all(rt, alloc, &work, workers, gate)?;
+    let root = gathered_top(&seeds, cutting, &covers);
     Ok(SecretKey::from_parts(set, sk_seed, sk_prf, pk_seed, &root))
 }

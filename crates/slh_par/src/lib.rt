@@ -12,7 +12,6 @@ mod answered_trees;
 mod fault;
 mod forms;
 mod generation;
-mod joins;
 mod kept_chains;
 mod ranges;
 mod signing;
@@ -28,7 +27,8 @@ pub use slh_core::{
     Form, KeyFault, MessageDigest, ParamSet, PreHash, PublicKey, Randomizer, SecretKey,
 };
 pub use slh_subtrees::{
-    CutFault, CutTree, Cuts, Cutting, JobRange, JobTree, job, keygen_job, keygen_jobs, sign_jobs,
+    CutFault, CutTree, Cuts, Cutting, JobRange, JobTree, MOST_LEVELS, job, keygen_job, keygen_jobs,
+    sign_jobs,
 };
 pub use slh_workers::{
     End, Gate, Go, NoGate, NoMemory, Question, RunFault, Work, WorkerEnd, Workers, answer_all,

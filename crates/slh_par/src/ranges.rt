@@ -1,8 +1,7 @@
 //! The ranges of a signature's trees, as jobs.
-ghost use Rattle.std.specs.Prelude.{◌≡◌, Some, length, slice_get};
+ghost use Rattle.std.specs.Prelude.{◌≡◌, length};
 ghost use Rattle.slh_subtrees.specs.Jobs.{signing_jobs};
-ghost use Rattle.slh_subtrees.specs.declared.range.JobRange.{JobRange};
-ghost use Rattle.slh_par.specs.JobAnswers.{IsAnswer, kept_by};
+ghost use Rattle.slh_par.specs.JobAnswers.{IsRight};
 
 use crate::kept_chains::KeptChains;
 use slh_few::kept_chains_len;
@@ -28,9 +27,7 @@ impl<'w, 's, A: Allocator + Clone + Send + Sync> Work for TreeRanges<'w, 's, A> 
 
     ghost jobs = { λ w. length (signing_jobs w.cutting.now) };
 
-    ghost is_right = { λ w n x. (job : JobRange)
-        → slice_get (signing_jobs w.cutting.now) n ≡ Some job
-        → IsAnswer w.trees.now job x.0.cover x.0.path × (x.1 ≡ kept_by w.trees.now job) };
+    ghost is_right = { λ w n x. IsRight w.trees.now w.cutting.now n x };
 
     fn count(&self) -> u32 {
         sign_jobs(self.cutting)

@@ -1,6 +1,6 @@
 //! Signing by several threads.
 ghost use Rattle.std.specs.Prelude.{◌≡◌, ◌≤◌, ◌++◌, length, OnOk, OnErr, IfErr};
-ghost use Rattle.slh_params.specs.Params.{sig_len};
+ghost use Rattle.slh_params.specs.Params.{m, sig_len};
 ghost use Rattle.slh_params.specs.ParamSet.{params};
 ghost use Rattle.slh_hash.specs.Keyed.{joined};
 ghost use Rattle.slh_core.specs.Keys.{public_of, IsGeneratedKey};
@@ -8,16 +8,16 @@ ghost use Rattle.slh_core.specs.Randomizers.{HasLength};
 ghost use Rattle.slh_core.specs.Signatures.{signature_by, IsValid};
 ghost use Rattle.slh_subtrees.specs.Assembled.{answers_of, sig_fors_by, sig_ht_by};
 ghost use Rattle.slh_subtrees.specs.SigningTrees.{source_of};
+ghost use Rattle.slh_par.specs.JobAnswers.{source_by};
 ghost use Rattle.slh_workers.specs.declared.fault.RunFault.TheVariants.{Stopped};
 
 use crate::answered_trees::AnsweredTrees;
-use crate::joins::answer_trees;
+use crate::ranges::TreeRanges;
 use slh_core::signing_steps::{MOST_DIGEST_LEN, fors_sig_len, randomized_digest};
-use slh_core::{Randomizer, SecretKey, cut_digest};
-use slh_few::Seeds;
+use slh_core::{Randomizer, SecretKey, digest_indices};
 use slh_params::Node;
 use slh_subtrees::{Cutting, SigningTrees, put_fors, put_layers};
-use slh_workers::{Gate, RunFault, Workers};
+use slh_workers::{Gate, NoMemory, RunFault, Workers, run_all};
 use std::alloc::Allocator;
 use std::thread::Threads;
 
@@ -35,6 +35,18 @@ fn put_signature<A: Allocator>(r: &Node, answered: &AnsweredTrees<'_, '_, A>, ou
     let (sig_fors, sig_ht) = rest.split_at_mut(fors_sig_len(set));
     let pk_fors = put_fors(trees, answered, sig_fors);
     put_layers(trees, answered, &pk_fors, sig_ht);
+}
+
+/// The trees of the signature of a digest by this key (Algorithm 19, lines 6 to 10).
+fn trees_of<'a>(sk: &'a SecretKey, digest: &'a [u8]) -> SigningTrees<'a>
+    requires { length digest.now ≡ m (params sk.now.set) }
+    ensures set { result.seeds.set ≡ sk.now.set }
+    ensures source { source_of result ≡ source_by sk.now digest.now }
+{
+    let set = sk.set();
+    let md = &digest[..set.md_len()];
+    let indices = digest_indices(set, digest);
+    SigningTrees::new(&sk.seeds(), indices.idx_tree, indices.idx_leaf, md)
 }
 
 /// Writes the signature of the parts put end to end, `sig_len` bytes (Algorithm 19), by workers that share the ranges of
@@ -62,14 +74,15 @@ pub(crate) fn sign_parts_par<R: Threads + Sync, A: Allocator + Clone + Send + Sy
     let mut buffer = [0; MOST_DIGEST_LEN];
     let digest = &mut buffer[..set.m()];
     let r = randomized_digest(parts, sk, randomizer, digest);
-    let cut = cut_digest(set, digest);
-    let seeds = Seeds {
-        set,
-        sk_seed: sk.sk_seed(),
-        pk_seed: sk.pk_seed(),
+    let trees = trees_of(sk, digest);
+    let work = TreeRanges {
+        trees: &trees,
+        cutting,
+        alloc: alloc.clone().map_err(NoMemory::from)?,
     };
-    let trees = SigningTrees::new(&seeds, cut.idx_tree, cut.idx_leaf, &digest[..set.md_len()]);
-    let answered = answer_trees(rt, alloc, &trees, workers, cutting, gate)?;
+    let kept = alloc.clone().map_err(NoMemory::from)?;
+    let answers = run_all(rt, alloc, &work, workers, gate)?;
+    let answered = AnsweredTrees::new(kept, &trees, cutting, answers)?;
     put_signature(&r, &answered, out);
     Ok(())
 }

@@ -43,6 +43,10 @@ reported_more right P number xs ys was told (out, good, f) =
 pub all_answered : (before after answered : List ℕ) → after ≡ before ++ answered → IsAnswered 0 before after answered
 all_answered before after answered e = ([], omega arith, e ∙ sym (append-nil (before ++ answered)))
 
+-- and so is all but at most one number
+pub all_but_few : (before after answered : List ℕ) → after ≡ before ++ answered → IsAnswered 1 before after answered
+all_but_few before after answered e = ([], omega arith, e ∙ sym (append-nil (before ++ answered)))
+
 -- all but the last number
 pub last_lost : (number : ℕ) (before after later answered : List ℕ) → after ≡ before ++ answered → later ≡ after ++ number ∷ [] → IsAnswered 1 before later answered
 last_lost number before after later answered was e =

@@ -1,5 +1,5 @@
 -- What the workers at some seats have.
-use Rattle.std.proofs.Common.{◌≡◌, ◌≢◌, ℕ, ◌+◌, ◌<◌, ◌≤◌, List, [], ◌∷◌, ◌++◌, length, length-append, set, true, false, sym, refl, ap, ◌∙◌, arith, subst}
+use Rattle.std.proofs.Common.{◌≡◌, ◌≢◌, ℕ, ◌+◌, ◌<◌, ◌≤◌, List, [], ◌∷◌, ◌++◌, length, length-append, set, true, false, sym, refl, ap, ◌∙◌, arith, subst, IfOk, IfErr, Ok, Err, Result, Vec}
 use Rattle.std.specs.List.{All, sum_by}
 use Rattle.std.proofs.lemmas.List.{map-append, append-nil}
 use Rattle.std.proofs.lemmas.List.Elements.{All-append, All-cons, All-nil, All-tail}
@@ -8,9 +8,9 @@ use Rattle.slh_board.specs.Seats.{BoardState, SeatState, new_seat}
 use Rattle.slh_board.specs.Counts.{times}
 use Rattle.slh_board.specs.declared.seat.Mark.TheVariants.{Fresh as FreshMark, Done as DoneMark, Stopped as StoppedMark}
 use Rattle.slh_board.proofs.Totals.{times-append, All-front}
-use Rattle.slh_workers.specs.Answers.{numbers, AllRight}
-use Rattle.slh_workers.specs.Ends.{EndFits, IsAnswered, may_lack}
-use Rattle.slh_workers.specs.Runs.{IsReady, HasEnded, IsReported, RanSeats}
+use Rattle.slh_workers.specs.Answers.{numbers}
+use Rattle.slh_workers.specs.Ends.{EndFits, IsAnswered, HasWorked, may_lack}
+use Rattle.slh_workers.specs.Runs.{IsReady, AreTogether, HasEnded, HaveWorked, IsReported, RanSeats}
 use Rattle.slh_workers.specs.declared.worker.End.{End}
 use Rattle.slh_workers.specs.declared.worker.End.TheVariants.{Done, Stopped, GateStop, NoMemory}
 
@@ -46,22 +46,21 @@ reported_by_more reported first low next high jobs from to all k d lt =
     let (worker, above, below, told) = all k d lt in (worker, omega arith, omega arith, told)
 
 -- the only seat's worker has ended
-pub ran_one : {T : Type 0} (board : BoardState) (may_stop : Type 0) (reported : ℕ → ℕ → Type 0) (right : ℕ → T → Type 0) (jobs first : ℕ) (before : List ℕ) (seats : List SeatState) (end : End)
-    (seat : SeatState) (answers : List (ℕ × T)) → length seats ≡ 1 → before ≡ [] → seat.board ≡ board
-    → IsAnswered (may_lack end) before seat.drawn (numbers answers) → AllRight right jobs answers → All (reported first) (numbers answers) → end ≢ NoMemory → EndFits may_stop end seat
-    → RanSeats board may_stop reported right jobs first 1 (set seats 0 seat) answers
-ran_one board may_stop reported right jobs first before [] end seat answers one begun mine is right_each told memory fits = absurd (omega (arith, one))
-ran_one board may_stop reported right jobs first before (s ∷ t ∷ ts) end seat answers one begun mine is right_each told memory fits = absurd (omega (arith, one))
-ran_one board may_stop reported right jobs first before (s ∷ []) end seat answers one begun mine is right_each told memory fits =
-    let all : IsAnswered (may_lack end) [] seat.drawn (numbers answers) = subst (λ v. IsAnswered (may_lack end) v seat.drawn (numbers answers)) begun is in
+pub ran_one : {T : Type 0} (board : BoardState) (may_stop : Type 0) (reported : ℕ → ℕ → Type 0) (right : ℕ → T → Type 0) (jobs first : ℕ) (before : SeatState) (seats : List SeatState) (end : End)
+    (seat : SeatState) (answers : List (ℕ × T)) → length seats ≡ 1 → before.drawn ≡ [] → HasWorked board may_stop (reported first) right jobs before seat end answers → end ≢ NoMemory
+    → RanSeats board may_stop reported right jobs first (length seats) (set seats 0 seat) answers
+ran_one board may_stop reported right jobs first before [] end seat answers one begun worked memory = absurd (omega (arith, one))
+ran_one board may_stop reported right jobs first before (s ∷ t ∷ ts) end seat answers one begun worked memory = absurd (omega (arith, one))
+ran_one board may_stop reported right jobs first before (s ∷ []) end seat answers one begun worked memory =
+    let all : IsAnswered (may_lack end) [] seat.drawn (numbers answers) = subst (λ v. IsAnswered (may_lack end) v seat.drawn (numbers answers)) begun worked.answered in
     record {
       count_is = refl;
-      mine = All-cons (λ (v : SeatState). v.board ≡ board) seat [] mine (All-nil (λ (v : SeatState). v.board ≡ board));
-      ended = All-cons (HasEnded may_stop) seat [] (has_ended may_stop end seat memory fits) (All-nil (HasEnded may_stop));
-      all_right = right_each;
-      all_reported = λ k d lt. (first, omega arith, omega arith, told k d lt);
+      mine = All-cons (λ (v : SeatState). v.board ≡ board) seat [] worked.mine (All-nil (λ (v : SeatState). v.board ≡ board));
+      ended = All-cons (HasEnded may_stop) seat [] (has_ended may_stop end seat memory worked.ended) (All-nil (HasEnded may_stop));
+      all_right = worked.all_right;
+      all_reported = λ k d lt. (first, omega arith, omega arith, worked.all_reported k d lt);
       draws = λ calm x.
-          let same : numbers answers ≡ seat.drawn = answers_all may_stop end seat (numbers answers) fits all (calm 0 seat (omega arith)) in
+          let same : numbers answers ≡ seat.drawn = answers_all may_stop end seat (numbers answers) worked.ended all (calm 0 seat (omega arith)) in
           omega (arith, ap (times x) same, sum_by-cons (λ (v : SeatState). times x v.drawn) seat []);
     }
 
@@ -110,3 +109,30 @@ ran_both board may_stop reported right jobs first next low high count kept other
           ∙ ap (λ v. v + times x (numbers ys)) (a.draws front x) ∙ ap (λ v. sum_by (λ (s : SeatState). times x s.drawn) kept + v) (b.draws back x)
           ∙ sym (sum_by-append (λ (s : SeatState). times x s.drawn) kept others);
     })))
+
+-- what the worker at the only seat gives by its end
+pub gives_one : {T Z : Type 0} (board : BoardState) (may_stop : Type 0) (reported : ℕ → ℕ → Type 0) (right : ℕ → T → Type 0) (jobs first : ℕ) (before : SeatState) (seats after : List SeatState) (end : End)
+    (seat : SeatState) (answers : List (ℕ × T)) (worked : Result (Vec SeatState Z × Vec (ℕ × T) Z) SeatState)
+    → length seats ≡ 1 → before.drawn ≡ [] → HasWorked board may_stop (reported first) right jobs before seat end answers → after ≡ set seats 0 seat
+    → IfOk worked (λ w. end ≢ NoMemory) → IfOk worked (λ w. w.0.items ≡ after) → IfOk worked (λ w. w.1.items ≡ answers) → IfErr worked (λ s. (end ≡ NoMemory) × (after ≡ s ∷ []))
+    → HaveWorked board may_stop reported right jobs first (length seats) worked
+gives_one board may_stop reported right jobs first before seats after end seat answers (Ok w) one begun has_worked e memory same_seats same_answers refused =
+    (rw (same_seats ∙ e) (rw same_answers (ran_one board may_stop reported right jobs first before seats end seat answers one begun has_worked memory)), tt)
+gives_one board may_stop reported right jobs first before (x ∷ []) after end seat answers (Err s) one begun has_worked e memory same_seats same_answers (none, only) =
+    let same : s ∷ [] ≡ seat ∷ [] = sym only ∙ e in
+    let it : s ≡ seat = cc in
+    (tt, rw it (has_worked.mine, (subst (λ v. EndFits may_stop v seat) none has_worked.ended).1))
+gives_one board may_stop reported right jobs first before [] after end seat answers (Err s) one begun has_worked e memory same_seats same_answers refused = absurd (omega (arith, one))
+gives_one board may_stop reported right jobs first before (x ∷ y ∷ zs) after end seat answers (Err s) one begun has_worked e memory same_seats same_answers refused = absurd (omega (arith, one))
+
+-- and what both halves of the seats give, put together
+pub worked_both : {T Z : Type 0} (board : BoardState) (may_stop : Type 0) (reported : ℕ → ℕ → Type 0) (right : ℕ → T → Type 0) (jobs first next low high count : ℕ)
+    (front back worked : Result (Vec SeatState Z × Vec (ℕ × T) Z) SeatState)
+    → HaveWorked board may_stop reported right jobs first low front → HaveWorked board may_stop reported right jobs next high back
+    → next ≡ first + low → count ≡ low + high → AreTogether board front back worked → HaveWorked board may_stop reported right jobs first count worked
+unfolding AreTogether
+worked_both board may_stop reported right jobs first next low high count (Ok f) (Ok b) (Ok w) (low_ran, _) (high_ran, _) at e (seats, answers) =
+    (ran_both board may_stop reported right jobs first next low high count f.0.items b.0.items w.0.items f.1.items b.1.items w.1.items low_ran high_ran at e seats answers, tt)
+worked_both board may_stop reported right jobs first next low high count front back (Err seat) low_ran high_ran at e stopped = (tt, stopped)
+worked_both board may_stop reported right jobs first next low high count (Err f) back (Ok w) low_ran high_ran at e never = elim never [ ]
+worked_both board may_stop reported right jobs first next low high count (Ok f) (Err b) (Ok w) low_ran high_ran at e never = elim never [ ]

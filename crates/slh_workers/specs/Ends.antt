@@ -1,8 +1,9 @@
 -- How a worker ended, and what its seat then is.
 use Rattle.std.specs.Prelude.{◌≡◌, ℕ, ◌≤◌, List, ◌++◌, length, true, false}
 use Rattle.std.specs.List.{All}
-use Rattle.slh_board.specs.Seats.{SeatState}
+use Rattle.slh_board.specs.Seats.{BoardState, SeatState}
 use Rattle.slh_board.specs.declared.seat.Mark.TheVariants.{Fresh as FreshMark, Done as DoneMark, Stopped as StoppedMark}
+use Rattle.slh_workers.specs.Answers.{AllRight, numbers}
 use Rattle.slh_workers.specs.declared.worker.End.{End}
 use Rattle.slh_workers.specs.declared.worker.End.TheVariants.{Done, Stopped, GateStop, NoMemory}
 
@@ -39,3 +40,13 @@ may_hide NoMemory = 0
 -- what was drawn since before was reported, but for the last at most few numbers
 abbrev pub IsTold : (ℕ → Type 0) → ℕ → List ℕ → List ℕ → Type 0
 IsTold reported few before after = (told : List ℕ) × All reported told × IsAnswered few before after told
+
+-- What one worker has, by its end: the numbers of its answers are those that its seat drew meanwhile, in their order,
+-- and each answer is right for its number; it reported each job that it answered, and each that it drew
+pub record HasWorked {T : Type 0} (board : BoardState) (may_stop : Type 0) (reported : ℕ → Type 0) (right : ℕ → T → Type 0) (jobs : ℕ) (before after : SeatState) (end : End) (answers : List (ℕ × T)) : Type 0 where
+  pub mine : after.board ≡ board
+  pub answered : IsAnswered (may_lack end) before.drawn after.drawn (numbers answers)
+  pub all_right : AllRight right jobs answers
+  pub all_reported : All reported (numbers answers)
+  pub told : IsTold reported (may_hide end) before.drawn after.drawn
+  pub ended : EndFits may_stop end after

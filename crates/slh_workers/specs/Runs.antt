@@ -1,5 +1,5 @@
 -- Several workers over one board.
-use Rattle.std.specs.Prelude.{◌≡◌, ◌≢◌, ℕ, ◌+◌, ◌<◌, ◌≤◌, List, length, true, false, IsTrue}
+use Rattle.std.specs.Prelude.{◌≡◌, ◌≢◌, ℕ, ◌+◌, ◌<◌, ◌≤◌, List, length, true, false, IsTrue, IfOk, IfErr, Result, Ok, Err, Vec, ◌++◌}
 use Rattle.std.specs.List.{All, sum_by}
 use Rattle.slh_board.specs.Seats.{BoardState, SeatState, new_seat}
 use Rattle.slh_board.specs.Counts.{times}
@@ -34,3 +34,14 @@ pub record RanSeats {T : Type 0} (board : BoardState) (may_stop : Type 0) (repor
   pub all_right : AllRight right jobs answers
   pub all_reported : All (IsReported reported first count) (numbers answers)
   pub draws : All (λ s. s.raised ≡ false) seats → (x : ℕ) → times x (numbers answers) ≡ sum_by (λ (s : SeatState). times x s.drawn) seats
+
+-- what count workers give: their seats and their answers, or where memory was refused a seat that stopped the board
+abbrev pub HaveWorked : {T Z : Type 0} → BoardState → Type 0 → (ℕ → ℕ → Type 0) → (ℕ → T → Type 0) → ℕ → ℕ → ℕ → Result (Vec SeatState Z × Vec (ℕ × T) Z) SeatState → Type 0
+HaveWorked {T} {Z} board may_stop reported right jobs first count worked =
+    IfOk worked (λ w. RanSeats board may_stop reported right jobs first count w.0.items w.1.items) × IfErr worked (HasStopped board)
+
+-- what both halves of the seats give is put together: all seats and answers, or a seat that stopped the board
+unfoldable pub AreTogether : {T Z : Type 0} → BoardState → Result (Vec SeatState Z × Vec (ℕ × T) Z) SeatState → Result (Vec SeatState Z × Vec (ℕ × T) Z) SeatState → Result (Vec SeatState Z × Vec (ℕ × T) Z) SeatState → Type 0
+AreTogether board front back (Err seat) = HasStopped board seat
+AreTogether board (Ok f) (Ok b) (Ok w) = (w.0.items ≡ f.0.items ++ b.0.items) × (w.1.items ≡ f.1.items ++ b.1.items)
+AreTogether board front back (Ok w) = ⊥

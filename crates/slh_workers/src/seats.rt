@@ -1,19 +1,24 @@
 // Workers at all seats of a board.
-ghost use Rattle.std.specs.Prelude.{◌≡◌, ◌≤◌, ◌++◌, IfOk, IfErr, OnErr, length};
+ghost use Rattle.std.specs.Prelude.{◌≡◌, ◌≢◌, ◌≤◌, ◌++◌, ◌∷◌, [], IfOk, IfErr, OnErr, length};
 ghost use Rattle.std.specs.List.{All};
 ghost use Rattle.std.specs.Thread.{IsSync, IsSend};
 ghost use denote.Param.Send.{Frees};
-ghost use Rattle.slh_workers.specs.Runs.{HasStopped, IsReady, RanSeats};
+ghost use Rattle.slh_workers.specs.Runs.{AreTogether, HasStopped, HaveWorked, IsReady};
+ghost use Rattle.slh_workers.specs.declared.worker.End.TheVariants.{NoMemory as ByNoMemory};
 
 use crate::gate::Gate;
+use crate::steps::Worker;
 use crate::work::{NoMemory, Work};
-use crate::worker::{End, WorkerEnd, work_off};
+use crate::worker::{End, WorkerEnd, run_steps};
 use slh_board::{Board, Seat};
 use std::alloc::Allocator;
 use std::thread::{Threads, join};
 
-// The seats, and the answers of their workers; or where memory was refused one of the seats, which stopped the board.
-type Worked<T, A> = Result<(Vec<Seat, A>, Vec<(u32, T), A>), Seat>;
+// The seats, and the answers of their workers.
+type Ran<T, A> = (Vec<Seat, A>, Vec<(u32, T), A>);
+
+// A `Ran`; or where memory was refused one of the seats, which stopped the board.
+type Worked<T, A> = Result<Ran<T, A>, Seat>;
 
 // The workers at these seats of the board, numbered from `first` on, the first on this thread and each other on a
 // thread of its own, where one can be had. The list of seats is halved, so that 64 seats nest 6 deep: the stack of a
@@ -28,66 +33,74 @@ pub fn run_seats<R: Threads + Sync, A: Allocator + Clone + Send + Sync, W: Work,
     gate: &G,
 ) -> Worked<W::Out, A>
     requires { IsReady board.now (W.jobs work.now) first seats.items }
-    ensures ran { IfOk result (λ r. RanSeats board.now (G.may_stop gate.now) (G.reported gate.now)
-        (W.is_right work.now) (W.jobs work.now) first (length seats.items) r.0.items r.1.items) }
-    ensures refused { IfErr result (HasStopped board.now) }
+    ensures { HaveWorked board.now (G.may_stop gate.now) (G.reported gate.now) (W.is_right work.now)
+        (W.jobs work.now) first (length seats.items) result }
 {
     if seats.len() == 1 {
-        return run_seat(alloc, board, seats, work, first, gate);
+        let steps = Worker::new(work, gate, first);
+        let WorkerEnd { answers, end } = run_steps(alloc, board, &mut seats[0], &steps);
+        return ended(seats, answers, end);
     }
     let Ok((others, theirs)) = second_half(&alloc, &mut seats) else {
         return Err(stopped(board, seats));
     };
     let next = first + seats.len() as u8;
     let front = move || -> Worked<W::Out, A>
-        requires { IsSync R.row × IsSync W.row × IsSync G.row × IsSync A.row
-            × IsSend A.row × IsSend W.Out.row × Frees A.Allocator A.dealloc_token
-            × IsReady board.now (W.jobs work.now) first seats.items }
-        ensures { IfOk result (λ r. RanSeats board.entry.now (G.may_stop gate.entry.now) (G.reported gate.entry.now)
-            (W.is_right work.entry.now) (W.jobs work.entry.now) first (length seats.items) r.0.items r.1.items)
-            × IfErr result (HasStopped board.entry.now) }
+        requires { IsSync R.row × IsSync W.row × IsSync G.row × IsSync A.row × IsSend A.row × IsSend W.Out.row
+            × Frees A.Allocator A.dealloc_token × IsReady board.now (W.jobs work.now) first seats.items }
+        ensures { HaveWorked board.entry.now (G.may_stop gate.entry.now) (G.reported gate.entry.now)
+            (W.is_right work.entry.now) (W.jobs work.entry.now) first (length seats.items) result }
     { run_seats(rt, alloc, board, seats, work, first, gate) };
     let back = move || -> Worked<W::Out, A>
-        requires { IsSync R.row × IsSync W.row × IsSync G.row × IsSync A.row
-            × IsSend A.row × IsSend W.Out.row × Frees A.Allocator A.dealloc_token
-            × IsReady board.now (W.jobs work.now) next others.items }
-        ensures { IfOk result (λ r. RanSeats board.entry.now (G.may_stop gate.entry.now) (G.reported gate.entry.now)
-            (W.is_right work.entry.now) (W.jobs work.entry.now) next (length others.items) r.0.items r.1.items)
-            × IfErr result (HasStopped board.entry.now) }
+        requires { IsSync R.row × IsSync W.row × IsSync G.row × IsSync A.row × IsSend A.row × IsSend W.Out.row
+            × Frees A.Allocator A.dealloc_token × IsReady board.now (W.jobs work.now) next others.items }
+        ensures { HaveWorked board.entry.now (G.may_stop gate.entry.now) (G.reported gate.entry.now)
+            (W.is_right work.entry.now) (W.jobs work.entry.now) next (length others.items) result }
     { run_seats(rt, theirs, board, others, work, next, gate) };
     let (back, front) = join(rt, back, front);
-    let (mut kept, mut answers) = front?;
-    let (mut more_kept, mut more_answers) = back?;
-    let Ok(()) = kept.append(&mut more_kept) else {
-        return Err(stopped(board, kept));
-    };
-    let Ok(()) = answers.append(&mut more_answers) else {
-        return Err(stopped(board, kept));
-    };
-    Ok((kept, answers))
+    both(board, front, back)
 }
 
-// The worker at the one seat, on this thread. It is kept apart from the recursion, which would else hold the locals of
-// a job at each level.
+// What the worker at the only seat gives by its end. Neither this nor `both` is compiled into the recursion over seats:
+// each level would then keep room on the stack for an answer that it drops.
 #[inline(never)]
-fn run_seat<A: Allocator, W: Work, G: Gate>(
-    alloc: A,
-    board: &Board<A>,
+fn ended<T: Drop, A: Allocator>(
     mut seats: Vec<Seat, A>,
-    work: &W,
-    worker: u8,
-    gate: &G,
-) -> Worked<W::Out, A>
-    requires ready { IsReady board.now (W.jobs work.now) worker seats.items }
-    requires one { length seats.items ≡ 1 }
-    ensures ran { IfOk result (λ r. RanSeats board.now (G.may_stop gate.now) (G.reported gate.now)
-        (W.is_right work.now) (W.jobs work.now) worker 1 r.0.items r.1.items) }
-    ensures refused { IfErr result (HasStopped board.now) }
+    answers: Vec<(u32, T), A>,
+    end: End,
+) -> Worked<T, A>
+    requires { length seats.items ≡ 1 }
+    ensures memory { IfOk result (λ r. end ≢ ByNoMemory) }
+    ensures seats { IfOk result (λ r. r.0.items ≡ seats.items) }
+    ensures answers { IfOk result (λ r. r.1.items ≡ answers.items) }
+    ensures refused { IfErr result (λ s. (end ≡ ByNoMemory) × (seats.items ≡ s ∷ [])) }
 {
-    let WorkerEnd { answers, end } = work_off(alloc, board, &mut seats[0], work, worker, gate);
     if end == End::NoMemory {
         return Err(seats.swap_remove(0));
     }
+    Ok((seats, answers))
+}
+
+// The seats and the answers of both halves.
+#[inline(never)]
+fn both<T: Drop, A: Allocator>(
+    board: &Board<A>,
+    front: Worked<T, A>,
+    back: Worked<T, A>,
+) -> Worked<T, A>
+    requires front { IfOk front (λ f. (1 ≤ length f.0.items) × All (λ s. s.board ≡ board.now) f.0.items) }
+    requires back { IfOk back (λ b. All (λ s. s.board ≡ board.now) b.0.items) }
+    requires refused { IfErr front (HasStopped board.now) × IfErr back (HasStopped board.now) }
+    ensures { AreTogether board.now front back result }
+{
+    let (mut seats, mut answers) = front?;
+    let (mut more_seats, mut more_answers) = back?;
+    let Ok(()) = seats.append(&mut more_seats) else {
+        return Err(stopped(board, seats));
+    };
+    let Ok(()) = answers.append(&mut more_answers) else {
+        return Err(stopped(board, seats));
+    };
     Ok((seats, answers))
 }
 

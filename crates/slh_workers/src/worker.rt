@@ -1,11 +1,9 @@
 // One worker at a seat of a board.
-ghost use Rattle.std.specs.Prelude.{◌≡◌, ◌≢◌, ◌<◌, OnOk, OnErr, Err};
+ghost use Rattle.std.specs.Prelude.{◌≡◌};
 ghost use Rattle.std.specs.List.{All};
-ghost use Rattle.std.specs.Vec.{vec_capacity, vec_len};
-ghost use Rattle.slh_workers.specs.Answers.{AllRight, AddsAnswer, numbers};
-ghost use Rattle.slh_workers.specs.Ends.{IsFresh, EndFits, IsAnswered, IsTold, may_hide, may_lack};
+ghost use Rattle.slh_workers.specs.Answers.{AllRight, numbers};
+ghost use Rattle.slh_workers.specs.Ends.{IsFresh, EndFits, IsAnswered, IsTold, HasWorked, may_hide, may_lack};
 
-use crate::fault::RunFault;
 use crate::gate::{Gate, Go};
 use crate::steps::{Steps, Worker};
 use crate::work::Work;
@@ -66,7 +64,24 @@ pub fn work_off<A: Allocator, B: Allocator, W: Work, G: Gate>(
 
     ensures ended { EndFits (G.may_stop gate.now) result.end seat.new }
 {
-    let steps = Worker::new(work, gate, worker);
+    run_steps(alloc, board, seat, &Worker::new(work, gate, worker))
+}
+
+// What `work_off` does, by steps alone, so that no other order of them can be proved. It is not compiled into the
+// recursion over seats, which would else hold the locals of a job at each level.
+#[inline(never)]
+pub fn run_steps<A: Allocator, B: Allocator, S: Steps>(
+    alloc: A,
+    board: &Board<B>,
+    seat: &mut Seat,
+    steps: &S,
+) -> WorkerEnd<S::Out, A>
+    requires mine { seat.old.board ≡ board.now }
+    requires fresh { IsFresh seat.old }
+    requires jobs { board.now.jobs ≡ S.jobs steps.now }
+    ensures { HasWorked board.now (S.may_stop steps.now) (S.reported steps.now) (S.is_right steps.now)
+        (S.jobs steps.now) seat.old seat.new result.end result.answers.items }
+{
     let mut answers = Vec::new(alloc);
     let end = loop {
         // Room for an answer is made before its job is drawn. So none is drawn that has no room for its answer.
@@ -79,36 +94,17 @@ pub fn work_off<A: Allocator, B: Allocator, W: Work, G: Gate>(
             Claim::Done => break End::Done,
             Claim::Stopped => break End::Stopped,
         };
-        if let Err(fault) = add_answer(&mut answers, &steps, number) {
+        if steps.enter(number) == Go::Stop {
             board.stop(seat);
-            break match fault {
-                RunFault::NoMemory => End::NoMemory,
-                RunFault::Stopped => End::GateStop,
-            };
+            break End::GateStop;
         }
+        let outcome = steps.run(number);
+        steps.leave(number);
+        let Ok(answer) = outcome else {
+            board.stop(seat);
+            break End::NoMemory;
+        };
+        answers.push_reserved((number, answer));
     };
     WorkerEnd { answers, end }
-}
-
-// Runs the job where the gate lets it, and adds its answer, for which there is room. A job that was run is reported,
-// whatever came of it.
-fn add_answer<A: Allocator, S: Steps>(
-    answers: &mut Vec<(u32, S::Out), A>,
-    steps: &S,
-    number: u32,
-) -> Result<(), RunFault>
-    requires job { number < S.jobs steps.now }
-    requires room { vec_len answers.old < vec_capacity answers.old }
-    ensures added { OnOk result (AddsAnswer (S.is_right steps.now) number answers.old.items answers.new.items) }
-    ensures reported { result ≢ Err RunFault.Stopped → S.reported steps.now number }
-    ensures stopped { result ≡ Err RunFault.Stopped → S.may_stop steps.now }
-    ensures err { OnErr result (answers.new.items ≡ answers.old.items) }
-{
-    if steps.enter(number) == Go::Stop {
-        return Err(RunFault::Stopped);
-    }
-    let outcome = steps.run(number);
-    steps.leave(number);
-    answers.push_reserved((number, outcome?));
-    Ok(())
 }

@@ -12,8 +12,8 @@ root_from : (s : ParamSet) (sk pk : List ℕ) (at : Place) (m sig : List ℕ) �
     → xmss_pk_from_sig (params s) pk at m sig ≡ root (xmss_tree (params s) sk pk at.layer at.tree)
 root_from s sk pk at m sig low e = ap (xmss_pk_from_sig (params s) pk at m) e ∙ xmss_pk_from_sig-xmss_sig s sk pk at m low
 
-pub returns-then-has_eight_leaves-clause-key : goal.returns-then-has_eight_leaves-clause-key
-returns-then-has_eight_leaves-clause-key c = root_from _ _ _ _ _ _ c.requires.pair c.sign_in_group.ensures.signature
+pub returns-then-can_give_leaf-clause-key : goal.returns-then-can_give_leaf-clause-key
+returns-then-can_give_leaf-clause-key c = root_from _ _ _ _ _ _ c.requires.pair c.sign_giving_leaf.ensures.signature
 
-pub returns-else-has_eight_leaves-clause-key : goal.returns-else-has_eight_leaves-clause-key
-returns-else-has_eight_leaves-clause-key c = root_from _ _ _ _ _ _ c.requires.pair c.sign_alone.ensures
+pub returns-else-can_give_leaf-clause-key : goal.returns-else-can_give_leaf-clause-key
+returns-else-can_give_leaf-clause-key c = root_from _ _ _ _ _ _ c.requires.pair c.sign_alone.ensures

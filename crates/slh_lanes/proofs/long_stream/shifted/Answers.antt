@@ -2,7 +2,7 @@ use Rattle.std.proofs.Common.{◌≡◌, ℕ, ◌+◌, ◌*◌, ◌<◌, ◌^◌
 use Rattle.std.proofs.lemmas.Bool.{cases_lt}
 use Rattle.std.proofs.lemmas.List.{get_or-set_same, get_or-set_other, length-map, length-set}
 use Rattle.sha2.specs.Sha512.{word_at}
-use Rattle.slh_lanes.specs.LongBlock.{joined_halves}
+use Rattle.slh_lanes.specs.LongBlock.{long_word_of_halves}
 use Rattle.slh_lanes.specs.Columns.{column}
 use Rattle.slh_lanes.specs.Streams.{half_on, vectors}
 use Rattle.slh_lanes.proofs.Columns.{column_set, vector_at}
@@ -16,7 +16,7 @@ words-preserved c = (
       let ws : List ℕ = column j (vectors c.args.words.now) in
       let old : List ℕ = column j c.words.block in
       let at : ℕ = c.words.k in
-      let new : ℕ = slice_index c.joined_halves.result j in
+      let new : ℕ = slice_index c.long_word_of_halves.result j in
       let long : length old ≡ 16 = length-map _ _ ∙ c.words.invariant.0 in
       let p = vector_at j c.args.words.now (2 * at) in
       let q = vector_at j c.args.words.now (2 * at + 1) in
@@ -24,14 +24,14 @@ words-preserved c = (
       let fp : slice_index ws (2 * at) < 2 ^ 32 = rw p (c.tell_words.ensures j lane) in
       let fq : slice_index ws (2 * at + 1) < 2 ^ 32 = rw q (c.tell_words-in-words.ensures j lane) in
       let fr : slice_index ws (2 * at + 2) < 2 ^ 32 = rw r (c.tell_words-in-words-2.ensures j lane) in
-      let written = ap (λ (l : List ℕ). slice_index l i) (column_set j c.words.block at c.joined_halves.result) in
+      let written = ap (λ (l : List ℕ). slice_index l i) (column_set j c.words.block at c.long_word_of_halves.result) in
       elim (cases_lt i at) [
         | inl below ↦ c.words.invariant.1 j lane i below ∙ sym (written ∙ get_or-set_other old at i new 0 (omega arith))
         | inr ge ↦
             let e : i ≡ at = omega arith in
             ap (λ (k : ℕ). word_at (take 128 (half_on ws 33)) (8 * k)) e ∙ half_long_word ws at (omega arith) fp fq fr
             ∙ sym (written ∙ ap (λ (k : ℕ). slice_index (set old at new) k) e ∙ get_or-set_same old at new 0 (omega (arith, long))
-            ∙ c.joined_halves.ensures j lane ∙ (λ k. joined_halves (sym p k) (sym q k) (sym r k)))
+            ∙ c.long_word_of_halves.ensures j lane ∙ (λ k. long_word_of_halves (sym p k) (sym q k) (sym r k)))
       ],
 )
 

@@ -14,6 +14,7 @@ use Rattle.slh_subtrees.specs.Assembled.{answers_of, sig_fors_by, sig_ht_by}
 use Rattle.slh_subtrees.specs.SigningTrees.{source_of}
 use Rattle.slh_subtrees.specs.Trees.{TreeSource}
 use Rattle.slh_subtrees.proofs.Assembled.{pk_fors_of, sig_fors-right, sig_ht-right, answers_of-right}
+use Rattle.slh_par.specs.JobAnswers.{source_by}
 use Rattle.slh_par.proofs.signing.sign_parts_par.Goals as goal
 
 -- the buffer has room for the digest of any set
@@ -30,25 +31,10 @@ randomized_digest-r-requires-clause-digest g c =
     let fits : c.m.result ≤ 122 = omega (arith, c.m.ensures, m_high c.set-set.result) in
     length-take-le c.m.result _ fits ∙ rw c.set-set.ensures at c.m.ensures
 
-pub cut_digest-cut-requires : goal.cut_digest-cut-requires
-cut_digest-cut-requires g c =
+pub trees_of-trees-requires : goal.trees_of-trees-requires
+trees_of-trees-requires g c =
     let fits : c.m.result ≤ 122 = omega (arith, c.m.ensures, m_high c.set-set.result) in
-    c.randomized_digest-r.auto.digest ∙ length-take-le c.m.result _ fits ∙ c.m.ensures
-
--- FORS signs the first part of the digest
-pub slice_bounds-new-end : goal.slice_bounds-new-end
-slice_bounds-new-end g c =
-    let fits : c.m.result ≤ 122 = omega (arith, c.m.ensures, m_high c.set-set.result) in
-    let whole : length c.randomized_digest-r.new.digest ≡ m (params c.set-set.result) = c.randomized_digest-r.auto.digest ∙ length-take-le c.m.result _ fits ∙ c.m.ensures in
-    let part : c.md_len.result ≤ length c.randomized_digest-r.new.digest = omega (arith, whole, c.md_len.ensures) in
-    sym (length-take-le c.md_len.result _ part)
-
-pub new-trees-requires-clause-md : goal.new-trees-requires-clause-md
-new-trees-requires-clause-md g c =
-    let fits : c.m.result ≤ 122 = omega (arith, c.m.ensures, m_high c.set-set.result) in
-    let whole : length c.randomized_digest-r.new.digest ≡ m (params c.set-set.result) = c.randomized_digest-r.auto.digest ∙ length-take-le c.m.result _ fits ∙ c.m.ensures in
-    let part : c.md_len.result ≤ length c.randomized_digest-r.new.digest = omega (arith, whole, c.md_len.ensures) in
-    length-take-le c.md_len.result _ part ∙ c.md_len.ensures
+    c.randomized_digest-r.auto.digest ∙ length-take-le c.m.result _ fits ∙ rw c.set-set.ensures at c.m.ensures
 
 pub returns-clause-signature : goal.returns-clause-signature
 unfolding signature
@@ -56,20 +42,16 @@ returns-clause-signature g c =
     let sk : Key = c.args.sk.now in
     let msg : List ℕ = joined c.args.parts.now in
     let digest : List ℕ = c.randomized_digest-r.new.digest in
-    let t : ℕ = c.cut_digest-cut.result.idx_tree in
-    let i : ℕ = c.cut_digest-cut.result.idx_leaf in
-    let s : TreeSource = source_of c.new-trees.result in
+    let s : TreeSource = source_of c.trees_of-trees.result in
     let r : List ℕ = c.randomized_digest-r.result.items in
-    let own : TreeSource = record { set = sk.set; sk_seed = sk_seed sk; pk_seed = pk_seed (public_of sk); idx_tree = t; idx_leaf = i; md = s.md } in
-    let same : s ≡ own = search rules in
+    let own : TreeSource = source_by sk digest in
     let By : TreeSource → List ℕ = λ x. r ++ (sig_fors_by x (answers_of x) ++ sig_ht_by x (answers_of x)) in
-    let of_trees : source_of c.in_ok-answered.answered.trees.now ≡ s = ap source_of c.in_ok-answered.ensures.trees in
+    let of_trees : source_of c.in_ok-answered.answered.trees.now ≡ s = ap source_of c.in_ok-answered.ensures in
     let leaf : own.idx_leaf < 2 ^ (params own.set).hp = search rules in
-    let first : own.md ≡ md (params sk.set) digest = search rules in
-    c.put_signature.ensures ∙ ap By (of_trees ∙ same)
+    c.put_signature.ensures ∙ ap By (of_trees ∙ c.trees_of-trees.ensures.source)
     ∙ ap (λ ys. r ++ (ys ++ sig_ht_by own (answers_of own))) (sig_fors-right own (answers_of own) leaf (answers_of-right own))
-    ∙ ap (λ ys. r ++ (fors_sig (params sk.set) (sk_seed sk) (pk_seed (public_of sk)) t i own.md ++ ys)) (sig_ht-right own (answers_of own) leaf (answers_of-right own))
-    ∙ ap (λ ys. r ++ ys) (signed_parts sk digest t i own.md (pk_fors_of own) (search rules) (search rules) first refl)
+    ∙ ap (λ ys. r ++ (fors_sig (params sk.set) (sk_seed sk) (pk_seed (public_of sk)) own.idx_tree own.idx_leaf own.md ++ ys)) (sig_ht-right own (answers_of own) leaf (answers_of-right own))
+    ∙ ap (λ ys. r ++ ys) (signed_parts sk digest own.idx_tree own.idx_leaf own.md (pk_fors_of own) refl refl refl refl)
     ∙ ap (λ d. r ++ signature_of_digest sk d) c.randomized_digest-r.ensures.digest
     ∙ ap (λ x. x ++ signature_of_digest sk (digest_of (public_of sk) x msg)) c.randomized_digest-r.ensures.r
 

@@ -1,9 +1,9 @@
 -- Both halves of the seats are ready, and what both ran is what all ran.
 use Rattle.std.proofs.Common.{rules, arith, length, length-append, ◌≡◌, ◌+◌, ap, ◌∙◌}
 use Rattle.std.proofs.lemmas.Grind.{common_steps}
-use Rattle.std.proofs.lemmas.Result.{IfOk-at_ok}
-use Rattle.slh_workers.specs.Runs.{IsReady, RanSeats}
-use Rattle.slh_workers.proofs.Seated.{ran_both, ready_front, ready_back}
+use Rattle.slh_workers.specs.Runs.{IsReady}
+use Rattle.slh_workers.specs.Ends.{HasWorked}
+use Rattle.slh_workers.proofs.Seated.{gives_one, worked_both, ready_front, ready_back}
 use Rattle.slh_workers.proofs.seats.+fn-run_seats-back+fn-run_seats-front+run_seats.Goals as goal
 
 pub join-back-requires-after_bounds : goal.join-back-requires-after_bounds
@@ -17,9 +17,17 @@ join-back-requires-after_bounds g t c κs within =
     c.in-Ok.others.items c.requires c.in-Ok.ensures.parts c.in-Ok.ensures.some.1 (omega (arith, c.len-2.ensures)) in
     search rules
 
-pub returns-clause-ran : goal.returns-clause-ran
-returns-clause-ran g t c =
-    ran_both c.args.board.now (g.G.Gate.may_stop c.args.gate.now) (g.G.Gate.reported c.args.gate.now) (g.W.Work.is_right c.args.work.now) (g.W.Work.jobs c.args.work.now) c.args.first _ _ _ (length c.args.seats.items) _ _ c.append.new.self.items _ _ c.append-2.new.self.items
-    (IfOk-at_ok (λ r. RanSeats c.args.board.now (g.G.Gate.may_stop c.args.gate.now) (g.G.Gate.reported c.args.gate.now) (g.W.Work.is_right c.args.work.now) (g.W.Work.jobs c.args.work.now) _ _ r.0.items r.1.items) c.in_ok-kept.was c.join-back.ensures.second.0)
-    (IfOk-at_ok (λ r. RanSeats c.args.board.now (g.G.Gate.may_stop c.args.gate.now) (g.G.Gate.reported c.args.gate.now) (g.W.Work.is_right c.args.work.now) (g.W.Work.jobs c.args.work.now) _ _ r.0.items r.1.items) c.in_ok-more_kept.was c.join-back.ensures.first.0)
-    (omega (arith, c.len-2.ensures)) (grind (arith, common_steps)) c.in-Ok-append.ensures.items c.in-Ok-append-2.ensures.items
+pub returns : goal.returns
+returns g t c =
+    worked_both c.args.board.now (g.G.Gate.may_stop c.args.gate.now) (g.G.Gate.reported c.args.gate.now) (g.W.Work.is_right c.args.work.now) (g.W.Work.jobs c.args.work.now) c.args.first
+    _ _ _ (length c.args.seats.items) _ _ c.both.result c.join-back.ensures.second c.join-back.ensures.first
+    (omega (arith, c.len-2.ensures)) (grind (arith, common_steps)) c.both.ensures
+
+pub returns-then-len-eq1 : goal.returns-then-len-eq1
+returns-then-len-eq1 g t c =
+    let worked : HasWorked c.args.board.now (g.G.Gate.may_stop c.args.gate.now) (λ i. g.G.Gate.reported c.args.gate.now c.args.first i) (λ i out. g.W.Work.is_right c.args.work.now i out)
+    (g.W.Work.jobs c.args.work.now) c.index_mut.result.now c.run_steps-answers.new.seat c.run_steps-answers.result.end c.run_steps-answers.result.answers.items
+    = rw (c.new-steps.ensures.0, c.new-steps.ensures.1, c.new-steps.ensures.2) at c.run_steps-answers.ensures in
+    gives_one c.args.board.now (g.G.Gate.may_stop c.args.gate.now) (g.G.Gate.reported c.args.gate.now) (g.W.Work.is_right c.args.work.now) (g.W.Work.jobs c.args.work.now) c.args.first c.index_mut.result.now
+    c.args.seats.items _ c.run_steps-answers.result.end c.run_steps-answers.new.seat c.run_steps-answers.result.answers.items c.ended.result
+    (search rules) (search rules) worked (search rules) c.ended.ensures.memory c.ended.ensures.seats c.ended.ensures.answers c.ended.ensures.refused

@@ -1,5 +1,7 @@
 use Rattle.std.proofs.Common.{◌≡◌, ℕ, ◌+◌, ◌-◌, ◌*◌, ◌^◌, ◌<◌, ◌≤◌, inl, inr, arith, sym, ◌∙◌}
+use Rattle.std.proofs.Math.Logic.{∥∥₁_elim}
 use Rattle.std.proofs.Math.Nat.{mul-le-mul_right}
+use Rattle.std.proofs.Props.{props}
 use Rattle.std.proofs.lemmas.Bool.{cases_lt}
 use Rattle.std.proofs.lemmas.Nat.{pow-add, pow_pos}
 use Rattle.slh_params.specs.ParamSet.{params}
@@ -23,6 +25,8 @@ node_from_lanes-requires-clause-index c =
     let high : c.args.z ≤ (params c.args.self.now.tree.seeds.set).a = omega (arith, c.requires.height) in
     is_below (params c.args.self.now.tree.seeds.set).a c.args.z c.args.i high c.requires.within
 
-pub returns-then-seeds-n : goal.returns-then-seeds-n
+pub returns-in-Some : goal.returns-in-Some
 unfolding fors_tree_of
-returns-then-seeds-n c = c.node_from_lanes.ensures _ c.requires.lanes (c.if-seeds-n.true ∙ c.n.ensures)
+returns-in-Some c = ∥∥₁_elim c.args.self.now.state (hlevel props) (λ h.
+    let made = rw c.in-Some.is at (c.join_lanes.ensures _ _ h) in
+    c.node_from_lanes.ensures _ made.0 made.1)

@@ -4,9 +4,9 @@ use Rattle.sha2.specs.Sha256.{hash_after, initial_hash_256, padding}
 use Rattle.slh_lanes.specs.HmacLanes.{IsBegun, inner_front}
 use Rattle.slh_lanes.proofs.hmac_lanes.HmacLanes.new.Goals as goal
 
-pub returns : goal.returns
+pub returns-clause-begun : goal.returns-clause-begun
 unfolding IsBegun
-returns c =
+returns-clause-begun c =
     let m : List ℕ = inner_front c.args.key.now c.args.front.now in
     let held : c.message_of-message.result.items ≡ m = c.message_of-message.ensures.value in
     let len : c.len-len.result ≡ length m = c.len-len.ensures.value ∙ ap length held in

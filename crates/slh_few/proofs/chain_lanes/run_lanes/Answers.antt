@@ -1,9 +1,0 @@
-use Rattle.std.proofs.Common.{slice_index, ◌∙◌}
-use Rattle.slh_lanes.specs.Lanes.{value_at}
-use Rattle.slh_few.proofs.ChainLanes.{chain-steps}
-use Rattle.slh_few.proofs.chain_lanes.run_lanes.Goals as goal
-
-pub returns : goal.returns
-returns c = λ p pk s j lane.
-    c.chains_each.ensures p pk s j lane _ (c.chain_adrs.ensures j lane)
-    ∙ chain-steps p pk c.args.at (slice_index c.args.group.now j) (value_at c.args.x.now j p.n) (slice_index c.args.from j) (slice_index c.args.counts j)

@@ -1,0 +1,6 @@
+use Rattle.slh_few.specs.Wots.{secret}
+use Rattle.slh_few.proofs.lanes.chains.secret_lanes.Goals as goal
+
+pub returns : goal.returns
+unfolding secret
+returns c = λ p pk s j lane. c.prf.ensures p pk s j lane _ (c.chain_adrs.ensures j lane)

@@ -1,0 +1,82 @@
+-- After each turn the values before it are written, and the nodes are the next ones.
+use Rattle.std.proofs.Common.{◌≡◌, ℕ, ◌+◌, ◌-◌, ◌*◌, length, inl, inr, refl, ap, subst, sym, ◌∙◌, arith}
+use Rattle.std.proofs.lemmas.Bool.{cases_lt}
+use Rattle.slh_params.specs.Params.{w}
+use Rattle.slh_params.specs.ParamSet.{params}
+use Rattle.slh_lanes.specs.Lanes.{value_at}
+use Rattle.slh_few.specs.KeptChains.{spacing, kept_count, kept_chain_len, kept_chains_len, kept_value}
+use Rattle.slh_few.specs.KeyStreams.{AreAfter, key_at}
+use Rattle.slh_few.specs.Parts.{part}
+use Rattle.slh_few.proofs.EightKeys.{run_on}
+use Rattle.slh_few.proofs.KeptChains.{kept_chain-values, kept_end}
+use Rattle.slh_few.proofs.lanes.two_chains_keeping.KeptValuesKept.ends.Goals as goal
+
+pub loop-j-init : goal.loop-j-init
+loop-j-init c =
+    let p = params c.args.seeds.now.set in
+    let z : 0 ≡ 0 * spacing p = omega arith in
+    record {
+      nodes = subst (λ k. AreAfter p c.args.seeds.now.sk_seed.now c.args.seeds.now.pk_seed.now c.args.at c.args.c k c.secrets-nodes.result) z c.secrets-nodes.ensures;
+      kept = λ i none. absurd (omega (arith, none));
+      others = λ i other. refl;
+    }
+
+pub loop-j-preserved : goal.loop-j-preserved
+loop-j-preserved c =
+    let p = params c.args.seeds.now.set in
+    let sk = c.args.seeds.now.sk_seed.now in
+    let pk = c.args.seeds.now.pk_seed.now in
+    let d = c.args.c in
+    let every : ℕ = c.spacing-every.result in
+    let now : ℕ = c.loop-j.j in
+    let lane : ℕ = c.args.self.now.lane in
+    let old = c.loop-j.invariant in
+    let is : every ≡ spacing p = c.spacing-every.ensures.value in
+    let next : now * spacing p + spacing p ≡ (now + 1) * spacing p = omega arith in
+    record {
+      nodes = run_on p sk pk c.args.at d (now * spacing p) (now * every) every ((now + 1) * spacing p) c.key_adrs-adrs.result c.loop-j.nodes c.chains-nodes.result
+          (ap (λ k. now * k) is) (ap (λ k. now * spacing p + k) is ∙ next) c.key_adrs-adrs.ensures (c.chains-nodes.ensures p pk c.requires.lanes) old.nodes;
+      kept = λ i lt. elim (cases_lt i now) [
+        | inl below ↦ c.put_value.ensures.others i (omega arith) ∙ old.kept i below
+        | inr ge ↦
+            let e : i ≡ now = omega arith in
+            ap (part p.n (part (kept_chain_len p) c.put_value.new.kept d)) e ∙ c.put_value.ensures.set ∙ c.lane_node-value.ensures.value
+            ∙ ap (value_at c.loop-j.nodes lane) c.n-n.ensures ∙ old.nodes lane c.requires.fits ∙ ap (kept_value p sk pk (key_at c.args.at lane) d) (sym e)
+      ];
+      others = λ i other. c.put_value.ensures.chains i other ∙ old.others i other;
+    }
+
+pub returns-clause-ends : goal.returns-clause-ends
+returns-clause-ends c =
+    let s = c.args.seeds.now.set in
+    let p = params s in
+    let pk = c.args.seeds.now.pk_seed.now in
+    let is : c.spacing-every.result ≡ spacing p = c.spacing-every.ensures.value in
+    let count : c.kept_count-last.result ≡ kept_count p = c.kept_count-last.ensures.value in
+    let last : c.kept_count-last.result - 1 ≡ c.loop-j.j = omega arith in
+    let end : c.loop-j.j ≡ kept_count p - 1 = omega (arith, count) in
+    run_on p c.args.seeds.now.sk_seed.now pk c.args.at c.args.c (c.loop-j.j * spacing p) ((c.kept_count-last.result - 1) * c.spacing-every.result) (c.spacing-every.result - 1)
+    (w p - 1) c.key_adrs-adrs.result c.loop-j.nodes c.chains.result (λ k. last k * is k) ((λ k. end k * spacing p + (is k - 1)) ∙ kept_end s)
+    c.key_adrs-adrs.ensures (c.chains.ensures p pk c.requires.lanes) c.loop-j.invariant.nodes
+
+pub returns-clause-kept : goal.returns-clause-kept
+returns-clause-kept c =
+    let p = params c.args.seeds.now.set in
+    let sk = c.args.seeds.now.sk_seed.now in
+    let pk = c.args.seeds.now.pk_seed.now in
+    let d = c.args.c in
+    let lane : ℕ = c.args.self.now.lane in
+    let old = c.loop-j.invariant in
+    let signer = key_at c.args.at lane in
+    let last : c.kept_count-last.result - 1 ≡ c.loop-j.j = omega arith in
+    let size : length c.put_value-2.new.kept ≡ kept_chains_len p = omega (arith, c.put_value-2.auto.kept, c.loop-j.auto.out, c.requires.out) in
+    kept_chain-values p sk pk signer d c.put_value-2.new.kept c.requires.chain size (λ i lt. elim (cases_lt i c.loop-j.j) [
+      | inl below ↦ c.put_value-2.ensures.others i (omega (arith, last, below)) ∙ old.kept i below
+      | inr ge ↦
+          let e : i ≡ c.loop-j.j = omega (arith, lt, ge, c.kept_count-last.ensures.value, last) in
+          ap (part p.n (part (kept_chain_len p) c.put_value-2.new.kept d)) (e ∙ sym last) ∙ c.put_value-2.ensures.set ∙ c.lane_node-value-2.ensures.value
+          ∙ ap (value_at c.loop-j.nodes lane) c.n-n.ensures ∙ old.nodes lane c.requires.fits ∙ ap (kept_value p sk pk signer d) (sym e)
+    ])
+
+pub returns-clause-others : goal.returns-clause-others
+returns-clause-others c = λ i other. c.put_value-2.ensures.chains i other ∙ c.loop-j.invariant.others i other

@@ -1,0 +1,379 @@
+//! The chains of a WOTS+ key eight at a time, one in each lane (FIPS 205, section 5).
+ghost use Rattle.std.specs.Prelude.{◌≡◌, ◌≢◌, ℕ, List, ◌+◌, ◌-◌, ◌*◌, ◌%◌, ◌^◌, ◌≤◌, ◌<◌, length, slice_index};
+ghost use Rattle.slh_params.specs.AdrsType.{type_number};
+ghost use Rattle.slh_params.specs.Params.{Params, len};
+ghost use Rattle.slh_params.specs.ParamSet.{params};
+ghost use Rattle.slh_lanes.specs.Lanes.{HasAddress, IsSeededLanes, value_at};
+ghost use Rattle.slh_few.specs.Parts.{end_to_end, part};
+ghost use Rattle.slh_few.specs.RunningChains.{ChainsAt, EndAt, IsSameChain, StaysWithin};
+ghost use Rattle.slh_few.specs.Wots.{wots_address, chain as chain_of, secret};
+
+use crate::lanes::chain_order::by_steps;
+use crate::nodes::{part_at, put_part};
+use crate::place::{Place, Public, Seeds};
+use crate::wots::{MOST_STEPS, run_values_alone, wots_adrs};
+use slh_lanes::{
+    GROUP, LaneAdrs, LaneNodes, SeededLanes, Width, Words, adrs_lanes, build_widths, lane_node,
+    node_lanes, pick_nodes, set_chains, set_lane,
+};
+use slh_params::AdrsType;
+use std::simd::prelude::*;
+
+/// At least as many numbers as a key has chains in any set, 133, and whole groups.
+pub(crate) const MOST_DIGITS: usize = 17 * GROUP;
+
+/// A number for each chain of a key, with others after them up to a whole group of eight.
+pub(crate) type ChainNumbers = [u32; MOST_DIGITS];
+
+/// The numbers of eight chains, one for each lane.
+pub(crate) type ChainGroup = [u32; GROUP];
+
+/// The eight numbers from place `first` on.
+fn group_at(order: &ChainNumbers, first: usize) -> ChainGroup
+    requires { first + GROUP ≤ MOST_DIGITS }
+    ensures { (j : ℕ) → j < GROUP → slice_index result j ≡ slice_index order.now (first + j) }
+{
+    [
+        order[first],
+        order[first + 1],
+        order[first + 2],
+        order[first + 3],
+        order[first + 4],
+        order[first + 5],
+        order[first + 6],
+        order[first + 7],
+    ]
+}
+
+/// The numbers of the group's chains.
+fn numbers_of(numbers: &ChainNumbers, group: &ChainGroup) -> Words
+    requires { (j : ℕ) → j < GROUP → slice_index group.now j < MOST_DIGITS }
+    ensures { (j : ℕ) → j < GROUP → slice_index result j ≡ slice_index numbers.now (slice_index group.now j) }
+{
+    let [a, b, c, d, e, f, g, h] = *group;
+    Words::from_array([
+        numbers[a as usize],
+        numbers[b as usize],
+        numbers[c as usize],
+        numbers[d as usize],
+        numbers[e as usize],
+        numbers[f as usize],
+        numbers[g as usize],
+        numbers[h as usize],
+    ])
+}
+
+/// The addresses of the group's chains.
+fn chain_adrs(at: Place, kind: AdrsType, group: &ChainGroup) -> LaneAdrs
+    ensures { (j : ℕ) → j < GROUP
+        → HasAddress result j (wots_address at (type_number kind) (slice_index group.now j) 0) }
+{
+    let mut adrs = adrs_lanes(&wots_adrs(at, kind, 0, 0));
+    set_chains(&mut adrs, Words::from_array(*group));
+    adrs
+}
+
+/// The secrets of the group's chains.
+pub(crate) fn secret_lanes(
+    lanes: &SeededLanes,
+    sk_seed: &[u8],
+    at: Place,
+    group: &ChainGroup,
+) -> LaneNodes
+    ensures { (p : Params) (pk_seed : List ℕ) → IsSeededLanes lanes.now p pk_seed → (j : ℕ) → j < GROUP
+        → value_at result j p.n ≡ secret p sk_seed.now pk_seed at (slice_index group.now j) }
+{
+    lanes.prf(sk_seed, &chain_adrs(at, AdrsType::WotsPrf, group))
+}
+
+/// Runs the group's chains on, each from its own step and by its own number of steps.
+pub(crate) fn run_lanes(
+    lanes: &SeededLanes,
+    at: Place,
+    group: &ChainGroup,
+    x: &LaneNodes,
+    from: Words,
+    counts: Words,
+) -> LaneNodes
+    requires { (j : ℕ) → j < GROUP → slice_index from j + slice_index counts j ≤ MOST_STEPS }
+    ensures { (p : Params) (pk_seed : List ℕ) → IsSeededLanes lanes.now p pk_seed → (j : ℕ) → j < GROUP
+        → value_at result j p.n
+        ≡ chain_of p pk_seed at (slice_index group.now j) (value_at x.now j p.n)
+        (slice_index from j) (slice_index counts j) }
+{
+    lanes.chains_each(&chain_adrs(at, AdrsType::WotsHash, group), x, from, counts)
+}
+
+/// Runs the group's chains on, all from the same step and by the same number of steps.
+pub(crate) fn run_alike(
+    lanes: &SeededLanes,
+    at: Place,
+    group: &ChainGroup,
+    x: &LaneNodes,
+    from: u32,
+    count: u32,
+) -> LaneNodes
+    requires { from + count ≤ MOST_STEPS }
+    ensures { (p : Params) (pk_seed : List ℕ) → IsSeededLanes lanes.now p pk_seed → (j : ℕ) → j < GROUP
+        → value_at result j p.n
+        ≡ chain_of p pk_seed at (slice_index group.now j) (value_at x.now j p.n) from count }
+{
+    let counts = Words::splat(count);
+    run_lanes(lanes, at, group, x, Words::splat(from), counts)
+}
+
+/// Writes the values of n bytes in the first `used` lanes as the parts of `out` that have the chains' numbers.
+pub(crate) fn put_lanes(
+    out: &mut [u8],
+    n: usize,
+    group: &ChainGroup,
+    nodes: &LaneNodes,
+    used: usize,
+)
+    requires lanes { used ≤ GROUP }
+    requires n { n ≤ 32 }
+    requires out { (j : ℕ) → j < used → slice_index group.now j * n + n ≤ length out.old }
+    ensures written { (f : ℕ → List ℕ) → ((j : ℕ) → j < used → value_at nodes.now j n ≡ f (slice_index group.now j))
+        → (j : ℕ) → j < used → part n out.new (slice_index group.now j) ≡ f (slice_index group.now j) }
+    ensures kept { (f : ℕ → List ℕ) → ((j : ℕ) → j < used → value_at nodes.now j n ≡ f (slice_index group.now j))
+        → (c : ℕ) → part n out.old c ≡ f c → part n out.new c ≡ f c }
+{
+    for j in 0..used {
+        put_part(out, n, group[j] as usize, &lane_node(nodes, j, n));
+    }
+}
+
+/// The parts of n bytes that have the chains' numbers.
+fn lanes_at(values: &[u8], n: usize, group: &ChainGroup) -> LaneNodes
+    requires n { n ≤ 32 }
+    requires whole { n % 4 ≡ 0 }
+    requires within { (j : ℕ) → j < GROUP → slice_index group.now j * n + n ≤ length values.now }
+    ensures { (j : ℕ) → j < GROUP → value_at result j n ≡ part n values.now (slice_index group.now j) }
+{
+    let mut nodes = node_lanes(&[]);
+    for j in 0..GROUP {
+        set_lane(&mut nodes, j, part_at(values, n, group[j] as usize));
+    }
+    nodes
+}
+
+/// Writes the value of each chain of a key after its number of steps from its secret.
+pub(crate) fn run_secrets(seeds: &Seeds, at: Place, counts: &ChainNumbers, out: &mut [u8])
+    requires steps { (c : ℕ) → slice_index counts.now c ≤ MOST_STEPS }
+    requires out { length out.old ≡ len (params seeds.now.set) * (params seeds.now.set).n }
+    ensures { let p = params seeds.now.set in let sk_seed = seeds.now.sk_seed.now in
+        let pk_seed = seeds.now.pk_seed.now in
+        out.new ≡ end_to_end
+        (λ c. chain_of p pk_seed at c (secret p sk_seed pk_seed at c) 0 (slice_index counts.now c)) (len p) }
+{
+    let lanes = SeededLanes::new(seeds.set, seeds.pk_seed);
+    let n = seeds.set.n();
+    let count = seeds.set.len();
+    let order = by_steps(counts, count);
+    for turn in 0..count.div_ceil(GROUP) {
+        let group = group_at(&order, GROUP * turn);
+        let secrets = secret_lanes(&lanes, seeds.sk_seed, at, &group);
+        let steps = numbers_of(counts, &group);
+        let nodes = run_lanes(&lanes, at, &group, &secrets, Words::splat(0), steps);
+        put_lanes(out, n, &group, &nodes, (count - GROUP * turn).min(GROUP));
+    }
+}
+
+/// The chains that run in the lanes: their numbers, the steps that they are at, and how many each has left.
+#[derive(Clone, Copy)]
+pub(crate) struct RunningChains {
+    pub(crate) numbers: Words,
+    pub(crate) steps: Words,
+    pub(crate) left: Words,
+}
+
+/// The words with another in lane `j`.
+fn with_word(words: Words, j: usize, word: u32) -> Words
+    requires { j < GROUP }
+    ensures set { slice_index result j ≡ word }
+    ensures others { (i : ℕ) → i < GROUP → i ≢ j → slice_index result i ≡ slice_index words i }
+{
+    let lanes = Words::from_array([0, 1, 2, 3, 4, 5, 6, 7]);
+    let here = lanes.simd_eq(Words::splat(j as u32));
+    here.select(Words::splat(word), words)
+}
+
+/// The values with another value in lane `j`. No word is stored alone: a load of its vector would wait for that store.
+fn with_node(nodes: &LaneNodes, j: usize, value: &[u8]) -> LaneNodes
+    requires lane { j < GROUP }
+    requires few { length value.now ≤ 32 }
+    requires whole { length value.now % 4 ≡ 0 }
+    ensures set { value_at result j (length value.now) ≡ value.now }
+    ensures others { (i n : ℕ) → i < GROUP → i ≢ j → value_at result i n ≡ value_at nodes.now i n }
+{
+    let none = Words::splat(0);
+    pick_nodes(none, with_word(none, j, 1), &node_lanes(value), nodes)
+}
+
+/// Each word with this number more.
+fn more(words: Words, number: u32) -> Words
+    requires { (j : ℕ) → j < GROUP → slice_index words j + number < 2 ^ 32 }
+    ensures { (j : ℕ) → j < GROUP → slice_index result j ≡ slice_index words j + number }
+{
+    words + Words::splat(number)
+}
+
+/// Each word with this number less.
+fn less(words: Words, number: u32) -> Words
+    requires { (j : ℕ) → j < GROUP → number ≤ slice_index words j }
+    ensures { (j : ℕ) → j < GROUP → slice_index result j ≡ slice_index words j - number }
+{
+    words - Words::splat(number)
+}
+
+/// A lane of those whose numbers are the least.
+fn least_lane(numbers: Words) -> usize
+    requires { (j : ℕ) → j < GROUP → slice_index numbers j ≤ MOST_STEPS }
+    ensures lane { result < GROUP }
+    ensures least { (j : ℕ) → j < GROUP → slice_index numbers result ≤ slice_index numbers j }
+{
+    let numbers = numbers.to_array();
+    // The least number with that of its lane, in one.
+    let mut least = u32::MAX;
+    for j in 0..GROUP {
+        least = least.min(GROUP as u32 * numbers[j] + j as u32);
+    }
+    (least % GROUP as u32) as usize
+}
+
+impl RunningChains {
+    /// Another chain in lane `j`.
+    fn put(&mut self, j: usize, number: u32, step: u32, left: u32)
+        requires { j < GROUP }
+        ensures number { slice_index self.new.numbers j ≡ number }
+        ensures step { slice_index self.new.steps j ≡ step }
+        ensures left { slice_index self.new.left j ≡ left }
+        ensures others { (i : ℕ) → i < GROUP → i ≢ j → IsSameChain self.old self.new i }
+    {
+        self.numbers = with_word(self.numbers, j, number);
+        self.steps = with_word(self.steps, j, step);
+        self.left = with_word(self.left, j, left);
+    }
+
+    /// So many steps are taken, of those that each chain has left.
+    fn advance(&mut self, count: u32)
+        requires left { (j : ℕ) → j < GROUP → count ≤ slice_index self.old.left j }
+        requires within { StaysWithin MOST_STEPS self.old }
+        ensures numbers { self.new.numbers ≡ self.old.numbers }
+        ensures steps { (j : ℕ) → j < GROUP → slice_index self.new.steps j ≡ slice_index self.old.steps j + count }
+        ensures left { (j : ℕ) → j < GROUP → slice_index self.new.left j ≡ slice_index self.old.left j - count }
+    {
+        self.steps = more(self.steps, count);
+        self.left = less(self.left, count);
+    }
+}
+
+/// The address of a chain of the key in each lane.
+fn hash_adrs(at: Place) -> LaneAdrs
+    ensures { ChainsAt result at }
+{
+    adrs_lanes(&wots_adrs(at, AdrsType::WotsHash, 0, 0))
+}
+
+/// Runs all chains on until one has ended, writes its value of n bytes, and gives its lane. `adrs` is the address of
+/// a chain of the key in each lane.
+fn run_to_an_end(
+    lanes: &SeededLanes,
+    adrs: &LaneAdrs,
+    running: &mut RunningChains,
+    nodes: &mut LaneNodes,
+    n: usize,
+    out: &mut [u8],
+) -> usize
+    requires within { StaysWithin MOST_STEPS running.old }
+    requires n { n ≤ 32 }
+    requires out { (j : ℕ) → j < GROUP → slice_index running.old.numbers j * n + n ≤ length out.old }
+    ensures lane { result < GROUP }
+    ensures numbers { running.new.numbers ≡ running.old.numbers }
+    ensures within { StaysWithin MOST_STEPS running.new }
+    ensures ends { (f : ℕ → List ℕ) (p : Params) (pk_seed : List ℕ) (at : Place) → IsSeededLanes lanes.now p pk_seed
+        → ChainsAt adrs.now at → EndAt f p pk_seed at running.old nodes.old
+        → EndAt f p pk_seed at running.new nodes.new }
+    ensures written { (f : ℕ → List ℕ) (p : Params) (pk_seed : List ℕ) (at : Place) → IsSeededLanes lanes.now p pk_seed
+        → ChainsAt adrs.now at → EndAt f p pk_seed at running.old nodes.old → p.n ≡ n
+        → part n out.new (slice_index running.old.numbers result) ≡ f (slice_index running.old.numbers result) }
+    ensures kept { (f : ℕ → List ℕ) (p : Params) (pk_seed : List ℕ) (at : Place) → IsSeededLanes lanes.now p pk_seed
+        → ChainsAt adrs.now at → EndAt f p pk_seed at running.old nodes.old → p.n ≡ n
+        → (c : ℕ) → part n out.old c ≡ f c → part n out.new c ≡ f c }
+{
+    let j = least_lane(running.left);
+    let count = running.left.to_array()[j];
+    let mut here = *adrs;
+    set_chains(&mut here, running.numbers);
+    *nodes = lanes.chains_each(&here, nodes, running.steps, Words::splat(count));
+    running.advance(count);
+    let number = running.numbers.to_array()[j];
+    put_part(out, n, number as usize, &lane_node(nodes, j, n));
+    j
+}
+
+/// Writes the value that each chain of a key has when it is run on from the value given, each from its own step and by
+/// its own number of steps, in lanes. The chains are taken from the longest to the shortest: a lane whose chain has
+/// ended takes the next.
+fn run_values_in_lanes(
+    public: &Public,
+    at: Place,
+    values: &[u8],
+    from: &ChainNumbers,
+    counts: &ChainNumbers,
+    out: &mut [u8],
+)
+    requires steps { (c : ℕ) → c < MOST_DIGITS → slice_index from.now c + slice_index counts.now c ≤ MOST_STEPS }
+    requires values { length values.now ≡ len (params public.now.set) * (params public.now.set).n }
+    requires out { length out.old ≡ len (params public.now.set) * (params public.now.set).n }
+    ensures { let p = params public.now.set in let pk_seed = public.now.pk_seed.now in
+        out.new ≡ end_to_end (λ c. chain_of p pk_seed at c (part p.n values.now c)
+        (slice_index from.now c) (slice_index counts.now c)) (len p) }
+{
+    let lanes = SeededLanes::new(public.set, public.pk_seed);
+    let n = public.set.n();
+    let count = public.set.len();
+    let order = by_steps(counts, count);
+    let adrs = hash_adrs(at);
+    let group = group_at(&order, 0);
+    let mut nodes = lanes_at(values, n, &group);
+    let mut running = RunningChains {
+        numbers: Words::from_array(group),
+        steps: numbers_of(from, &group),
+        left: numbers_of(counts, &group),
+    };
+    for place in GROUP..count {
+        let j = run_to_an_end(&lanes, &adrs, &mut running, &mut nodes, n, out);
+        let next = order[place];
+        nodes = with_node(&nodes, j, part_at(values, n, next as usize));
+        running.put(j, next, from[next as usize], counts[next as usize]);
+    }
+    let last = running.numbers.to_array();
+    let ends = run_lanes(&lanes, at, &last, &nodes, running.steps, running.left);
+    put_lanes(out, n, &last, &ends, GROUP);
+}
+
+/// Writes the value that each chain of a key has when it is run on from the value given, each from its own step and by
+/// its own number of steps. A build with one lane runs one chain after another, and holds no code for lanes here.
+pub(crate) fn run_values(
+    public: &Public,
+    at: Place,
+    values: &[u8],
+    from: &ChainNumbers,
+    counts: &ChainNumbers,
+    out: &mut [u8],
+)
+    requires steps { (c : ℕ) → c < MOST_DIGITS → slice_index from.now c + slice_index counts.now c ≤ MOST_STEPS }
+    requires values { length values.now ≡ len (params public.now.set) * (params public.now.set).n }
+    requires out { length out.old ≡ len (params public.now.set) * (params public.now.set).n }
+    ensures { let p = params public.now.set in let pk_seed = public.now.pk_seed.now in
+        out.new ≡ end_to_end (λ c. chain_of p pk_seed at c (part p.n values.now c)
+        (slice_index from.now c) (slice_index counts.now c)) (len p) }
+{
+    match build_widths().short {
+        Width::One => run_values_alone(public, at, values, from, counts, out),
+        Width::Four | Width::Eight | Width::Sixteen => {
+            run_values_in_lanes(public, at, values, from, counts, out)
+        }
+    }
+}

@@ -1,0 +1,145 @@
+//! Two chains of each of eight WOTS+ keys at once, those of a key in one lane of two groups (FIPS 205, section 5).
+ghost use Rattle.std.specs.Prelude.{◌≡◌, ◌≢◌, ℕ, List, [], ◌+◌, ◌-◌, ◌*◌, ◌^◌, ◌≤◌, ◌<◌, length};
+ghost use Rattle.slh_params.specs.Params.{Params, len};
+ghost use Rattle.slh_params.specs.ParamSet.{params};
+ghost use Rattle.slh_lanes.specs.Lanes.{IsSeededLanes};
+ghost use Rattle.slh_few.specs.KeyStreams.{AreAfter, AreEnds};
+ghost use Rattle.slh_few.specs.Parts.{part};
+
+use crate::lanes::keys::key_adrs;
+use crate::place::{Place, Seeds};
+use slh_lanes::{GROUP, LaneNodes, SeededLanes};
+use slh_params::AdrsType;
+
+/// What is kept of the chains of eight keys while they run to their ends, one key in each lane: of each chain as many
+/// bytes as of any other.
+pub(crate) trait Kept {
+    ghost use Rattle.slh_few.specs.declared.place.Place.{Place};
+
+    /// Whether this can be kept of keys of a set.
+    ghost fits: { Self → Params → Type 0 };
+
+    /// How many bytes are kept of a chain.
+    ghost size: { Self → Params → ℕ };
+
+    /// What is kept of a chain of the eight keys from a place on, under SK.seed and PK.seed.
+    ghost kept: { Self → Params → List ℕ → List ℕ → Place → ℕ → List ℕ };
+
+    /// The ends of two chains of eight keys, of which the first is at this place: those of chain `c` are written into
+    /// `x`, and those of chain `c + 1` into `y`. What is kept of both chains is written into `out`.
+    fn two_ends(
+        &self,
+        lanes: &SeededLanes,
+        seeds: &Seeds,
+        at: Place,
+        c: u32,
+        x: &mut LaneNodes,
+        y: &mut LaneNodes,
+        out: &mut [u8],
+    )
+        requires lanes { IsSeededLanes lanes.now (params seeds.now.set) seeds.now.pk_seed.now }
+        requires pairs { at.pair + GROUP ≤ 2 ^ 32 }
+        requires fits { fits self.now (params seeds.now.set) }
+        requires chains { c + 1 < len (params seeds.now.set) }
+        requires out { length out.old ≡ len (params seeds.now.set) * size self.now (params seeds.now.set) }
+        ensures x { AreEnds (params seeds.now.set) seeds.now.sk_seed.now seeds.now.pk_seed.now at c x.new }
+        ensures y { AreEnds (params seeds.now.set) seeds.now.sk_seed.now seeds.now.pk_seed.now at (c + 1) y.new }
+        ensures x_kept { let p = params seeds.now.set in
+            part (size self.now p) out.new c ≡ kept self.now p seeds.now.sk_seed.now seeds.now.pk_seed.now at c }
+        ensures y_kept { let p = params seeds.now.set in part (size self.now p) out.new (c + 1)
+            ≡ kept self.now p seeds.now.sk_seed.now seeds.now.pk_seed.now at (c + 1) }
+        ensures others { let p = params seeds.now.set in (i : ℕ) → i ≢ c → i ≢ c + 1
+            → part (size self.now p) out.new i ≡ part (size self.now p) out.old i };
+
+    /// The ends of chain `c` of eight keys, of which the first is at this place. What is kept of the chain is written
+    /// into `out`.
+    fn ends(
+        &self,
+        lanes: &SeededLanes,
+        seeds: &Seeds,
+        at: Place,
+        c: u32,
+        out: &mut [u8],
+    ) -> LaneNodes
+        requires lanes { IsSeededLanes lanes.now (params seeds.now.set) seeds.now.pk_seed.now }
+        requires pairs { at.pair + GROUP ≤ 2 ^ 32 }
+        requires fits { fits self.now (params seeds.now.set) }
+        requires chain { c < len (params seeds.now.set) }
+        requires out { length out.old ≡ len (params seeds.now.set) * size self.now (params seeds.now.set) }
+        ensures ends { AreEnds (params seeds.now.set) seeds.now.sk_seed.now seeds.now.pk_seed.now at c result }
+        ensures kept { let p = params seeds.now.set in
+            part (size self.now p) out.new c ≡ kept self.now p seeds.now.sk_seed.now seeds.now.pk_seed.now at c }
+        ensures others { let p = params seeds.now.set in (i : ℕ) → i ≢ c
+            → part (size self.now p) out.new i ≡ part (size self.now p) out.old i };
+}
+
+/// Nothing is kept.
+#[derive(Drop)]
+pub(crate) struct Nothing;
+
+impl Kept for Nothing {
+    ghost fits = { λ k p. Unit {0} };
+
+    ghost size = { λ k p. 0 };
+
+    ghost kept = { λ k p sk_seed pk_seed at c. [] };
+
+    fn two_ends(
+        &self,
+        lanes: &SeededLanes,
+        seeds: &Seeds,
+        at: Place,
+        c: u32,
+        x: &mut LaneNodes,
+        y: &mut LaneNodes,
+        _out: &mut [u8],
+    ) {
+        two_secrets(lanes, seeds, at, c, c + 1, x, y);
+        let x_adrs = key_adrs(at, AdrsType::WotsHash, c);
+        let y_adrs = key_adrs(at, AdrsType::WotsHash, c + 1);
+        lanes.chains_two(&x_adrs, &y_adrs, x, y, 0, seeds.set.w() - 1);
+    }
+
+    fn ends(
+        &self,
+        lanes: &SeededLanes,
+        seeds: &Seeds,
+        at: Place,
+        c: u32,
+        _out: &mut [u8],
+    ) -> LaneNodes {
+        let adrs = key_adrs(at, AdrsType::WotsHash, c);
+        let values = secrets(lanes, seeds, at, c);
+        lanes.chains(&adrs, &values, 0, seeds.set.w() - 1)
+    }
+}
+
+/// The secrets of chain `c` of eight keys, of which the first is at this place.
+pub(crate) fn secrets(lanes: &SeededLanes, seeds: &Seeds, at: Place, c: u32) -> LaneNodes
+    requires lanes { IsSeededLanes lanes.now (params seeds.now.set) seeds.now.pk_seed.now }
+    requires pairs { at.pair + GROUP ≤ 2 ^ 32 }
+    ensures { AreAfter (params seeds.now.set) seeds.now.sk_seed.now seeds.now.pk_seed.now at c 0 result }
+{
+    lanes.prf(seeds.sk_seed, &key_adrs(at, AdrsType::WotsPrf, c))
+}
+
+/// The secrets of two chains of eight keys, of which the first is at this place: those of chain `a` are written into
+/// `x`, and those of chain `b` into `y`.
+pub(crate) fn two_secrets(
+    lanes: &SeededLanes,
+    seeds: &Seeds,
+    at: Place,
+    a: u32,
+    b: u32,
+    x: &mut LaneNodes,
+    y: &mut LaneNodes,
+)
+    requires lanes { IsSeededLanes lanes.now (params seeds.now.set) seeds.now.pk_seed.now }
+    requires pairs { at.pair + GROUP ≤ 2 ^ 32 }
+    ensures x { AreAfter (params seeds.now.set) seeds.now.sk_seed.now seeds.now.pk_seed.now at a 0 x.new }
+    ensures y { AreAfter (params seeds.now.set) seeds.now.sk_seed.now seeds.now.pk_seed.now at b 0 y.new }
+{
+    let x_adrs = key_adrs(at, AdrsType::WotsPrf, a);
+    let y_adrs = key_adrs(at, AdrsType::WotsPrf, b);
+    lanes.prf_two(seeds.sk_seed, &x_adrs, &y_adrs, x, y);
+}

@@ -1,0 +1,108 @@
+//! Chains of eight WOTS+ keys at once, with what `wots_pk_keeping` keeps of one of the keys.
+ghost use Rattle.std.specs.Prelude.{◌≡◌, ◌≢◌, ℕ, ◌+◌, ◌-◌, ◌*◌, ◌<◌, length};
+ghost use Rattle.slh_params.specs.Params.{len};
+ghost use Rattle.slh_params.specs.ParamSet.{params};
+ghost use Rattle.slh_lanes.specs.Lanes.{value_at};
+ghost use Rattle.slh_few.specs.KeptChains.{kept_chain, kept_chain_len as chain_len, kept_chains_len as chains_len, kept_count as kept_count_of};
+ghost use Rattle.slh_few.specs.KeyStreams.{key_at};
+ghost use Rattle.slh_few.specs.Parts.{part};
+
+use crate::kept_chains::{kept_count, put_value, spacing};
+use crate::lanes::keys::key_adrs;
+use crate::lanes::two_chains::{Kept, secrets, two_secrets};
+use crate::place::{Place, Seeds};
+use slh_lanes::{GROUP, LaneNodes, SeededLanes, lane_node};
+use slh_params::{AdrsType, ParamSet};
+
+/// The kept values of the chains of the key in this lane. The chains are run from one kept value to the next.
+#[derive(Drop)]
+pub(crate) struct KeptValues {
+    pub(crate) lane: usize,
+}
+
+impl Kept for KeptValues {
+    ghost use Rattle.slh_lanes.specs.declared.words.TheConstants.{GROUP};
+
+    ghost fits = { λ k p. k.lane < GROUP };
+
+    ghost size = { λ k p. chain_len p };
+
+    ghost kept = { λ k p sk_seed pk_seed at c. kept_chain p sk_seed pk_seed (key_at at k.lane) c };
+
+    fn two_ends(
+        &self,
+        lanes: &SeededLanes,
+        seeds: &Seeds,
+        at: Place,
+        c: u32,
+        x: &mut LaneNodes,
+        y: &mut LaneNodes,
+        out: &mut [u8],
+    ) {
+        let every = spacing(seeds.set);
+        let last = kept_count(seeds.set) - 1;
+        two_secrets(lanes, seeds, at, c, c + 1, x, y);
+        let x_adrs = key_adrs(at, AdrsType::WotsHash, c);
+        let y_adrs = key_adrs(at, AdrsType::WotsHash, c + 1);
+        for j in 0..last {
+            put_two_values(seeds.set, out, c as usize, j as usize, self.lane, x, y);
+            lanes.chains_two(&x_adrs, &y_adrs, x, y, j * every, every);
+        }
+        put_two_values(seeds.set, out, c as usize, last as usize, self.lane, x, y);
+        lanes.chains_two(&x_adrs, &y_adrs, x, y, last * every, every - 1);
+    }
+
+    fn ends(
+        &self,
+        lanes: &SeededLanes,
+        seeds: &Seeds,
+        at: Place,
+        c: u32,
+        out: &mut [u8],
+    ) -> LaneNodes {
+        let n = seeds.set.n();
+        let every = spacing(seeds.set);
+        let last = kept_count(seeds.set) - 1;
+        let adrs = key_adrs(at, AdrsType::WotsHash, c);
+        let mut nodes = secrets(lanes, seeds, at, c);
+        for j in 0..last {
+            let value = lane_node(&nodes, self.lane, n);
+            put_value(seeds.set, out, c as usize, j as usize, &value);
+            nodes = lanes.chains(&adrs, &nodes, j * every, every);
+        }
+        let value = lane_node(&nodes, self.lane, n);
+        put_value(seeds.set, out, c as usize, last as usize, &value);
+        lanes.chains(&adrs, &nodes, last * every, every - 1)
+    }
+}
+
+/// Writes value `j` of the kept values of two chains: that of chain `c` from this lane of `x`, and that of chain
+/// `c + 1` from this lane of `y`.
+fn put_two_values(
+    set: ParamSet,
+    kept: &mut [u8],
+    c: usize,
+    j: usize,
+    lane: usize,
+    x: &LaneNodes,
+    y: &LaneNodes,
+)
+    requires kept { length kept.old ≡ chains_len (params set) }
+    requires chains { c + 1 < len (params set) }
+    requires number { j < kept_count_of (params set) }
+    requires lane { lane < GROUP }
+    ensures x { part (params set).n (part (chain_len (params set)) kept.new c) j ≡ value_at x.now lane (params set).n }
+    ensures y { part (params set).n (part (chain_len (params set)) kept.new (c + 1)) j
+        ≡ value_at y.now lane (params set).n }
+    ensures x_others { (i : ℕ) → i ≢ j → part (params set).n (part (chain_len (params set)) kept.new c) i
+        ≡ part (params set).n (part (chain_len (params set)) kept.old c) i }
+    ensures y_others { (i : ℕ) → i ≢ j → part (params set).n (part (chain_len (params set)) kept.new (c + 1)) i
+        ≡ part (params set).n (part (chain_len (params set)) kept.old (c + 1)) i }
+    ensures chains { (d : ℕ) → d ≢ c → d ≢ c + 1 → part (chain_len (params set)) kept.new d
+        ≡ part (chain_len (params set)) kept.old d }
+{
+    let x_value = lane_node(x, lane, set.n());
+    put_value(set, kept, c, j, &x_value);
+    let y_value = lane_node(y, lane, set.n());
+    put_value(set, kept, c + 1, j, &y_value);
+}
