@@ -28,10 +28,10 @@
 
 /* The version of this header: three numbers, the number that slh_version returns of the same version, and the text. */
 #define SLH_VERSION_MAJOR 0
-#define SLH_VERSION_MINOR 8
+#define SLH_VERSION_MINOR 9
 #define SLH_VERSION_PATCH 0
 #define SLH_VERSION_NUMBER (1000000 * SLH_VERSION_MAJOR + 1000 * SLH_VERSION_MINOR + SLH_VERSION_PATCH)
-#define SLH_VERSION "0.8.0"
+#define SLH_VERSION "0.9.0"
 
 /* Stands before each call whose result has to be looked at. A compiler that can warns where that is not done. */
 #if defined(__cplusplus) && __cplusplus >= 201703L
@@ -135,7 +135,7 @@ enum slh_result {
  * The memory that the portable slh_verify.c takes for a set in bytes (docs/FIRMWARE.md): its signature, a context, a
  * digest or a message of 64 bytes, the stack and the constants of the proved code. A longer message takes as many more.
  */
-#define SLH_VERIFY_MEMORY_FOR(signature, message) (16128 + ((signature) + 15) / 16 * 16 + ((message) + 15) / 16 * 16)
+#define SLH_VERIFY_MEMORY_FOR(signature, message) (13856 + ((signature) + 15) / 16 * 16 + ((message) + 15) / 16 * 16)
 #define SLH_DSA_SHA2_128S_VERIFY_MEMORY SLH_VERIFY_MEMORY_FOR(SLH_DSA_SHA2_128S_SIGNATURE, 0)
 #define SLH_DSA_SHA2_128F_VERIFY_MEMORY SLH_VERIFY_MEMORY_FOR(SLH_DSA_SHA2_128F_SIGNATURE, 0)
 #define SLH_DSA_SHA2_192S_VERIFY_MEMORY SLH_VERIFY_MEMORY_FOR(SLH_DSA_SHA2_192S_SIGNATURE, 0)
