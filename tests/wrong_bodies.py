@@ -5,7 +5,7 @@ usage: tests/wrong_bodies.py CRATE[/EDIT]..  all edits of these crates, or one o
        tests/wrong_bodies.py --all          all edits
        tests/wrong_bodies.py --changed      all edits of each crate that is not as the list says
        tests/wrong_bodies.py --gate [SEED]  these, and edits of some more crates, drawn by SEED or at random, until they
-                                            are a sixteenth of all
+                                            are a thirty-second of all
        --write with any of these            writes the list anew for each crate whose edits were all tried and refused
 
 An edit is a file crates/NAME/wrong/EDIT.edit with lines
@@ -43,7 +43,7 @@ from kit import ROOT, USES
 
 LIST = os.path.join(ROOT, "tests", "wrong_bodies.txt")
 PARTS = ("src", "specs", "proofs")
-SHARE = 16
+SHARE = 32
 # What the prover says of a proof file that names what the edit took away.
 NAMES = re.compile(r"(\./)?proofs/.*(has no field|is not in scope|has no `|was not admitted|is no name)")
 # The declaration of a type or a trait.
@@ -305,7 +305,7 @@ def try_all(runs, jobs):
 
 
 def drawn(runs, seed):
-    """Edits by crate: those of runs, and of crates drawn at random as many as make them a sixteenth of all. The check of
+    """Edits by crate: those of runs, and of crates drawn at random as many as make a thirty-second of all. The check of
     the crate as it is costs more than an edit, so crates are drawn; of the last one only the edits that are wanted still."""
     left = -(-sum(len(edits(name)) for name in USES) // SHARE) - sum(map(len, runs.values()))
     draw, others = random.Random(seed), [name for name in USES if name not in runs and edits(name)]
@@ -321,7 +321,7 @@ def arguments():
     parser.add_argument("crate", nargs="*", metavar="CRATE[/EDIT]", help="crates whose edits are tried, or edits")
     parser.add_argument("--all", action="store_true", help="all edits")
     parser.add_argument("--changed", action="store_true", help="the edits of each crate that is not as listed")
-    parser.add_argument("--gate", nargs="?", const=random.randrange(1_000_000), type=int, metavar="SEED", help="these, and edits of more crates until they are a sixteenth of all")
+    parser.add_argument("--gate", nargs="?", const=random.randrange(1_000_000), type=int, metavar="SEED", help="these, and edits of more crates until they are a thirty-second of all")
     parser.add_argument("--write", action="store_true", help="writes the list")
     parser.add_argument("--jobs", type=int, default=len(os.sched_getaffinity(0)), help="how many checks run at once")
     return parser.parse_args()

@@ -64,7 +64,7 @@ func (secret *SecretKey) signJobs(key []byte, options Options, begin writing) ([
 		return nil, err
 	}
 	defer it.erase()
-	if err := done(begin(it.start)); err != nil {
+	if err := done(uninterrupted(func() C.uint32_t { return begin(it.start) })); err != nil {
 		return nil, err
 	}
 	if err := it.answer(options.Workers); err != nil {
@@ -147,6 +147,8 @@ var runTask = (*signing).run
 
 // run does a job.
 func (it *signing) run(next task) error {
-	return done(C.slh_sign_job(it.set, it.levels, forsLevels, at(it.key), size(it.key), at(it.start), size(it.start),
-		C.uint32_t(next.job), at(next.answer), size(next.answer)))
+	return done(uninterrupted(func() C.uint32_t {
+		return C.slh_sign_job(it.set, it.levels, forsLevels, at(it.key), size(it.key), at(it.start), size(it.start),
+			C.uint32_t(next.job), at(next.answer), size(next.answer))
+	}))
 }

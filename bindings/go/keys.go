@@ -246,8 +246,10 @@ func Keygen(set Set, skSeed, skPrf, pkSeed []byte) (*SecretKey, error) {
 		return nil, err
 	}
 	bytes := make([]byte, lengths.SecretKey)
-	err = done(C.slh_keygen(C.uint32_t(set), at(skSeed), size(skSeed), at(skPrf), size(skPrf), at(pkSeed), size(pkSeed),
-		at(bytes), size(bytes)))
+	err = done(uninterrupted(func() C.uint32_t {
+		return C.slh_keygen(C.uint32_t(set), at(skSeed), size(skSeed), at(skPrf), size(skPrf), at(pkSeed), size(pkSeed),
+			at(bytes), size(bytes))
+	}))
 	if err != nil {
 		return nil, err
 	}
@@ -296,7 +298,9 @@ func (secret *SecretKey) Public() crypto.PublicKey {
 func (secret *SecretKey) PublicKey() *PublicKey {
 	public := &PublicKey{secret.set, make([]byte, secret.lengths.PublicKey)}
 	err := secret.use(func(key []byte) error {
-		return done(C.slh_public(C.uint32_t(secret.set), at(key), size(key), at(public.bytes), size(public.bytes)))
+		return done(uninterrupted(func() C.uint32_t {
+			return C.slh_public(C.uint32_t(secret.set), at(key), size(key), at(public.bytes), size(public.bytes))
+		}))
 	})
 	if err != nil {
 		panic(err) // All lengths are those of the set.
@@ -307,7 +311,9 @@ func (secret *SecretKey) PublicKey() *PublicKey {
 // Check returns nil where PK.root is the root that the seeds give, and else ErrInvalid. This takes as long as Keygen.
 func (secret *SecretKey) Check() error {
 	return secret.use(func(key []byte) error {
-		return done(C.slh_check(C.uint32_t(secret.set), at(key), size(key)))
+		return done(uninterrupted(func() C.uint32_t {
+			return C.slh_check(C.uint32_t(secret.set), at(key), size(key))
+		}))
 	})
 }
 
@@ -412,7 +418,7 @@ type writing func(out []byte) C.uint32_t
 // written returns what a call writes into the room for a signature.
 func (secret *SecretKey) written(call writing) ([]byte, error) {
 	sig := make([]byte, secret.lengths.Signature)
-	if err := done(call(sig)); err != nil {
+	if err := done(uninterrupted(func() C.uint32_t { return call(sig) })); err != nil {
 		return nil, err
 	}
 	return sig, nil

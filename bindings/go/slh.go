@@ -29,6 +29,7 @@ import (
 	"crypto"
 	"errors"
 	"fmt"
+	"runtime"
 	"unsafe"
 )
 
@@ -152,6 +153,17 @@ func done(result C.uint32_t) error {
 	default:
 		return Refusal(result)
 	}
+}
+
+// uninterrupted runs a call that takes secrets, on a thread that no signal interrupts meanwhile: the system would save all
+// registers on the stack of the handler. Go's runtime interrupts threads by signals, also in C.
+func uninterrupted(call func() C.uint32_t) C.uint32_t {
+	runtime.LockOSThread()
+	defer runtime.UnlockOSThread()
+	var before C.signals
+	C.block_signals(&before)
+	defer C.restore_signals(&before)
+	return call()
 }
 
 // at returns where bytes begin, and nil where there are none.

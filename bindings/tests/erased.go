@@ -1,5 +1,6 @@
-// A program for tests/packages_memory.py, which says what it does. Where a signal interrupts a goroutine the system saves
-// the registers. So on x86-64 this also looks whether a call leaves SK.seed or SK.prf in xmm0 to xmm15.
+// A program for tests/packages_memory.py, which says what it does. Where a signal interrupts a thread the system saves the
+// registers. So this sends itself many signals, by which Go's runtime interrupts goroutines. And on x86-64 it looks
+// whether a call leaves SK.seed or SK.prf in xmm0 to xmm15.
 package main
 
 /*
@@ -23,12 +24,15 @@ import (
 	"fmt"
 	"io"
 	"os"
+	"syscall"
+	"time"
 	"unsafe"
 
 	"pipitscreen/slh"
 )
 
 func main() {
+	go sendSignals()
 	message, in := []byte("letter"), bufio.NewReader(os.Stdin)
 	secret, err := slh.Generate(nil, slh.SLH_DSA_SHA2_128F)
 	expect(err)
@@ -61,6 +65,13 @@ func main() {
 	secret.Destroy()
 	fmt.Println("erased")
 	io.Copy(io.Discard, in)
+}
+
+// sendSignals sends this process a signal each 50 microseconds.
+func sendSignals() {
+	for range time.Tick(50 * time.Microsecond) {
+		expect(syscall.Kill(os.Getpid(), syscall.SIGURG))
+	}
 }
 
 // expectNoneInVectors panics on x86-64 where SK.seed or SK.prf stands in a register for vectors, and elsewhere it does
