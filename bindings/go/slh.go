@@ -155,8 +155,8 @@ func done(result C.uint32_t) error {
 	}
 }
 
-// uninterrupted runs a call that takes secrets, on a thread that no signal interrupts meanwhile: the system would save all
-// registers on the stack of the handler. Go's runtime interrupts threads by signals, also in C.
+// uninterrupted runs a call that takes secrets, on a thread that no signal interrupts meanwhile. The system would save
+// all registers on the stack of the handler, and Go's runtime interrupts threads by signals, also in C.
 func uninterrupted(call func() C.uint32_t) C.uint32_t {
 	runtime.LockOSThread()
 	defer runtime.UnlockOSThread()
