@@ -5,12 +5,15 @@
  *
  *     alone    between the end of the run before and this run: the program's first thread alone
  *     span     how long the run took
- *     work     the processor time of all its threads, over their number
- *     start    how long after the start of the run a thread began, the mean over all threads
- *     wait     how long a thread could have run and had no processor, after it had begun, the mean
- *     tail     how long before the end of the run a thread had nothing more to do, the mean
+ *     work     the processor time of the threads that worked, over their number
+ *     start    how long after the start of the run such a thread began, the mean
+ *     wait     how long such a thread could have run and had no processor, after it had begun, the mean
+ *     tail     how long before the end of the run such a thread had nothing more to do, the mean
+ *     others   the processor time of all other threads: those that took less than a tenth of what one took that worked,
+ *              since they did no more than start threads
  *
- * So span is about work + start + wait + tail. Then `shared`, the runs in which two threads began on one processor.
+ * So span is about work + start + wait + tail. Then `shared`, the runs in which two threads that worked began on one
+ * processor.
  *
  *     cc -O1 -shared -fPIC -o times.so benches/thread_times.c
  *     LD_PRELOAD=./times.so crates/slh_bench/out/slh_bench sign_par 50 SLH-DSA-SHA2-128f 4
@@ -29,7 +32,7 @@
 #include <time.h>
 #include <unistd.h>
 
-enum { MOST_THREADS = 64 };
+enum { MOST_THREADS = 128 };
 
 typedef int64_t nanoseconds;
 
@@ -40,7 +43,7 @@ struct part {
 };
 
 struct run {
-    nanoseconds alone, span, work, start, wait, tail;
+    nanoseconds alone, span, work, start, wait, tail, others;
 };
 
 static pthread_mutex_t lock = PTHREAD_MUTEX_INITIALIZER;
@@ -85,7 +88,20 @@ static void be_done(void) {
 
 static void add(struct run *to, const struct run *from) {
     to->alone += from->alone, to->span += from->span, to->work += from->work;
-    to->start += from->start, to->wait += from->wait, to->tail += from->tail;
+    to->start += from->start, to->wait += from->wait, to->tail += from->tail, to->others += from->others;
+}
+
+/* Moves the threads that worked to the front, gives the processor time of the others to the run, and returns how many
+ * worked. */
+static int workers(struct run *run) {
+    nanoseconds most = 0;
+    int count = 0;
+    for (int i = 0; i < begun; i++) most = parts[i].work > most ? parts[i].work : most;
+    for (int i = 0; i < begun; i++) {
+        if (10 * parts[i].work >= most) parts[count++] = parts[i];
+        else run->others += parts[i].work;
+    }
+    return count;
 }
 
 /* Adds up the run that has just ended. */
@@ -94,10 +110,11 @@ static void end_run(void) {
     struct run run = {0};
     int met = 0;
     run_end = now(CLOCK_MONOTONIC);
-    for (int i = 0; i < begun; i++) last = parts[i].done > last ? parts[i].done : last;
-    for (int i = 0; i < begun; i++) {
-        run.work += parts[i].work / begun, run.wait += parts[i].wait / begun;
-        run.start += (parts[i].began - run_start) / begun, run.tail += (last - parts[i].done) / begun;
+    int count = workers(&run);
+    for (int i = 0; i < count; i++) last = parts[i].done > last ? parts[i].done : last;
+    for (int i = 0; i < count; i++) {
+        run.work += parts[i].work / count, run.wait += parts[i].wait / count;
+        run.start += (parts[i].began - run_start) / count, run.tail += (last - parts[i].done) / count;
         for (int k = 0; k < i; k++) met |= parts[i].processor == parts[k].processor;
     }
     run.span = run_end - run_start, run.alone = run_start - before;
@@ -147,8 +164,9 @@ int pthread_join(pthread_t id, void **answer) {
 
 static void print(const char *name, const struct run *run, long over) {
     double scale = 1000.0 * (double)over;
-    fprintf(stderr, "%s: alone %.0f span %.0f work %.0f start %.0f wait %.0f tail %.0f\n", name, run->alone / scale,
-            run->span / scale, run->work / scale, run->start / scale, run->wait / scale, run->tail / scale);
+    fprintf(stderr, "%s: alone %.0f span %.0f work %.0f start %.0f wait %.0f tail %.0f others %.0f\n", name,
+            run->alone / scale, run->span / scale, run->work / scale, run->start / scale, run->wait / scale,
+            run->tail / scale, run->others / scale);
 }
 
 /* A program of `rt` ends by `_exit`. */

@@ -73,16 +73,17 @@ tell_least_stack() {
     tell "ulimit -s 192: $*" "$([ "$(under -s 192 "$@" 2>/dev/null)" = right ] && echo yes || echo no)"
 }
 
-# The same of a command with 64 workers where each of their 63 threads is refused, so that the first thread does all.
-# The calls that ask for threads nest 6 deep and take some 800 bytes of stack each. Nested 63 deep they would take some
-# 50,000, for which 192 KB has room as well; so the bytes between the requests are looked at, too.
+# The same of a command with 64 workers where each of their 95 threads is refused, so that the first thread does all: 64
+# that work, and 31 that do no more than start others.
+# The calls that ask for threads nest 6 deep and take some 1,200 bytes of stack each. Nested 63 deep they would take some
+# 75,000, for which 192 KB has room as well; so the bytes between the requests are looked at, too.
 tell_without_threads() {
     local came threads deepest answer=no
     : >refused
     came=$(REFUSED=refused LD_PRELOAD=$work/refuse_threads.so under -s 192 "$@" 2>/dev/null)
     threads=$(wc -l <refused)
     deepest=$(sort -n refused | tail -n 1)
-    [ "$came" = right ] && [ "$threads" = 63 ] && [ "$deepest" -lt 6000 ] && answer=yes
+    [ "$came" = right ] && [ "$threads" = 95 ] && [ "$deepest" -lt 8000 ] && answer=yes
     tell "ulimit -s 192 and $threads threads refused, $deepest bytes apart at most: $*: $came" $answer
 }
 

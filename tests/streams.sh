@@ -331,10 +331,14 @@ has_threads() {
     [ $most = "$wanted" ]
 }
 
+# Each of several workers has a thread of its own. Other threads, the first of the program among them, start these and
+# do no work: one for each list of two seats or more that a thread is started for. So they are 2 for 3 workers (lists of
+# 3 and 2) and 5 for 9 (9, 5, 3, 2 and 2).
 while read -r words; do
     check "one thread without --workers: $words" has_threads 1 $words
-    for workers in 1 3 9; do
-        check "as many threads for --workers $workers: $words" has_threads $workers $words --workers $workers
+    for numbers in 1:1 3:5 9:14; do
+        check "${numbers#*:} threads for --workers ${numbers%:*}: $words" \
+            has_threads "${numbers#*:}" $words --workers "${numbers%:*}"
     done
 done <<END
 sign --key long_secret --message abc --xmss-levels 8

@@ -109,7 +109,7 @@ def contracts_of(text):
         function = re.match(r"(\s*)(pub(?:\(\w+\))? )?(?:(?:final|const|unsafe|extern \"C\") )*fn \w", line)
         if function and indent is None:
             indent, is_shown = function[1], function[2] == "pub " or "trait " in owner or " for " in owner
-        is_own = re.match(r"\s*((ghost )?use |mod |(pub\(crate\) )?const |#\[tactic)", line)
+        is_own = re.match(r"\s*((ghost )?use |mod |(pub\(crate\) )?const |#\[(tactic|cycle))", line)
         if is_shown if indent is not None else not is_own:
             kept.append(line)
         if indent is not None and line.endswith("{") and re.match(r"\s*", line)[0] == indent:

@@ -6,6 +6,9 @@ use slh_params::ParamSet;
 /// As many jobs for each worker, where the trees have as many leaves, keep all workers at work until nearly the end.
 const JOBS_EACH: u32 = 16;
 
+/// Lanes are filled with the eight leaves below a node of this height. A range of fewer leaves leaves lanes idle.
+const FULL_HEIGHT: u32 = 3;
+
 /// The workers, and the levels by which the trees are cut.
 #[derive(Clone, Copy)]
 pub struct Sharing {
@@ -18,11 +21,12 @@ pub struct Sharing {
     pub fors: u32,
 }
 
-/// The least levels, at most `height` and 8, that cut this many trees into as many jobs as asked for, or else the most.
-fn levels_for(jobs: u32, trees: u32, height: u32) -> u32 {
-    (0..height.min(MOST_LEVELS))
+/// The least levels, up to `most` and 8, that cut this many trees into as many jobs as asked for, or else these.
+fn levels_for(jobs: u32, trees: u32, most: u32) -> u32 {
+    let most = most.min(MOST_LEVELS);
+    (0..most)
         .find(|&levels| trees.saturating_mul(1 << levels) >= jobs)
-        .unwrap_or(height.min(MOST_LEVELS))
+        .unwrap_or(most)
 }
 
 impl Sharing {
@@ -37,7 +41,7 @@ impl Sharing {
         Some(Sharing {
             workers,
             top: levels.unwrap_or(levels_for(jobs, 1, set.hp())),
-            xmss: levels.unwrap_or(levels_for(jobs, set.d(), set.hp())),
+            xmss: levels.unwrap_or(levels_for(jobs, set.d(), set.hp().saturating_sub(FULL_HEIGHT))),
             fors: levels.unwrap_or(0),
         })
     }

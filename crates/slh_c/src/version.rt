@@ -4,7 +4,7 @@ ghost use Rattle.std.specs.Prelude.{◌≡◌};
 /// second, and its third.
 #[unsafe(no_mangle)]
 pub extern "C" fn slh_version() -> u32
-    ensures version { result ≡ 9000 }
+    ensures version { result ≡ 9001 }
 {
-    9_000
+    9_001
 }

@@ -12,11 +12,12 @@ use slh_par::{Cuts, Cutting, NoGate, ParFault, Randomizer, SecretKey, Workers, s
 use std::alloc::Allocator;
 use std::thread::Threads;
 
-/// Each XMSS tree in two halves, each FORS tree whole: enough jobs for a few workers, whatever the set.
-fn halves(sk: &SecretKey) -> Cutting
+/// Each tree whole, 21 jobs or more for the six sets: enough for a few workers. A range of fewer than eight leaves would
+/// leave lanes idle, and in the sets that sign fast an XMSS tree has eight or sixteen.
+fn whole_trees(sk: &SecretKey) -> Cutting
     ensures { result.set ≡ sk.now.set }
 {
-    match Cutting::new(sk.set(), Cuts::Levels(1), Cuts::Levels(0)) {
+    match Cutting::new(sk.set(), Cuts::Levels(0), Cuts::Levels(0)) {
         Ok(cutting) => cutting,
         Err(_) => unreachable!(),
     }
@@ -37,7 +38,7 @@ pub fn sign_by_threads<R: Threads + Sync, A: Allocator + Clone + Send + Sync>(
     ensures refused { OnErr result (sig.new ≡ sig.old) }
     ensures memory { IfErr result (λ fault. fault ≡ NoMemoryFault) }
 {
-    let cutting = halves(sk);
+    let cutting = whole_trees(sk);
     let randomizer = Randomizer::Deterministic;
     sign_par(
         rt,
@@ -69,7 +70,7 @@ pub fn sign_unless_stopped<R: Threads + Sync, A: Allocator + Clone + Send + Sync
     ensures refused { OnErr result (sig.new ≡ sig.old) }
     ensures memory_or_stop { IfErr result (λ fault. (fault ≡ NoMemoryFault) ⊎ (fault ≡ Stopped)) }
 {
-    let cutting = halves(sk);
+    let cutting = whole_trees(sk);
     let randomizer = Randomizer::Deterministic;
     sign_par(
         rt,

@@ -1,5 +1,5 @@
 //! The ranges of a signature's trees, as jobs.
-ghost use Rattle.std.specs.Prelude.{◌≡◌, length};
+ghost use Rattle.std.specs.Prelude.{◌≡◌, IfOk, length};
 ghost use Rattle.slh_subtrees.specs.Jobs.{signing_jobs};
 ghost use Rattle.slh_par.specs.JobAnswers.{IsRight};
 
@@ -8,10 +8,48 @@ use slh_few::kept_chains_len;
 use slh_subtrees::{Cutting, HashedRange, JobRange, JobTree, SigningTrees, job, sign_jobs};
 use slh_workers::{NoMemory, Work};
 use std::alloc::Allocator;
+use std::boxed::Box;
+use std::marker::Model;
 
 /// The answer of a job: what is made of its range, and where the leaf of a key that signs is one of the range, what is
-/// kept of that key's chains.
-pub(crate) type JobAnswer<A> = (HashedRange, Option<KeptChains<A>>);
+/// kept of that key's chains. The range has room for a cover of any tree, some 2 KB. So it stands apart: an answer is
+/// moved several times on its way from the worker to the signature.
+#[derive(Drop)]
+pub(crate) struct JobAnswer<A: Allocator> {
+    range: Box<HashedRange, A>,
+    kept: Option<KeptChains<A>>,
+}
+
+impl<A: Allocator> Model for JobAnswer<A> {
+    ghost use Rattle.std.specs.Prelude.{ℕ, List, Option};
+    ghost use Rattle.slh_subtrees.specs.declared.hashed_range.HashedRange.{HashedRange};
+
+    ghost Value = { HashedRange × Option (List ℕ) };
+
+    ghost view = { λ answer. (answer.range.value, answer.kept) };
+}
+
+impl<A: Allocator> JobAnswer<A> {
+    /// This range and what is kept. Refuses `NoMemory` where a growth was refused.
+    fn new(
+        alloc: A,
+        range: HashedRange,
+        kept: Option<KeptChains<A>>,
+    ) -> Result<JobAnswer<A>, NoMemory>
+        ensures { IfOk result (λ answer. answer ≡ (range, kept)) }
+    {
+        let range = Box::new(alloc, range)?;
+        Ok(JobAnswer { range, kept })
+    }
+
+    /// The range and what is kept.
+    pub(crate) fn into_parts(self) -> (HashedRange, Option<KeptChains<A>>)
+        ensures { result ≡ self }
+    {
+        let JobAnswer { range, kept } = self;
+        (Box::into_inner(range), kept)
+    }
+}
 
 /// The ranges of all trees of one signature. What is kept of chains is memory of the allocator.
 #[derive(Drop)]
@@ -40,9 +78,9 @@ impl<'w, 's, A: Allocator + Clone + Send + Sync> Work for TreeRanges<'w, 's, A> 
             JobTree::Xmss(layer) if trees.signs_in(layer, lo, hi) => {
                 let mut kept = vec![in self.alloc.clone()?; 0; kept_chains_len(trees.seeds.set)]?;
                 let range = trees.hashed_keeping(layer, lo, hi, &mut kept);
-                Ok((range, Some(KeptChains::new(kept))))
+                JobAnswer::new(self.alloc.clone()?, range, Some(KeptChains::new(kept)))
             }
-            other => Ok((trees.hashed(other, lo, hi), None)),
+            other => JobAnswer::new(self.alloc.clone()?, trees.hashed(other, lo, hi), None),
         }
     }
 }

@@ -34,7 +34,8 @@ pub(crate) fn split_answers<A: Allocator + Clone>(
     let mut covers = Vec::with_capacity(alloc.clone()?, answers.len())?;
     let mut records = Vec::with_capacity(alloc.clone()?, answers.len())?;
     let mut kept = Vec::new(alloc);
-    for (range, chains) in answers {
+    for answer in answers {
+        let (range, chains) = answer.into_parts();
         covers.push(range.cover)?;
         records.push(range.path)?;
         push_kept(&mut kept, chains)?;

@@ -149,7 +149,7 @@ const STATUS_HELP: &str =
 A refusal writes `slh: NUMBER NAME` to standard error; docs/FORMATS.md explains the numbers.";
 
 /// The version is that of the file `VERSION`.
-const ABOUT: &str = "slh 0.9.0: keys and signatures of SLH-DSA (FIPS 205) with SHA-2";
+const ABOUT: &str = "slh 0.9.1: keys and signatures of SLH-DSA (FIPS 205) with SHA-2";
 
 /// The program with no subcommand so far, what it is for and what its help ends with.
 fn no_command<'a>(alloc: Global, about: &'a str, help: &'a str) -> Result<Command<'a>, AllocError>

@@ -27,8 +27,8 @@ use std::thread::Threads;
 /// Runs the command of the arguments after the program's name, and gives the exit status: 0 for done, valid,
 /// consistent or all tests passed, 1 for invalid, inconsistent or a failed test, 2 for refused.
 ///
-/// `clap` and `serde_json` take their memory from the runtime, and all else takes it from `alloc`. `keygen`, `sign` and
-/// `vectors` run on as many threads as they are asked for workers, and wait only for the threads that they started.
+/// `clap` and `serde_json` take their memory from the runtime, and all else takes it from `alloc`. Of several workers of
+/// `keygen`, `sign` and `vectors` each has a thread of its own. These wait only for the threads that they started.
 pub fn command<
     R: AllocGlobal + Threads + Sync,
     A: Allocator + Clone + Send + Sync,

@@ -16,9 +16,9 @@ use std::alloc::Allocator;
 use std::thread::Threads;
 
 /// The answers of all jobs, in the order of their numbers. The workers share one board: each has a seat of it and does
-/// what `work_off` does, on a thread of its own where one can be had, else on a thread that another worker has left.
-/// Refuses `NoMemory` where a growth of memory was refused, and else `Stopped` where the gate stopped the run. Waits
-/// only for the threads that it started.
+/// what `work_off` does. One worker works on this thread. Of several each has a thread of its own where one can be had,
+/// else a thread that another worker has left, and this thread waits for them. Refuses `NoMemory` where a growth of
+/// memory was refused, and else `Stopped` where the gate stopped the run. Waits only for the threads that it started.
 pub fn run_all<R: Threads + Sync, A: Allocator + Clone + Send + Sync, W: Work, G: Gate>(
     rt: &R,
     alloc: A,

@@ -20,9 +20,10 @@ type Ran<T, A> = (Vec<Seat, A>, Vec<(u32, T), A>);
 // A `Ran`; or where memory was refused one of the seats, which stopped the board.
 type Worked<T, A> = Result<Ran<T, A>, Seat>;
 
-// The workers at these seats of the board, numbered from `first` on, the first on this thread and each other on a
+// The workers at these seats of the board, numbered from `first` on: a single one on this thread, and else each on a
 // thread of its own, where one can be had. The list of seats is halved, so that 64 seats nest 6 deep: the stack of a
 // thread bounds the depth. Where memory is refused, one of the seats has stopped the board.
+#[cycle(run_seats)]
 pub fn run_seats<R: Threads + Sync, A: Allocator + Clone + Send + Sync, W: Work, G: Gate>(
     rt: &R,
     alloc: A,
@@ -50,7 +51,7 @@ pub fn run_seats<R: Threads + Sync, A: Allocator + Clone + Send + Sync, W: Work,
             × Frees A.Allocator A.dealloc_token × IsReady board.now (W.jobs work.now) first seats.items }
         ensures { HaveWorked board.entry.now (G.may_stop gate.entry.now) (G.reported gate.entry.now)
             (W.is_right work.entry.now) (W.jobs work.entry.now) first (length seats.items) result }
-    { run_seats(rt, alloc, board, seats, work, first, gate) };
+    { run_elsewhere(rt, alloc, board, seats, work, first, gate) };
     let back = move || -> Worked<W::Out, A>
         requires { IsSync R.row × IsSync W.row × IsSync G.row × IsSync A.row × IsSend A.row × IsSend W.Out.row
             × Frees A.Allocator A.dealloc_token × IsReady board.now (W.jobs work.now) next others.items }
@@ -59,6 +60,36 @@ pub fn run_seats<R: Threads + Sync, A: Allocator + Clone + Send + Sync, W: Work,
     { run_seats(rt, theirs, board, others, work, next, gate) };
     let (back, front) = join(rt, back, front);
     both(board, front, back)
+}
+
+// The same, but a single worker has a thread of its own, too, where one can be had. The system may put a thread on the
+// processor of the one that started it, where it waits while that one works. So a thread that has started another does
+// no work, and waits for it.
+#[cycle(run_seats)]
+fn run_elsewhere<R: Threads + Sync, A: Allocator + Clone + Send + Sync, W: Work, G: Gate>(
+    rt: &R,
+    alloc: A,
+    board: &Board<A>,
+    seats: Vec<Seat, A>,
+    work: &W,
+    first: u8,
+    gate: &G,
+) -> Worked<W::Out, A>
+    requires { IsReady board.now (W.jobs work.now) first seats.items }
+    ensures { HaveWorked board.now (G.may_stop gate.now) (G.reported gate.now) (W.is_right work.now)
+        (W.jobs work.now) first (length seats.items) result }
+{
+    if seats.len() > 1 {
+        return run_seats(rt, alloc, board, seats, work, first, gate);
+    }
+    let only = move || -> Worked<W::Out, A>
+        requires { IsSync R.row × IsSync W.row × IsSync G.row × IsSync A.row × IsSend A.row × IsSend W.Out.row
+            × Frees A.Allocator A.dealloc_token × IsReady board.now (W.jobs work.now) first seats.items }
+        ensures { HaveWorked board.entry.now (G.may_stop gate.entry.now) (G.reported gate.entry.now)
+            (W.is_right work.entry.now) (W.jobs work.entry.now) first (length seats.items) result }
+    { run_seats(rt, alloc, board, seats, work, first, gate) };
+    let (worked, ()) = join(rt, only, || ());
+    worked
 }
 
 // What the worker at the only seat gives by its end. Neither this nor `both` is compiled into the recursion over seats:

@@ -1,11 +1,9 @@
 -- R, then the FORS and the hypertree signature of the digest, put end to end, are the signature.
-use Rattle.std.proofs.Common.{◌≡◌, ℕ, ◌≤◌, ◌<◌, ◌^◌, List, ◌++◌, length, length-take-le, arith, ap, sym, subst, refl, ◌∙◌, rules}
-use Rattle.slh_params.specs.Params.{m}
+use Rattle.std.proofs.Common.{◌≡◌, ℕ, ◌≤◌, ◌<◌, ◌^◌, List, ◌++◌, length-take-le, arith, ap, sym, subst, refl, ◌∙◌, rules}
 use Rattle.slh_params.specs.ParamSet.{params}
 use Rattle.slh_params.proofs.Bounds.{m_high}
 use Rattle.slh_few.specs.Fors.{fors_sig}
 use Rattle.slh_hash.specs.Keyed.{joined}
-use Rattle.slh_core.specs.DigestParts.{md}
 use Rattle.slh_core.specs.Keys.{Key, sk_seed, public_of, pk_seed}
 use Rattle.slh_core.specs.Signatures.{digest_of, signature_of_digest, signature, IsValid}
 use Rattle.slh_core.proofs.Assembled.{signed_parts}
