@@ -29,9 +29,9 @@
 /* The version of this header: three numbers, the number that slh_version returns of the same version, and the text. */
 #define SLH_VERSION_MAJOR 0
 #define SLH_VERSION_MINOR 9
-#define SLH_VERSION_PATCH 0
+#define SLH_VERSION_PATCH 1
 #define SLH_VERSION_NUMBER (1000000 * SLH_VERSION_MAJOR + 1000 * SLH_VERSION_MINOR + SLH_VERSION_PATCH)
-#define SLH_VERSION "0.9.0"
+#define SLH_VERSION "0.9.1"
 
 /* Stands before each call whose result has to be looked at. A compiler that can warns where that is not done. */
 #if defined(__cplusplus) && __cplusplus >= 201703L

@@ -1,5 +1,5 @@
 /*
- * SLH-DSA (FIPS 205) with SHA-2 as portable C: all calls of slh.h and slh_internal.h. Version 0.9.0.
+ * SLH-DSA (FIPS 205) with SHA-2 as portable C: all calls of slh.h and slh_internal.h. Version 0.9.1.
  *
  *   cc program.c slh.c
  *
@@ -36,7 +36,7 @@
 #define STOP(why) ((void)(why), abort())
 #define MEMORY_BYTES
 
-#define MODULE_VERSION 9000
+#define MODULE_VERSION 9001
 #define STACK_TOP UINT64_C(1048576)
 #define STACK_BYTES 61120
 #define CONSTANT_BYTES 2044

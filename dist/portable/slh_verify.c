@@ -1,5 +1,5 @@
 /*
- * Verifying signatures of SLH-DSA (FIPS 205) with SHA-2 as portable C: the calls of slh_verify.h. Version 0.9.0.
+ * Verifying signatures of SLH-DSA (FIPS 205) with SHA-2 as portable C: the calls of slh_verify.h. Version 0.9.1.
  *
  *   cc -Os program.c slh_verify.c
  *
@@ -45,7 +45,7 @@
 #endif
 #define MEMORY_BYTES (SLH_VERIFY_MEMORY - 3 * 8)
 
-#define MODULE_VERSION 9000
+#define MODULE_VERSION 9001
 #define STACK_TOP UINT64_C(1048576)
 #define STACK_BYTES 10992
 #define CONSTANT_BYTES 2044
