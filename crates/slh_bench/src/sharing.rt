@@ -13,7 +13,7 @@ const FULL_HEIGHT: u32 = 3;
 #[derive(Clone, Copy)]
 pub struct Sharing {
     pub workers: Workers,
-    /// The XMSS tree of key generation.
+    /// The XMSS tree of key generation. It is the only one, so it is also cut into ranges of fewer than eight leaves.
     pub top: u32,
     /// The XMSS trees of a signature.
     pub xmss: u32,
@@ -21,7 +21,7 @@ pub struct Sharing {
     pub fors: u32,
 }
 
-/// The least levels, up to `most` and 8, that cut this many trees into as many jobs as asked for, or else these.
+/// The least levels that cut this many trees into as many jobs as asked for, but at most `most` and 8.
 fn levels_for(jobs: u32, trees: u32, most: u32) -> u32 {
     let most = most.min(MOST_LEVELS);
     (0..most)
