@@ -25,6 +25,23 @@ SECRET(hash_sign,
        (uint32_t set, uint32_t function, const uint8_t *sk, size_t sk_len, const uint8_t *msg, size_t msg_len,
         const uint8_t *ctx, size_t ctx_len, const uint8_t *random, size_t random_len, uint8_t *sig, size_t sig_len),
        (set, function, sk, sk_len, msg, msg_len, ctx, ctx_len, random, random_len, sig, sig_len))
+SECRET(sign_twice,
+       (uint32_t set, const uint8_t *sk, size_t sk_len, const uint8_t *msg, size_t msg_len, const uint8_t *ctx,
+        size_t ctx_len, const uint8_t *random, size_t random_len, uint8_t *scratch, size_t scratch_len, uint8_t *sig,
+        size_t sig_len),
+       (set, sk, sk_len, msg, msg_len, ctx, ctx_len, random, random_len, scratch, scratch_len, sig, sig_len))
+SECRET(hash_sign_digest_twice,
+       (uint32_t set, uint32_t function, const uint8_t *sk, size_t sk_len, const uint8_t *digest, size_t digest_len,
+        const uint8_t *ctx, size_t ctx_len, const uint8_t *random, size_t random_len, uint8_t *scratch,
+        size_t scratch_len, uint8_t *sig, size_t sig_len),
+       (set, function, sk, sk_len, digest, digest_len, ctx, ctx_len, random, random_len, scratch, scratch_len, sig,
+        sig_len))
+SECRET(hash_sign_twice,
+       (uint32_t set, uint32_t function, const uint8_t *sk, size_t sk_len, const uint8_t *msg, size_t msg_len,
+        const uint8_t *ctx, size_t ctx_len, const uint8_t *random, size_t random_len, uint8_t *scratch,
+        size_t scratch_len, uint8_t *sig, size_t sig_len),
+       (set, function, sk, sk_len, msg, msg_len, ctx, ctx_len, random, random_len, scratch, scratch_len, sig,
+        sig_len))
 SECRET(sign_internal,
        (uint32_t set, const uint8_t *sk, size_t sk_len, const uint8_t *msg, size_t msg_len, const uint8_t *random,
         size_t random_len, uint8_t *sig, size_t sig_len),

@@ -30,6 +30,8 @@ static inline uint32_t row_of(uint32_t set) { return set <= SETS ? set : 0; }
     }
 #include "calls.h"
 
+#include "refusal_text.c"
+
 uint32_t slh_level(void) { return level_of(choice()); }
 
 /* The barrier tells the compiler that the bytes are read. */

@@ -55,6 +55,32 @@ uint32_t slh_hash_sign(uint32_t set, uint32_t function, const uint8_t *sk, size_
     return result;
 }
 
+uint32_t slh_sign_twice(uint32_t set, const uint8_t *sk, size_t sk_len, const uint8_t *msg, size_t msg_len,
+                        const uint8_t *ctx, size_t ctx_len, const uint8_t *randomizer, size_t randomizer_len,
+                        uint8_t *scratch, size_t scratch_len, uint8_t *sig, size_t sig_len) {
+    struct part parts[] = {READ(sk), READ(msg), READ(ctx), READ(randomizer), WRITE(scratch), WRITE(sig)};
+    RUN(sign_twice, set, B(0), B(1), B(2), B(3), B(4), B(5));
+    return result;
+}
+
+uint32_t slh_hash_sign_digest_twice(uint32_t set, uint32_t function, const uint8_t *sk, size_t sk_len,
+                                    const uint8_t *digest, size_t digest_len, const uint8_t *ctx, size_t ctx_len,
+                                    const uint8_t *randomizer, size_t randomizer_len, uint8_t *scratch,
+                                    size_t scratch_len, uint8_t *sig, size_t sig_len) {
+    struct part parts[] = {READ(sk), READ(digest), READ(ctx), READ(randomizer), WRITE(scratch), WRITE(sig)};
+    RUN(hash_sign_digest_twice, set, function, B(0), B(1), B(2), B(3), B(4), B(5));
+    return result;
+}
+
+uint32_t slh_hash_sign_twice(uint32_t set, uint32_t function, const uint8_t *sk, size_t sk_len, const uint8_t *msg,
+                             size_t msg_len, const uint8_t *ctx, size_t ctx_len, const uint8_t *randomizer,
+                             size_t randomizer_len, uint8_t *scratch, size_t scratch_len, uint8_t *sig,
+                             size_t sig_len) {
+    struct part parts[] = {READ(sk), READ(msg), READ(ctx), READ(randomizer), WRITE(scratch), WRITE(sig)};
+    RUN(hash_sign_twice, set, function, B(0), B(1), B(2), B(3), B(4), B(5));
+    return result;
+}
+
 uint32_t slh_sign_internal(uint32_t set, const uint8_t *sk, size_t sk_len, const uint8_t *msg, size_t msg_len,
                            const uint8_t *randomizer, size_t randomizer_len, uint8_t *sig, size_t sig_len) {
     struct part parts[] = {READ(sk), READ(msg), READ(randomizer), WRITE(sig)};

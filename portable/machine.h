@@ -3,9 +3,15 @@
 #if defined(__GNUC__)
 #define RARELY(x) __builtin_expect(!!(x), 0)
 #define INLINE static inline __attribute__((unused))
+#define NEVER_INLINE __attribute__((noinline))
+#elif defined(_MSC_VER)
+#define RARELY(x) (x)
+#define INLINE static inline
+#define NEVER_INLINE __declspec(noinline)
 #else
 #define RARELY(x) (x)
 #define INLINE static inline
+#define NEVER_INLINE
 #endif
 
 typedef uint32_t u32;

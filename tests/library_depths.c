@@ -27,6 +27,7 @@ enum { STACK = 1 << 18, PAINT = 0x5c, SETS = 6, FUNCTIONS = 6, CUTTINGS = 2, SHI
 
 static _Alignas(64) uint8_t stack[STACK];
 static uint8_t seeds[3 * SLH_MAX_N], sk[SLH_MAX_SECRET_KEY], pk[SLH_MAX_PUBLIC_KEY], sig[SLH_MAX_SIGNATURE];
+static uint8_t scratch[2 * SLH_MAX_SIGNATURE];
 static uint8_t msg[1000], ctx[255], start[SLH_MAX_START], *answers, *key_answers;
 static size_t pk_len, sk_len, sig_len, n, start_len, answers_len, key_answer_len;
 static uint32_t set, levels, function, functions, job, jobs, key_jobs, result;
@@ -68,6 +69,22 @@ static void hash_sign_digest(void) {
 
 static void hash_sign(void) {
     result = slh_hash_sign(set, function, sk, sk_len, msg, sizeof msg, ctx, sizeof ctx, seeds, n, sig, sig_len);
+}
+
+static void sign_twice(void) {
+    result = slh_sign_twice(set, sk, sk_len, msg, sizeof msg, ctx, sizeof ctx, seeds, n, scratch, 2 * sig_len, sig,
+                            sig_len);
+}
+
+static void hash_sign_digest_twice(void) {
+    static const size_t lens[FUNCTIONS + 1] = {0, 28, 32, 48, 64, 28, 32};
+    result = slh_hash_sign_digest_twice(set, function, sk, sk_len, msg, lens[function], ctx, sizeof ctx, seeds, n,
+                                        scratch, 2 * sig_len, sig, sig_len);
+}
+
+static void hash_sign_twice(void) {
+    result = slh_hash_sign_twice(set, function, sk, sk_len, msg, sizeof msg, ctx, sizeof ctx, seeds, n, scratch,
+                                 2 * sig_len, sig, sig_len);
 }
 
 static void sign_start(void) {
@@ -113,6 +130,9 @@ static const struct row {
     {"sign", sign, NOTHING, 1},
     {"hash_sign_digest", hash_sign_digest, FUNCTIONS_TRIED, 0},
     {"hash_sign", hash_sign, FUNCTIONS_TRIED, 0},
+    {"sign_twice", sign_twice, NOTHING, 0},
+    {"hash_sign_digest_twice", hash_sign_digest_twice, FUNCTIONS_TRIED, 0},
+    {"hash_sign_twice", hash_sign_twice, FUNCTIONS_TRIED, 0},
     {"sign_internal", sign_internal, NOTHING, 0},
     {"sign_start", sign_start, NOTHING, 1},
     {"hash_sign_start", hash_sign_start, FUNCTIONS_TRIED, 1},

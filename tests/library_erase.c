@@ -203,7 +203,7 @@ struct work {
 };
 
 static const uint8_t msg[] = "a message that is signed", formatted[] = "\0\0a message that is signed";
-static uint8_t digest[32], out[SLH_MAX_SIGNATURE], job_out[MOST_JOB];
+static uint8_t digest[32], out[SLH_MAX_SIGNATURE], scratch[2 * SLH_MAX_SIGNATURE], job_out[MOST_JOB];
 static int passed, failed;
 
 /* F and PRF of FIPS 205, section 11.2, which are the same: under PK.seed, whose block was hashed before. */
@@ -451,6 +451,8 @@ static void look_at_pure(struct work *w) {
     try_search();
     look_at_keys(w);
     CALL(slh_sign, 0, KEY, OF(msg, sizeof msg), 0, 0, 0, 0, OF(out, w->sig_len));
+    CALL(slh_sign_twice, 0, KEY, OF(msg, sizeof msg), 0, 0, 0, 0, OF(scratch, 2 * w->sig_len), OF(out, w->sig_len));
+    must(memcmp(out, w->sig, w->sig_len) == 0, "slh_sign_twice signs otherwise");
     CALL(slh_sign_internal, 0, KEY, OF(formatted, sizeof formatted), 0, 0, OF(out, w->sig_len));
     must(memcmp(out, w->sig, w->sig_len) == 0, "slh_sign_internal signs another message");
     CALL(slh_sign_start, 0, KEY, OF(msg, sizeof msg), 0, 0, 0, 0, OF(out, w->start_len));
@@ -472,6 +474,11 @@ static void look_at_pre_hash(struct work *w) {
     CALL(slh_hash_sign, 0, SLH_SHA2_256, KEY, OF(msg, sizeof msg), 0, 0, OF(random, w->n), OF(out, w->sig_len));
     CALL(slh_hash_sign_digest, 0, SLH_SHA2_256, KEY, OF(digest, 32), 0, 0, OF(random, w->n), OF(out, w->sig_len));
     must(memcmp(out, w->sig, w->sig_len) == 0, "slh_hash_sign_digest signs another message");
+    CALL(slh_hash_sign_twice, 0, SLH_SHA2_256, KEY, OF(msg, sizeof msg), 0, 0, OF(random, w->n),
+         OF(scratch, 2 * w->sig_len), OF(out, w->sig_len));
+    CALL(slh_hash_sign_digest_twice, 0, SLH_SHA2_256, KEY, OF(digest, 32), 0, 0, OF(random, w->n),
+         OF(scratch, 2 * w->sig_len), OF(out, w->sig_len));
+    must(memcmp(out, w->sig, w->sig_len) == 0, "slh_hash_sign_digest_twice signs otherwise");
     CALL(slh_hash_sign_start, 0, SLH_SHA2_256, KEY, OF(msg, sizeof msg), 0, 0, OF(random, w->n), OF(out, w->start_len));
 }
 

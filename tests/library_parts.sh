@@ -76,15 +76,16 @@ has_symbols() {
     diff "$work/symbols" -
 }
 
-# The proved calls; the libraries, and not the module for wasm64, have two more.
+# The proved calls; the libraries, and not the module for wasm64, have three more.
 calls() {
-    printf 'T slh_%s\n' answer_place check hash_sign hash_sign_digest hash_sign_start hash_verify hash_verify_digest \
-        keygen keygen_job keygen_jobs keygen_join lengths public refusal_name sign sign_internal sign_job sign_jobs \
-        sign_join sign_start verify verify_internal version
+    printf 'T slh_%s\n' answer_place check hash_sign hash_sign_digest hash_sign_digest_twice hash_sign_start \
+        hash_sign_twice hash_verify hash_verify_digest keygen keygen_job keygen_jobs keygen_join lengths public \
+        refusal_name sign sign_internal sign_job sign_jobs sign_join sign_start sign_twice verify verify_internal \
+        version
 }
 
 library_calls() {
-    { calls && printf 'T slh_%s\n' erase level; } | LC_ALL=C sort
+    { calls && printf 'T slh_%s\n' erase level refusal_text; } | LC_ALL=C sort
 }
 
 verify_calls() {

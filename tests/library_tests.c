@@ -13,7 +13,7 @@
 #include <string.h>
 
 enum { SETS = 6, FUNCTIONS = 6, THREADS = 4, PAINT = 0xa5 };
-enum argument { SK_SEED, SK_PRF, PK_SEED, SK, PK, MSG, DIGEST, CTX, RANDOMIZER, SIG, OUT, ARGUMENTS };
+enum argument { SK_SEED, SK_PRF, PK_SEED, SK, PK, MSG, DIGEST, CTX, RANDOMIZER, SCRATCH, SIG, OUT, ARGUMENTS };
 
 struct bytes {
     uint8_t *at;
@@ -68,6 +68,20 @@ static uint32_t verify_internal(const struct given *given) {
     return slh_verify_internal(given->set, BYTES(PK), BYTES(MSG), BYTES(SIG));
 }
 
+static uint32_t sign_twice(const struct given *given) {
+    return slh_sign_twice(given->set, BYTES(SK), BYTES(MSG), BYTES(CTX), BYTES(RANDOMIZER), BYTES(SCRATCH), BYTES(OUT));
+}
+
+static uint32_t hash_sign_twice(const struct given *given) {
+    return slh_hash_sign_twice(given->set, given->function, BYTES(SK), BYTES(MSG), BYTES(CTX), BYTES(RANDOMIZER),
+                               BYTES(SCRATCH), BYTES(OUT));
+}
+
+static uint32_t hash_sign_digest_twice(const struct given *given) {
+    return slh_hash_sign_digest_twice(given->set, given->function, BYTES(SK), BYTES(DIGEST), BYTES(CTX),
+                                      BYTES(RANDOMIZER), BYTES(SCRATCH), BYTES(OUT));
+}
+
 /* A call, whether it names a pre-hash function, its arguments, and which kind of bytes it writes (OUT for none). */
 static const struct call {
     const char *name;
@@ -88,6 +102,12 @@ static const struct call {
     {"hash_verify_digest", hash_verify_digest, 1, A(PK) | A(DIGEST) | A(CTX) | A(SIG), OUT},
     {"sign_internal", sign_internal, 0, A(SK) | A(MSG) | A(RANDOMIZER), SIG},
     {"verify_internal", verify_internal, 0, A(PK) | A(MSG) | A(SIG), OUT},
+    {"sign_twice", sign_twice, 0, A(SK) | A(MSG) | A(CTX) | A(RANDOMIZER) | A(SCRATCH), SIG},
+    {"verify", verify, 0, A(PK) | A(MSG) | A(CTX) | A(SIG), OUT},
+    {"hash_sign_twice", hash_sign_twice, 1, A(SK) | A(MSG) | A(CTX) | A(RANDOMIZER) | A(SCRATCH), SIG},
+    {"hash_verify", hash_verify, 1, A(PK) | A(MSG) | A(CTX) | A(SIG), OUT},
+    {"hash_sign_digest_twice", hash_sign_digest_twice, 1, A(SK) | A(DIGEST) | A(CTX) | A(RANDOMIZER) | A(SCRATCH), SIG},
+    {"hash_verify_digest", hash_verify_digest, 1, A(PK) | A(DIGEST) | A(CTX) | A(SIG), OUT},
 };
 enum { CALLS = sizeof calls / sizeof calls[0] };
 
@@ -129,18 +149,29 @@ static int is_painted(struct bytes out) {
     return 1;
 }
 
-/* Runs a call with copies of its arguments, one of which has another length, and with a fresh output. What is returned
-   must be `wanted`, and the output must be written where that is SLH_DONE, and else be as it was. */
+/* Whether a call left its scratch as it has to: zeros where it is done, and else as it was. */
+static int is_scratch_right(struct bytes scratch, uint32_t result) {
+    for (size_t i = 0; i < scratch.len; i++)
+        if (scratch.at[i] != (result == SLH_DONE ? 0 : PAINT)) return 0;
+    return 1;
+}
+
+/* Runs a call with copies of its arguments, one of which has another length, and with a fresh output and scratch. What
+   is returned must be `wanted`, and the output must be written where that is SLH_DONE, and else be as it was. */
 static void expect_result(const struct call *call, const struct given *good, enum argument changed, size_t len,
                           uint32_t wanted, const char *what) {
     struct given given = *good;
     for (int it = 0; it < OUT; it++)
         given.of[it] = copy(good->of[it], it == (int)changed ? len : good->of[it].len);
     given.of[OUT] = painted(changed == OUT ? len : good->of[OUT].len);
+    free(given.of[SCRATCH].at);
+    given.of[SCRATCH] = painted(changed == SCRATCH ? len : good->of[SCRATCH].len);
     uint32_t result = call->run(&given);
     int has_output = call->writes != OUT && given.of[OUT].len > 0;
     expect(result == wanted && (!has_output || is_painted(given.of[OUT]) == (result != SLH_DONE)), what, call->name,
            good->set, len);
+    if (call->takes & A(SCRATCH))
+        expect(is_scratch_right(given.of[SCRATCH], result), "scratch", call->name, good->set, len);
     for (int it = 0; it < ARGUMENTS; it++) free(given.of[it].at);
 }
 
@@ -167,6 +198,7 @@ static struct given in_rule(uint32_t set, uint32_t function) {
     given.of[CTX] = counted(9, 11);
     given.of[RANDOMIZER] = counted(n, 40);
     given.of[SIG] = painted(sig_len);
+    given.of[SCRATCH] = painted(2 * sig_len);
     struct given making = given;
     making.of[OUT] = given.of[SK];
     expect(keygen(&making) == SLH_DONE, "result", "keygen", set, 0);
@@ -190,6 +222,7 @@ static uint32_t result_of_length(const struct call *call, enum argument of) {
     case PK: return SLH_BAD_LENGTH;
     case DIGEST: return SLH_BAD_DIGEST_LENGTH;
     case RANDOMIZER: return SLH_BAD_RANDOMIZER_LENGTH;
+    case SCRATCH:
     case OUT: return SLH_BAD_OUTPUT_LENGTH;
     default: return is_verify ? SLH_INVALID : SLH_DONE;
     }
@@ -243,7 +276,7 @@ static void order(const struct call *call, const struct given *good) {
     given.set = good->set;
     if (call->has_function) expect_result(call, &given, ARGUMENTS, 0, SLH_NO_SUCH_FUNCTION, "second refusal");
     given.function = good->function;
-    static const enum argument judged[] = {SK_SEED, SK_PRF, PK_SEED, SK, PK, DIGEST, RANDOMIZER, OUT};
+    static const enum argument judged[] = {SK_SEED, SK_PRF, PK_SEED, SK, PK, DIGEST, RANDOMIZER, SCRATCH, OUT};
     for (size_t i = 0; i < sizeof judged / sizeof judged[0]; i++) {
         enum argument it = judged[i];
         if (it == OUT ? call->writes == OUT : !(call->takes & A(it))) continue;
@@ -296,6 +329,22 @@ static void round_trip(const struct call *signing, const struct call *verifying,
     for (int it = 0; it < ARGUMENTS; it++) free(blocks[it]);
 }
 
+/* A call that signs two times writes the bytes of the call that signs once. */
+static void twice_is_once(const struct given *good) {
+    uint32_t (*const pairs[][2])(const struct given *) = {
+        {sign, sign_twice}, {hash_sign, hash_sign_twice}, {hash_sign_digest, hash_sign_digest_twice}};
+    for (size_t i = 0; i < sizeof pairs / sizeof pairs[0]; i++) {
+        struct given once = *good, twice = *good;
+        once.of[OUT] = painted(good->of[SIG].len);
+        twice.of[OUT] = painted(good->of[SIG].len);
+        expect(pairs[i][0](&once) == SLH_DONE && pairs[i][1](&twice) == SLH_DONE &&
+                   memcmp(once.of[OUT].at, twice.of[OUT].at, good->of[SIG].len) == 0,
+               "bytes of signing two times", "pair", good->set, i);
+        free(once.of[OUT].at);
+        free(twice.of[OUT].at);
+    }
+}
+
 static void set_by_set(void) {
     for (uint32_t set = 1; set <= SETS; set++) {
         struct given good = in_rule(set, set);
@@ -303,6 +352,7 @@ static void set_by_set(void) {
         good.of[SK].at[good.of[SK].len - 1] ^= 1;
         expect(check(&good) == SLH_INVALID, "another root", "check", set, 0);
         good.of[SK].at[good.of[SK].len - 1] ^= 1;
+        if (is_fast(set)) twice_is_once(&good);
         for (int i = 0; i < CALLS; i++) {
             const struct call *call = &calls[i];
             good.of[OUT] = good.of[call->writes == OUT ? SIG : call->writes];
@@ -354,7 +404,7 @@ static void names(void) {
         {SLH_NO_SUCH_REFUSAL, "NoSuchRefusal"},             {SLH_BAD_CUTTING, "BadCutting"},
         {SLH_BAD_ANSWERS_LENGTH, "BadAnswersLength"},       {SLH_ANSWERS_DISAGREE, "AnswersDisagree"},
         {SLH_NO_SUCH_JOB, "NoSuchJob"},                     {SLH_BAD_START_LENGTH, "BadStartLength"},
-        {SLH_BAD_START, "BadStart"},
+        {SLH_BAD_START, "BadStart"},                        {SLH_FAULT, "Fault"},
 #ifdef SLH_PORTABLE
         {SLH_NO_MEMORY, "NoMemory"},
 #endif
@@ -384,6 +434,27 @@ static void names(void) {
         free(exact);
     }
     expect(found == sizeof table / sizeof table[0], "all names", "refusal_name", 0, found);
+}
+
+/* Each result has a sentence of its own, and every other number the same one. */
+static void texts(void) {
+    static const uint32_t results[] = {
+        SLH_DONE, SLH_CONTEXT_TOO_LONG, SLH_BAD_LENGTH, SLH_BAD_CUTTING, SLH_NO_SUCH_SET, SLH_NO_SUCH_FUNCTION,
+        SLH_BAD_SEED_LENGTH, SLH_BAD_DIGEST_LENGTH, SLH_BAD_RANDOMIZER_LENGTH, SLH_BAD_OUTPUT_LENGTH,
+        SLH_NO_SUCH_REFUSAL, SLH_BAD_ANSWERS_LENGTH, SLH_ANSWERS_DISAGREE, SLH_NO_SUCH_JOB, SLH_BAD_START_LENGTH,
+        SLH_BAD_START, SLH_INVALID, SLH_NO_MEMORY, SLH_FAULT,
+    };
+    const char *none = slh_refusal_text(0xffffffffu);
+    size_t found = 0;
+    expect(strstr(none, "no result") != NULL, "text of no result", "refusal_text", 0, 0);
+    for (uint32_t number = 0; number < 300; number++) found += strcmp(slh_refusal_text(number), none) != 0;
+    expect(found == sizeof results / sizeof *results, "as many texts as results", "refusal_text", 0, found);
+    for (size_t i = 0; i < sizeof results / sizeof *results; i++) {
+        const char *text = slh_refusal_text(results[i]);
+        int is_own = strlen(text) > 10 && strcmp(text, none) != 0;
+        for (size_t other = 0; other < i; other++) is_own &= strcmp(text, slh_refusal_text(results[other])) != 0;
+        expect(is_own, "a text of its own", "refusal_text", results[i], i);
+    }
 }
 
 /* What one thread does over and over: a signature, which must be the one that was made alone, and its verifying. */
@@ -423,6 +494,7 @@ static void threads(void) {
 int main(void) {
     lengths();
     names();
+    texts();
     set_by_set();
     threads();
     printf("%d passed, %d failed\n", passed, failed);

@@ -78,7 +78,9 @@ all_calls() {
     printf 'slh_%s\n' "lengths n2 p00 p01 p02 p03" "keygen n2 $seed $seed $seed $sk" "public n2 $sk $pk" \
         "check n2 $sk" "sign n2 $sk b00 b b $sig" "verify n2 $pk b00 b $sig" "hash_sign n2 n2 $sk b00 b b $sig" \
         "hash_verify n2 n2 $pk b00 b $sig" "hash_sign_digest n2 n2 $sk $pk b b $sig" \
-        "hash_verify_digest n2 n2 $pk $pk b $sig" "sign_internal n2 $sk b00 b $sig" "verify_internal n2 $pk b00 $sig" \
+        "hash_verify_digest n2 n2 $pk $pk b $sig" "sign_twice n2 $sk b00 b b $sig $sig" \
+        "hash_sign_twice n2 n2 $sk b00 b b $sig $sig" "hash_sign_digest_twice n2 n2 $sk $pk b b $sig $sig" \
+        "sign_internal n2 $sk b00 b $sig" "verify_internal n2 $pk b00 $sig" \
         "sign_jobs n2 n1 n1 p00 p01 p02" "answer_place n2 n1 n1 n0 p00 p01" "sign_start n2 $sk b00 b b $out" \
         "hash_sign_start n2 n2 $sk b00 b b $out" "sign_job n2 n1 n1 $sk $out n0 $out" \
         "sign_join n2 n1 n1 $sk $out $out $sig" "keygen_jobs n2 n1 p00 p01" \

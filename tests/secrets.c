@@ -33,7 +33,7 @@ static const uint8_t msg[] = "a message that is signed", formatted[] = "\0\0a me
 static uint32_t set, d, jobs;
 static size_t pk_len, sk_len, sig_len, n, start_len, answers_len;
 static uint8_t seeds[3 * SLH_MAX_N], sk[SLH_MAX_SECRET_KEY], sig[SLH_MAX_SIGNATURE], start[SLH_MAX_START];
-static uint8_t random_bytes[SLH_MAX_N], digest[32], made[SLH_MAX_SIGNATURE], *answers;
+static uint8_t random_bytes[SLH_MAX_N], digest[32], made[SLH_MAX_SIGNATURE], scratch[2 * SLH_MAX_SIGNATURE], *answers;
 static int passed, failed;
 
 static void must(int holds, const char *what) {
@@ -199,6 +199,10 @@ static void pure(size_t len) {
     TRY("slh_sign", 0, 1 + d,
         slh_sign(set, sk, sk_len, msg, sizeof msg, NULL, 0, random_bytes, len, made, sig_len));
     must(memcmp(made, sig, sig_len) == 0, "another signature");
+    TRY("slh_sign_twice", 1, 1 + d,
+        slh_sign_twice(set, sk, sk_len, msg, sizeof msg, NULL, 0, random_bytes, len, scratch, 2 * sig_len, made,
+                       sig_len));
+    must(memcmp(made, sig, sig_len) == 0, "another signature, signed twice");
     TRY("slh_sign_internal", 0, 1 + d,
         slh_sign_internal(set, sk, sk_len, formatted, sizeof formatted, random_bytes, len, made, sig_len));
     must(memcmp(made, sig, sig_len) == 0, "another signature by the internal call");
@@ -212,6 +216,9 @@ static void pre_hash(size_t len) {
     TRY("slh_hash_sign", 0, 1 + d,
         slh_hash_sign(set, function, sk, sk_len, msg, sizeof msg, NULL, 0, random_bytes, len, made, sig_len));
     must(memcmp(made, sig, sig_len) == 0, "another signature of the pre-hash form");
+    TRY("slh_hash_sign_twice", 1, 1 + d,
+        slh_hash_sign_twice(set, function, sk, sk_len, msg, sizeof msg, NULL, 0, random_bytes, len, scratch,
+                            2 * sig_len, made, sig_len));
     must(slh_hash_sign_digest(set, function, sk, sk_len, digest, 32, NULL, 0, random_bytes, len, sig, sig_len) ==
          SLH_DONE, "hash_sign_digest");
     known_count = 0;
@@ -221,6 +228,9 @@ static void pre_hash(size_t len) {
     memmove(known[known_count++], sig, n);
     TRY("slh_hash_sign_digest", 0, 1 + d,
         slh_hash_sign_digest(set, function, sk, sk_len, digest, 32, NULL, 0, random_bytes, len, made, sig_len));
+    TRY("slh_hash_sign_digest_twice", 1, 1 + d,
+        slh_hash_sign_digest_twice(set, function, sk, sk_len, digest, 32, NULL, 0, random_bytes, len, scratch,
+                                   2 * sig_len, made, sig_len));
 }
 
 /* One signature as jobs: each verdict on a tag, on the roots of all FORS trees, on the two roots of an XMSS tree and on

@@ -11,6 +11,7 @@
 #   PREFIX/lib/libslh.so.0          libslh.a as a shared object, and libslh.so, a link to it for linkers
 #   PREFIX/lib/pkgconfig/slh.pc, slh_verify.pc     for pkg-config, with the version of the file VERSION
 #   PREFIX/lib/cmake/slh/           for find_package(slh) of CMake, with the same version
+#   PREFIX/share/man/man3/slh.3     the manual page of the calls, with a link to it for each call
 #   PREFIX/src/slh.c, slh_verify.c  for --target portable: all calls, and those of slh_verify.h, as C for any machine
 #
 # usage: tools/library.sh [--after-ci | --dist DIST] [--target TARGET] PREFIX
@@ -97,6 +98,15 @@ cmake_files() {
         >"$prefix/lib/cmake/slh/slh-config-version.cmake"
 }
 
+# The manual page, which each call has a link to.
+manual() {
+    local call
+    install -D -m 644 "$here/packages/slh.3" "$prefix/share/man/man3/slh.3"
+    for call in $(sed -n 's/^\.SH \(slh_\)/\1/p' "$here/packages/slh.3"); do
+        ln -sf slh.3 "$prefix/share/man/man3/$call.3"
+    done
+}
+
 install -d "$1"
 prefix=$(cd "$1" && pwd)
 [ "$target" = wasm64 ] || install -D -m 644 -t "$prefix/include" "${headers[@]/#/$made/}"
@@ -105,6 +115,7 @@ if [ "$target" = wasm64 ]; then
 elif [ "$target" = portable ]; then
     install -D -m 644 -t "$prefix/src" "${files[@]/#/$made/}"
     cmake_files
+    manual
 else
     install -d "$prefix/lib/pkgconfig"
     for file in "${files[@]}"; do
@@ -119,6 +130,7 @@ else
     pkgconfig slh "SLH-DSA (FIPS 205) with SHA-2, proved by machine"
     pkgconfig slh_verify "Verifying signatures of SLH-DSA (FIPS 205) with SHA-2, proved by machine"
     cmake_files
+    manual
 fi
 if [ "$target" = x86-64 ]; then
     ln -sf libslh.so.0 "$prefix/lib/libslh.so"

@@ -106,6 +106,15 @@ def build_name(build):
     return f"Pipitscreen, x86-64-{build}" if build.startswith("v") else build
 
 
+def series_name(build):
+    """The name of a series in a legend. OpenSSL's version is the one that the page of the table names."""
+    if build != "OpenSSL":
+        return f"Pipitscreen {build}"
+    with open(os.path.join(ROOT, "docs/BENCHMARKS.md")) as file:
+        version = re.search(r"OpenSSL is (\d+\.\d+\.\d+)", file.read()).group(1)
+    return f"OpenSSL {version}, no SHA instructions"
+
+
 def sign_times():
     """The builds of the table beside OpenSSL, and of each set the times in which they sign."""
     rows = [it for it in table("docs/BENCHMARKS.md", "set", "task", "OpenSSL, ms") if it["task"] == "sign"]
@@ -131,8 +140,8 @@ def draw_legend(picture, builds, y):
     x = 20
     for series, build in enumerate(builds):
         picture.mark(series, x + 6, y - 4)
-        picture.text(x + 18, y, build_name(build))
-        x += 52 + 6.8 * len(build_name(build))
+        picture.text(x + 18, y, series_name(build))
+        x += 44 + 6.8 * len(series_name(build))
 
 
 def draw_sign_times():
@@ -258,10 +267,11 @@ def wrapped(text, width):
 def draw_crates():
     found, wide, tall, pitch = crates(), 160, 48, 66
     row = lambda name: 1 + max((row(user) for user, (_, below) in found.items() if name in below), default=-1)
-    place = {name: (20 + COLUMNS[name] * 172, 46 + row(name) * pitch) for name in found}
+    place = {name: (20 + COLUMNS[name] * 172, 70 + row(name) * pitch) for name in found}
     height = max(y for _, y in place.values()) + tall + 20
     picture = Picture(888, height, "The crates as layers, with what each may touch")
     picture.text(20, 28, "The crates, and what each may touch", "head")
+    draw_crates_legend(picture, 52)
     for name, (_, below) in found.items():
         for other in below:
             (x, y), (to_x, to_y) = place[name], place[other]
@@ -274,6 +284,20 @@ def draw_crates():
         for i, line in enumerate(wrapped(touch, 23)):
             picture.text(x + 8, y + 30 + 12 * i, line, "small")
     return picture
+
+
+# What a colour means, by a word that `kind_colour` knows.
+KINDS = {"slices": "slices alone", "memory": "memory", "threads": "threads, atomic words", "files": "files, streams"}
+
+
+def draw_crates_legend(picture, y):
+    x = 20
+    for word, meaning in KINDS.items():
+        picture.box(x, y - 11, 16, 14, f"box b{kind_colour(word)}")
+        picture.text(x + 22, y, meaning, "small")
+        x += 44 + 6 * len(meaning)
+    picture.line(x, y - 4, x + 24, y - 4, "rule")
+    picture.text(x + 30, y, "the upper crate uses the lower one", "small")
 
 
 def kind_colour(touch):

@@ -28,12 +28,15 @@ WASM2C = os.environ.get("WASM2C", "wasm2c-1.0.36")
 PROVED = "/* ---- The proved code, as wasm2c writes it. ---- */\n\n"
 VERIFY_CALLS = ["hash_verify", "hash_verify_digest", "verify", "version"]
 FILES = {
-    "slh.c": ["head.c", "machine.h", "taken_memory.c", "parts.h", "verify_calls.c", "calls.c"],
+    "slh.c": ["head.c", "machine.h", "taken_memory.c", "parts.h", "verify_calls.c", "calls.c", "../exports/refusal_text.c"],
     "slh_verify.c": ["verify_head.c", "machine.h", "fixed_memory.c", "parts.h", "verify_calls.c"],
 }
 # The functions that call themselves, and how many calls of each are open at once at most. A FORS tree has the height a,
 # which is at most 14 in the six sets; the first call is for a height of at most a, and each within for one less.
 NESTED = {"slh_few_fors_tree_ForsTree_eight_nodes": 15}
+# The functions that compare what is secret, and look at all bytes before they decide. A compiler that inlines one for
+# a known number of bytes can make branches of it.
+COMPARISONS = {"slh_jobs_tag_have_same_bytes"}
 DEFINITION = re.compile(r"^(u32|u64|void) (w2c_slh_\w+)\(w2c_slh\* instance([^{;]*)\) \{\n(.*?)^\}\n", re.M | re.S)
 # The functions for the blocks of SHA-512, which the sets whose n is 16 never reach.
 LONG_BLOCKS = re.compile(r"\bsha2_block512_\w+")
@@ -195,7 +198,7 @@ def version_of(found):
 
 
 def prototype(name, kind, parameters):
-    return f"static {kind} {name}({parameters})"
+    return f"{'NEVER_INLINE ' * (name in COMPARISONS)}static {kind} {name}({parameters})"
 
 
 def module_as_c(text, calls):
@@ -238,6 +241,8 @@ def file_of(text, parts):
     """A file: its head, the constants, the machine, the functions, and the calls."""
     exports = re.findall(r"^/\* export: 'slh_(\w+)' \*/\nu32 ", text, re.M)
     has_all = "calls.c" in parts
+    if has_all and not COMPARISONS <= set(renamed(functions(text))):
+        refuse(f"a function is missing: {', '.join(sorted(COMPARISONS))}")
     numbers, code = module_as_c(text, sorted(exports) if has_all else VERIFY_CALLS)
     head, machine, *rest = parts
     return "\n".join([head_of(head), numbers, source(machine), code if has_all else leaving_out(code), *map(source, rest)])

@@ -100,6 +100,22 @@ abbrev pub sign_internal_rules : ℕ → List ℕ → List ℕ → List ℕ → 
 sign_internal_rules set sk random out =
     in_set set (λ s. secret s sk ∷ randomizer s random ∷ output (sig_len (params s)) out ∷ [])
 
+-- the rooms of a call that signs two times: scratch for two signatures, and the output
+abbrev pub rooms : ParamSet → List ℕ → List ℕ → List Rule → List Rule
+rooms set scratch out rules = output (2 * sig_len (params set)) scratch ∷ output (sig_len (params set)) out ∷ rules
+
+abbrev pub sign_twice_rules : ℕ → List ℕ → List ℕ → List ℕ → List ℕ → List ℕ → List Rule
+sign_twice_rules set sk ctx random scratch out =
+    in_set set (λ s. secret s sk ∷ randomizer s random ∷ rooms s scratch out (context ctx ∷ []))
+
+abbrev pub hash_sign_twice_rules : ℕ → ℕ → List ℕ → List ℕ → List ℕ → List ℕ → List ℕ → List Rule
+hash_sign_twice_rules set function sk ctx random scratch out = in_set set (λ s. with_function function (λ _.
+    secret s sk ∷ randomizer s random ∷ rooms s scratch out (context ctx ∷ [])))
+
+abbrev pub hash_sign_digest_twice_rules : ℕ → ℕ → List ℕ → List ℕ → List ℕ → List ℕ → List ℕ → List ℕ → List Rule
+hash_sign_digest_twice_rules set function sk bytes ctx random scratch out = in_set set (λ s. with_function function (λ f.
+    secret s sk ∷ digest f bytes ∷ randomizer s random ∷ rooms s scratch out (context ctx ∷ [])))
+
 -- a context of over 255 bytes or a signature of another length is invalid, and no refusal
 abbrev pub verify_rules : ℕ → List ℕ → List Rule
 verify_rules set pk = in_set set (λ s. public s pk ∷ [])

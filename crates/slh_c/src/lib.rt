@@ -20,4 +20,5 @@ mod pure_form;
 mod randomizer;
 mod refusal;
 mod rules;
+mod twice;
 mod version;

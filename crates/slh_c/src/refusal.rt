@@ -41,6 +41,8 @@ pub enum Refusal {
     BadStartLength,
     /// A start that does not have its tag under the key.
     BadStart,
+    /// Two computations of one signature that differ.
+    Fault,
 }
 
 /// The value of a result. A call that meets a refusal there returns its number.
@@ -76,6 +78,7 @@ impl Refusal {
             Refusal::NoSuchJob => 26,
             Refusal::BadStartLength => 27,
             Refusal::BadStart => 28,
+            Refusal::Fault => 38,
         }
     }
 
@@ -99,6 +102,7 @@ impl Refusal {
             Refusal::NoSuchJob => "NoSuchJob",
             Refusal::BadStartLength => "BadStartLength",
             Refusal::BadStart => "BadStart",
+            Refusal::Fault => "Fault",
         }
     }
 
@@ -123,6 +127,7 @@ impl Refusal {
             26 => Some(Refusal::NoSuchJob),
             27 => Some(Refusal::BadStartLength),
             28 => Some(Refusal::BadStart),
+            38 => Some(Refusal::Fault),
             _ => None,
         }
     }

@@ -5,6 +5,7 @@ ghost use Rattle.slh_c.specs.Rules.{first_refusal, AreMet};
 ghost use Rattle.slh_c.specs.Rules as rules;
 
 use crate::refusal::Refusal;
+use slh_core::PreHash;
 use slh_jobs::start_len;
 use slh_params::ParamSet;
 
@@ -36,6 +37,30 @@ pub(crate) fn has_len(bytes: &[u8], len: usize, refusal: Refusal) -> Rule
     Rule {
         is_met: bytes.len() == len,
         refusal,
+    }
+}
+
+/// That a secret key has 4n bytes.
+pub(crate) fn secret(set: ParamSet, sk: &[u8]) -> Rule
+    ensures { result ≡ rules.secret set sk.now }
+{
+    has_len(sk, set.sk_len(), Refusal::BadLength)
+}
+
+/// That a digest has the length of the function's digests.
+pub(crate) fn digest(function: PreHash, bytes: &[u8]) -> Rule
+    ensures { result ≡ rules.digest function bytes.now }
+{
+    has_len(bytes, function.digest_len(), Refusal::BadDigestLength)
+}
+
+/// That a context has at most 255 bytes.
+pub(crate) fn context(ctx: &[u8]) -> Rule
+    ensures { result ≡ rules.context ctx.now }
+{
+    Rule {
+        is_met: ctx.len() <= 255,
+        refusal: Refusal::ContextTooLong,
     }
 }
 

@@ -4,7 +4,7 @@ ghost use Rattle.std.specs.Prelude.{◌≡◌};
 /// second, and its third.
 #[unsafe(no_mangle)]
 pub extern "C" fn slh_version() -> u32
-    ensures version { result ≡ 9001 }
+    ensures version { result ≡ 10000 }
 {
-    9_001
+    10_000
 }

@@ -237,8 +237,10 @@ pub(crate) fn are_same(left: &Node, right: &Node) -> bool
     left.len() == right.len() && have_same_bytes(left, right)
 }
 
-/// Whether two slices of one length have the same bytes. All are looked at before the answer.
-pub(crate) fn have_same_bytes(left: &[u8], right: &[u8]) -> bool
+/// Whether two slices of one length have the same bytes. All are looked at before the answer. A compiler that inlines
+/// this for a known length makes a branch of each byte, so it is never inlined.
+#[inline(never)]
+pub fn have_same_bytes(left: &[u8], right: &[u8]) -> bool
     requires { length left.now ≡ length right.now }
     ensures { IsTrue result ↔ (left.now ≡ right.now) }
 {

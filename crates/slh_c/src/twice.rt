@@ -1,0 +1,167 @@
+//! Signing two times, so that one fault of memory or of the processor gives no signature. A one-time key that signs a
+//! value that was computed wrongly signs the right one another time, and then anyone can forge (`docs/JOBS.md`,
+//! "Faults"). Both signatures are proved to be the same, so `Fault` is returned only by a machine that fails.
+//!
+//! Each run is a call of its own with the caller's arguments, and writes to another half of `scratch`: a value that is
+//! wrong in one run is not read in the other.
+ghost use Rattle.std.specs.Prelude.{◌≡◌, ◌≢◌, ◌↔◌, IsTrue, length, replicate};
+ghost use Rattle.slh_core.specs.Keys.{public_of, IsGeneratedKey};
+ghost use Rattle.slh_core.specs.Messages.{pure_message, pre_hash_message};
+ghost use Rattle.slh_core.specs.PreHash.{PH};
+ghost use Rattle.slh_core.specs.Signatures.{IsValid};
+ghost use Rattle.slh_c.specs.Keys.{key, signature_under};
+ghost use Rattle.slh_c.specs.Numbers.{InSet, WithFunction};
+ghost use Rattle.slh_c.specs.Refusals.{number};
+ghost use Rattle.slh_c.specs.Rules.{first_refusal, sign_twice_rules, hash_sign_twice_rules, hash_sign_digest_twice_rules};
+ghost use Rattle.slh_c.specs.declared.refusal.Refusal.TheVariants.{Fault};
+
+use crate::numbers::{function_of, set_of};
+use crate::pre_hash_form::{slh_hash_sign, slh_hash_sign_digest};
+use crate::pure_form::slh_sign;
+use crate::randomizer::randomizer_of;
+use crate::refusal::{DONE, Refusal, or_refuse};
+use crate::rules::{self, judge};
+use slh_jobs::have_same_bytes;
+
+/// Copies the first signature to `sig` if both are done and have the same bytes. Refused as `Fault`, with `sig` as it
+/// was, if they are not done or differ.
+fn release(are_done: bool, first: &[u8], second: &[u8], sig: &mut [u8]) -> u32
+    requires len { length first.now ≡ length sig.old }
+    requires halves { length second.now ≡ length first.now }
+    ensures same { (result ≡ DONE) ↔ (IsTrue are_done × (first.now ≡ second.now)) }
+    ensures fault { result ≢ DONE → result ≡ number Fault }
+    ensures done { result ≡ DONE → sig.new ≡ first.now }
+    ensures refused { result ≢ DONE → sig.new ≡ sig.old }
+{
+    if are_done && have_same_bytes(first, second) {
+        sig.copy_from_slice(first);
+        DONE
+    } else {
+        Refusal::Fault.number()
+    }
+}
+
+/// Signs a message as `slh_sign` does, two times, and compares: the bytes are those of `slh_sign`. `scratch` has
+/// room for two signatures, and is zeros where this is done. Refused, with nothing written, by `sign_twice_rules`: as
+/// `slh_sign` is, and for a scratch of another length.
+#[unsafe(no_mangle)]
+#[tactic(auto, using(slh_params::proofs::Bounds::sig_len_high))]
+pub extern "C" fn slh_sign_twice(
+    set: u32,
+    sk: &[u8],
+    msg: &[u8],
+    ctx: &[u8],
+    randomizer: &[u8],
+    scratch: &mut [u8],
+    sig: &mut [u8],
+) -> u32
+    ensures answer { result
+        ≡ first_refusal (sign_twice_rules set sk.now ctx.now randomizer.now scratch.old sig.old) }
+    ensures signature { result ≡ DONE → InSet set (λ s.
+        sig.new ≡ signature_under (key s sk.now) (pure_message ctx.now msg.now) randomizer.now) }
+    ensures refused { result ≢ DONE → (sig.new ≡ sig.old) × (scratch.new ≡ scratch.old) }
+    ensures erased { result ≡ DONE → scratch.new ≡ replicate (length scratch.old) 0 }
+    ensures authentic { result ≡ DONE → InSet set (λ s.
+        IsGeneratedKey (key s sk.now)
+        → IsValid (public_of (key s sk.now)) (pure_message ctx.now msg.now) sig.new) }
+{
+    let of = or_refuse!(set_of(set));
+    or_refuse!(judge(&[rules::secret(of, sk)]));
+    or_refuse!(randomizer_of(of, randomizer));
+    or_refuse!(judge(&[
+        rules::output(2 * of.sig_len(), scratch),
+        rules::output(of.sig_len(), sig),
+        rules::context(ctx),
+    ]));
+    let (first, second) = scratch.split_at_mut(of.sig_len());
+    let are_done = slh_sign(set, sk, msg, ctx, randomizer, first) == DONE
+        && slh_sign(set, sk, msg, ctx, randomizer, second) == DONE;
+    let answer = release(are_done, first, second, sig);
+    scratch.fill(0);
+    answer
+}
+
+/// Signs a message by its digest as `slh_hash_sign` does, two times, and compares: the bytes are those of
+/// `slh_hash_sign`. `scratch` is as in `slh_sign_twice`. Refused, with nothing written, by `hash_sign_twice_rules`: as
+/// `slh_hash_sign` is, and for a scratch of another length.
+#[unsafe(no_mangle)]
+#[tactic(auto, using(slh_params::proofs::Bounds::sig_len_high))]
+pub extern "C" fn slh_hash_sign_twice(
+    set: u32,
+    function: u32,
+    sk: &[u8],
+    msg: &[u8],
+    ctx: &[u8],
+    randomizer: &[u8],
+    scratch: &mut [u8],
+    sig: &mut [u8],
+) -> u32
+    ensures answer { result
+        ≡ first_refusal (hash_sign_twice_rules set function sk.now ctx.now randomizer.now scratch.old sig.old) }
+    ensures signature { result ≡ DONE → InSet set (λ s. WithFunction function (λ f.
+        sig.new ≡ signature_under (key s sk.now) (pre_hash_message ctx.now f (PH f msg.now)) randomizer.now)) }
+    ensures refused { result ≢ DONE → (sig.new ≡ sig.old) × (scratch.new ≡ scratch.old) }
+    ensures erased { result ≡ DONE → scratch.new ≡ replicate (length scratch.old) 0 }
+    ensures authentic { result ≡ DONE → InSet set (λ s. WithFunction function (λ f.
+        IsGeneratedKey (key s sk.now)
+        → IsValid (public_of (key s sk.now)) (pre_hash_message ctx.now f (PH f msg.now)) sig.new)) }
+{
+    let of = or_refuse!(set_of(set));
+    or_refuse!(function_of(function));
+    or_refuse!(judge(&[rules::secret(of, sk)]));
+    or_refuse!(randomizer_of(of, randomizer));
+    or_refuse!(judge(&[
+        rules::output(2 * of.sig_len(), scratch),
+        rules::output(of.sig_len(), sig),
+        rules::context(ctx),
+    ]));
+    let (first, second) = scratch.split_at_mut(of.sig_len());
+    let are_done = slh_hash_sign(set, function, sk, msg, ctx, randomizer, first) == DONE
+        && slh_hash_sign(set, function, sk, msg, ctx, randomizer, second) == DONE;
+    let answer = release(are_done, first, second, sig);
+    scratch.fill(0);
+    answer
+}
+
+/// Signs a digest as `slh_hash_sign_digest` does, two times, and compares: the bytes are those of
+/// `slh_hash_sign_digest`. `scratch` is as in `slh_sign_twice`. Refused, with nothing written, by
+/// `hash_sign_digest_twice_rules`: as `slh_hash_sign_digest` is, and for a scratch of another length.
+#[unsafe(no_mangle)]
+#[tactic(auto, using(slh_params::proofs::Bounds::sig_len_high))]
+pub extern "C" fn slh_hash_sign_digest_twice(
+    set: u32,
+    function: u32,
+    sk: &[u8],
+    digest: &[u8],
+    ctx: &[u8],
+    randomizer: &[u8],
+    scratch: &mut [u8],
+    sig: &mut [u8],
+) -> u32
+    ensures answer { result ≡ first_refusal
+        (hash_sign_digest_twice_rules set function sk.now digest.now ctx.now randomizer.now scratch.old sig.old) }
+    ensures signature { result ≡ DONE → InSet set (λ s. WithFunction function (λ f.
+        sig.new ≡ signature_under (key s sk.now) (pre_hash_message ctx.now f digest.now) randomizer.now)) }
+    ensures refused { result ≢ DONE → (sig.new ≡ sig.old) × (scratch.new ≡ scratch.old) }
+    ensures erased { result ≡ DONE → scratch.new ≡ replicate (length scratch.old) 0 }
+    ensures authentic { result ≡ DONE → InSet set (λ s. WithFunction function (λ f.
+        IsGeneratedKey (key s sk.now)
+        → IsValid (public_of (key s sk.now)) (pre_hash_message ctx.now f digest.now) sig.new)) }
+{
+    let of = or_refuse!(set_of(set));
+    let by = or_refuse!(function_of(function));
+    or_refuse!(judge(&[rules::secret(of, sk)]));
+    or_refuse!(judge(&[rules::digest(by, digest)]));
+    or_refuse!(randomizer_of(of, randomizer));
+    or_refuse!(judge(&[
+        rules::output(2 * of.sig_len(), scratch),
+        rules::output(of.sig_len(), sig),
+        rules::context(ctx),
+    ]));
+    let (first, second) = scratch.split_at_mut(of.sig_len());
+    let are_done = slh_hash_sign_digest(set, function, sk, digest, ctx, randomizer, first) == DONE
+        && slh_hash_sign_digest(set, function, sk, digest, ctx, randomizer, second) == DONE;
+    let answer = release(are_done, first, second, sig);
+    scratch.fill(0);
+    answer
+}
