@@ -1,5 +1,6 @@
 """Counts for the tests in Python what passed, what failed and what was skipped, and reads the options that the test
 scripts have in common, as tests/counts.sh does."""
+import os
 import pathlib
 import subprocess
 import sys
@@ -9,10 +10,13 @@ counts = {"passed": 0, "failed": 0, "skipped": 0}
 
 
 def count(word, line=None):
-    """Counts one of the three, and prints a line."""
+    """Counts one of the three, and prints a line. The test command prints all failures again at its end."""
     counts[word] += 1
     if line is not None:
         print(line, flush=True)
+    if word == "failed" and os.environ.get("SLH_FAILURES"):
+        with open(os.environ["SLH_FAILURES"], "a") as failures:
+            failures.write((line or "a test without a name").splitlines()[-1] + "\n")
 
 
 def skip(name, why):

@@ -3,12 +3,18 @@
 # have in common.
 passed=0 failed=0 skipped=0
 
+# Notes a failure in the file SLH_FAILURES, if the test command has set it: it prints all failures again at its end.
+note_failure() {
+    [ -z "${SLH_FAILURES-}" ] || echo "$1" >>"$SLH_FAILURES"
+}
+
 # Counts a run, and tells whether it was as wanted: NAME, then `yes`, or `no` and why.
 tell() {
     if [ "$2" = yes ]; then
         passed=$((passed + 1))
     else
         failed=$((failed + 1))
+        note_failure "$1: $2"
     fi
     echo "$1: $2"
 }
@@ -21,18 +27,44 @@ skip() {
 
 # Adds the counts of a command that ended with STATUS, from the last line of FILE, which it printed: 'N passed, M
 # failed', with ', K skipped' or without. A command that ended otherwise, or with another status than its counts say, or
-# that ran nothing and skipped nothing, has failed.
+# that ran nothing and skipped nothing, has failed: `fault` says why then, and is empty otherwise.
 add_counts() {
     local status=$1
+    fault=
     if [[ $(tail -n 1 "$2") =~ ^([0-9]+)\ passed,\ ([0-9]+)\ failed(,\ ([0-9]+)\ skipped)?$ ]]; then
         passed=$((passed + BASH_REMATCH[1]))
         failed=$((failed + BASH_REMATCH[2]))
         skipped=$((skipped + ${BASH_REMATCH[4]:-0}))
-        [ "$status" = 0 ] && [ $((BASH_REMATCH[1] + ${BASH_REMATCH[4]:-0})) != 0 ] || [ "${BASH_REMATCH[2]}" != 0 ] ||
-            failed=$((failed + 1))
+        if [ "${BASH_REMATCH[2]}" != 0 ]; then
+            return
+        elif [ "$status" != 0 ]; then
+            fault="it counted no failure, and ended with status $status"
+        elif [ $((BASH_REMATCH[1] + ${BASH_REMATCH[4]:-0})) = 0 ]; then
+            fault="it ran nothing"
+        fi
     else
-        failed=$((failed + 1))
+        fault="it printed no counts, and ended with status $status"
     fi
+    [ -z "$fault" ] || failed=$((failed + 1))
+}
+
+# Copies the lines of standard input to LOG, and prints them if SHOW is yes. After 20 seconds in which nothing was
+# printed it prints a dot. The tests set another number of seconds.
+watch_lines() {
+    local log=$1 show=$2 line= piece status=0 dots= last=$SECONDS pause=${SLH_DOTS_AFTER:-20}
+    : >"$log"
+    while [ $status != 1 ]; do
+        status=0
+        IFS= read -r -t "$pause" piece || status=$?
+        line+=$piece
+        if [ $status = 0 ] || { [ $status = 1 ] && [ -n "$line" ]; }; then
+            echo "$line" >>"$log"
+            [ "$show" = no ] || { printf '%s%s\n' "$dots" "$line" && last=$SECONDS dots=; }
+            line=
+        fi
+        [ $((SECONDS - last)) -lt "$pause" ] || { printf . && last=$SECONDS dots=$'\n'; }
+    done
+    printf %s "$dots"
 }
 
 # Prints the counts as the last line. The status is 0 where nothing failed. Where nothing was run, that has failed.

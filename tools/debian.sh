@@ -10,9 +10,9 @@
 #
 # DIST is a folder as tools/release.sh writes it (default: dist). A file whose hash is not the one in its SHA256SUMS is
 # not packaged. Shared objects are stripped, as Debian's have to be. The man page and the completions are made of the
-# program's own help texts, so it has to run here. It needs dpkg-dev, binutils, git and python3. Files are dated by
-# SOURCE_DATE_EPOCH, without it by the last commit: so packages of one commit are the same bits. DEBFULLNAME and
-# DEBEMAIL name another maintainer.
+# program's own help texts, so it has to run here. It needs dpkg-dev, binutils and python3. Files are dated by
+# SOURCE_DATE_EPOCH, without it by the last commit, and without .git by CHANGELOG.md, to which `git archive` gives the
+# date of its commit: so packages of one commit are the same bits. DEBFULLNAME and DEBEMAIL name another maintainer.
 set -euo pipefail
 here=$(cd "$(dirname "${BASH_SOURCE[0]}")/.." && pwd)
 if [ $# = 0 ] || [ $# -gt 2 ]; then
@@ -34,10 +34,14 @@ folder=$(cd "$1" && pwd)
 dist=$(cd "$dist" && pwd)
 work=$(mktemp -d)
 trap 'rm -rf "$work"' EXIT
-export SOURCE_DATE_EPOCH=${SOURCE_DATE_EPOCH:-$(git -C "$here" log -1 --format=%ct)}
+
+# The second of the last commit: not of another repository, in which an unpacked tarball may be.
+last_commit() { [ -e "$here/.git" ] && git -C "$here" log -1 --format=%ct 2>/dev/null; }
+
+export SOURCE_DATE_EPOCH=${SOURCE_DATE_EPOCH:-$(last_commit || stat -c %Y "$here/CHANGELOG.md")}
 upstream=$(sed -n 's/^version //p' "$dist/BUILD")
 version=$upstream-1
-maintainer="${DEBFULLNAME:-Pipitscreen maintainers} <${DEBEMAIL:-$(git -C "$here" log -1 --format=%ae)}>"
+maintainer="${DEBFULLNAME:-Pipitscreen maintainers} <${DEBEMAIL:-maintainers@users.noreply.pipitscreen.example}>"
 lib=usr/lib/x86_64-linux-gnu
 
 # Begins a package: PACKAGE.

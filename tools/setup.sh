@@ -1,65 +1,190 @@
 #!/usr/bin/env bash
-# Installs from Debian all that the tests run and that is not on every machine; what is there it keeps, so that a second
-# run takes seconds. Without it tests are skipped, and the last line of the test command has their number. No other
-# script of ours uses the network. It needs to be root.
+# Installs from Debian the tools that the tests run. What is there already is kept: a second run takes a second. It
+# first prints how much it downloads and how long that takes. tools/test.sh calls it. It needs to be root on Debian, and
+# changes nothing elsewhere.
 #
-# usage: tools/setup.sh [FOLDER]
+# usage: tools/setup.sh [--few] [--missing]
 #
-#   tests/targets_tests.sh    a C compiler and an emulator for 64-bit ARM, and Node
-#   tests/packages_tests.sh   Go, and setuptools and wheel for Python
-#   tests/debian_tests.sh     lintian and zsh
-#   tests/archive_tests.py    dask.distributed and tqdm
-#   tests/web_tests.py        Chromium, and rsvg-convert, which draws a picture as pixels
-#   tests/openssl_keys.sh     OpenSSL 3.5 of Debian 13 in FOLDER/openssl-3.5, with headers: the command is `openssl-3.5`
-#   tests/portable_tests.sh   clang, compilers for 32-bit ARM, RISC-V, s390x, Windows and boards without a system,
-#                             emulators of them, and wine
-#   for C programs            valgrind
-#   for WebAssembly as C      wasm2c of WABT 1.0.36 of Debian 13 in FOLDER/wabt: the command is `wasm2c-1.0.36`
+#   --few       installs the tools of all tests, and not those of other machines' tests
+#   --missing   prints what is missing, in one line, and installs nothing: the status is 1 if something is missing
+#   --help      prints this
 #
-# FOLDER is /usr/local/lib without it. The commands are links or scripts in /usr/local/bin. Rust and CMake are not
-# installed.
+# The tools of all tests are compilers for C, C++, Rust and Go, Python, Node, CMake, OpenSSL, git, xxd, valgrind,
+# lintian and others. The tests of other machines take compilers for ARM, RISC-V, s390x, Windows and boards, emulators,
+# wine, and a browser. A command of another origin, as of rustup, is taken in place of Debian's package.
+#
+# Debian 12 has no OpenSSL 3.5 and no wasm2c 1.0.36. There both are unpacked from packages of Debian 13 into
+# /usr/local/lib, with their libraries. In each case the commands are openssl-3.5 and wasm2c-1.0.36 in /usr/local/bin.
 set -euo pipefail
-packages=(gcc-aarch64-linux-gnu libc6-dev-arm64-cross qemu-user qemu-user-static
-    gcc-arm-linux-gnueabihf libc6-dev-armhf-cross gcc-riscv64-linux-gnu libc6-dev-riscv64-cross
-    gcc-s390x-linux-gnu libc6-dev-s390x-cross gcc-mingw-w64-x86-64 wine wine64
-    gcc-arm-none-eabi libnewlib-arm-none-eabi qemu-system-arm
-    gcc g++ clang pkg-config python3-venv python3-setuptools python3-wheel python3-distributed python3-tqdm lintian zsh
-    chromium librsvg2-bin valgrind libc6-dbg)
-command -v node >/dev/null || packages+=(nodejs)
-command -v go >/dev/null || packages+=(golang-go)
-mkdir -p "${1-/usr/local/lib}"
-folder=$(cd "${1-/usr/local/lib}" && pwd)
-work=$(mktemp -d)
-trap 'rm -rf "$work"' EXIT
+here=$(cd "$(dirname "${BASH_SOURCE[0]}")/.." && pwd)
+source "$here/tests/counts.sh"
+folder=/usr/local/lib
+few=no asked=install
 
-# The packages that are not installed.
-missing() {
+usage() { sed -n '/^# usage:/,/^#   --help/s/^# \{0,1\}//p' "${BASH_SOURCE[0]}"; }
+
+for word in "$@"; do
+    case "$word" in
+    --few) few=yes ;;
+    --missing) asked=missing ;;
+    --help | -h) usage && exit ;;
+    *) { echo "tools/setup.sh: unknown word: $word" && usage; } >&2 && exit 2 ;;
+    esac
+done
+
+# A command that the tests run, or - if there is none, and the Debian packages that have it.
+of_all_tests="cc gcc libc6-dev
+g++ g++
+nm binutils
+make make
+pkg-config pkg-config
+python3 python3
+- python3-venv python3-setuptools python3-wheel python3-distributed python3-tqdm
+git git
+xxd xxd
+openssl openssl
+rustc rustc
+cargo cargo
+go golang-go
+node nodejs
+cmake cmake
+clang clang
+valgrind valgrind
+- libc6-dbg
+lintian lintian
+man man-db
+zsh zsh
+rsvg-convert librsvg2-bin
+unshare util-linux
+debootstrap debootstrap"
+of_other_machines="aarch64-linux-gnu-gcc gcc-aarch64-linux-gnu
+arm-linux-gnueabihf-gcc gcc-arm-linux-gnueabihf
+riscv64-linux-gnu-gcc gcc-riscv64-linux-gnu
+s390x-linux-gnu-gcc gcc-s390x-linux-gnu
+x86_64-w64-mingw32-gcc gcc-mingw-w64-x86-64
+arm-none-eabi-gcc gcc-arm-none-eabi
+- libc6-dev-arm64-cross libc6-dev-armhf-cross libc6-dev-riscv64-cross libc6-dev-s390x-cross libnewlib-arm-none-eabi
+qemu-aarch64 qemu-user
+qemu-aarch64-static qemu-user-static
+qemu-system-arm qemu-system-arm
+wine wine
+- wine64
+chromium chromium"
+
+wanted() {
+    echo "$of_all_tests"
+    [ $few = yes ] || echo "$of_other_machines"
+}
+
+is_debian() { [ -f /etc/debian_version ] && command -v apt-get >/dev/null; }
+
+# Of the packages of standard input those that are not installed.
+not_installed() {
     local package
-    for package in "${packages[@]}"; do
+    while read -r package; do
         [ "$(dpkg-query -W -f '${db:Status-Status}' "$package" 2>/dev/null)" = installed ] || echo "$package"
     done
 }
 
+# The packages that are missing. Those of a command that is there are not. On a system that is not Debian's, the
+# commands that are missing.
+missing_packages() {
+    local command packages
+    wanted | while read -r command packages; do
+        ! command -v "$command" >/dev/null || continue
+        if is_debian; then
+            tr ' ' '\n' <<<"$packages" | not_installed
+        elif [ "$command" != - ]; then
+            echo "$command"
+        fi
+    done
+}
+
+# The name openssl-3.5 is ours: another system has the command and its headers, or not.
+has_openssl() {
+    local command=openssl-3.5 beside
+    is_debian || command=openssl
+    "$command" list -signature-algorithms 2>/dev/null | grep -q SLH-DSA-SHA2-128f || return
+    beside=$(dirname "$(readlink -f "$(command -v "$command")")")
+    [ -f "$beside/include/openssl/evp.h" ] || pkg-config --atleast-version=3.5 libcrypto
+}
+
+has_wasm2c() { [ $few = yes ] || wasm2c-1.0.36 --version >/dev/null 2>&1; }
+
+missing() {
+    missing_packages
+    has_openssl || echo openssl-3.5
+    has_wasm2c || echo wasm2c-1.0.36
+}
+
+# Whether Debian's package here is of this version or a later one.
+has_version() {
+    local version
+    version=$(apt-cache policy "$1" | sed -n 's/^  Candidate: //p')
+    dpkg --compare-versions "${version:-0}" ge "$2" && [ "$version" != "(none)" ]
+}
+
+# Debian 12 also has a newer compiler for Rust, under another name. Sets `packages` to those to install.
+choose_packages() {
+    mapfile -t packages < <(missing_packages)
+    if has_version rustc-web 1.70; then
+        packages=("${packages[@]/%rustc/rustc-web}")
+        packages=("${packages[@]/%cargo/cargo-web}")
+    fi
+    if ! has_openssl && has_version openssl 3.5; then packages+=(openssl libssl-dev); fi
+    if ! has_wasm2c && has_version wabt 1.0.36; then packages+=(wabt); fi
+}
+
+# Prints what will be downloaded, on disk, and how long that takes, where 4 MB are downloaded and installed in a second.
+announce() {
+    local said download disk megabytes
+    said=$(LC_ALL=C apt-get install --assume-no --no-install-recommends "${packages[@]}" 2>/dev/null || true)
+    download=$(sed -n 's/^Need to get \(.*\) of archives.*/\1/p' <<<"$said")
+    disk=$(sed -n 's/^After this operation, \(.*\) of additional.*/\1/p' <<<"$said")
+    megabytes=$(sed -nE 's|.*[/ ]?([0-9.,]+) MB$|\1|p' <<<"/$download" | tr -d ,)
+    echo "tools/setup.sh installs: ${packages[*]}"
+    echo "It downloads ${download:-an unknown size}, takes ${disk:-an unknown size} on disk, and" \
+        "$(awk -v mb="${megabytes:-0}" 'BEGIN { printf "about %d min", 1 + mb / 240 }')."
+}
+
 install_packages() {
-    mapfile -t wanted < <(missing)
-    [ ${#wanted[@]} != 0 ] || return 0
-    apt-get update
-    DEBIAN_FRONTEND=noninteractive apt-get install -y --no-install-recommends "${wanted[@]}"
+    local lists=(/var/lib/apt/lists/*Packages*)
+    [ -e "${lists[0]}" ] && [ -n "$(find "${lists[@]}" -mtime -1 -print -quit)" ] || {
+        echo "tools/setup.sh asks for Debian's lists of packages: about 10 MB" && logged apt-get -qq update
+    }
+    choose_packages
+    [ ${#packages[@]} != 0 ] || return 0
+    announce
+    logged env DEBIAN_FRONTEND=noninteractive apt-get -q -y --no-install-recommends install "${packages[@]}"
+}
+
+# Runs a command, and shows what it prints only if it fails.
+logged() {
+    "$@" 2>&1 | watch_lines "$work/log" no || {
+        tail -n 20 "$work/log" >&2
+        echo "tools/setup.sh: failed: $*" >&2
+        return 1
+    }
+}
+
+# The address from which Debian itself is downloaded here, and not its updates.
+mirror() {
+    apt-get indextargets --format '$(REPO_URI) $(RELEASE)' 'Created-By: Packages' |
+        awk '$2 !~ /-/ && $1 !~ /security/ { print $1; exit }'
 }
 
 # Unpacks packages of Debian 13 into $work/root, and does not install them.
 unpack() {
-    local mirror package
-    local options=(-o Dir::Etc::SourceList="$work/sources.list" -o Dir::Etc::SourceParts=-
-        -o Dir::State::Lists="$work/lists" -o Dir::Cache="$work/cache")
+    local package
+    local options=(-qq -o Dir::Etc::SourceList="$work/sources.list" -o Dir::Etc::SourceParts=-
+        -o Dir::State::Lists="$work/lists" -o Dir::Cache="$work/cache" -o APT::Sandbox::User=root)
     rm -rf "$work"/{root,debs}
     mkdir -p "$work"/{lists/partial,cache/archives/partial,debs}
     if [ ! -f "$work/sources.list" ]; then
-        mirror=$(apt-get indextargets --format '$(REPO_URI)' | head -n 1)
-        echo "deb [signed-by=/usr/share/keyrings/debian-archive-keyring.gpg] $mirror trixie main" >"$work/sources.list"
-        apt-get "${options[@]}" update
+        echo "deb [signed-by=/usr/share/keyrings/debian-archive-keyring.gpg] $(mirror) trixie main" >"$work/sources.list"
+        logged apt-get "${options[@]}" update
     fi
-    (cd "$work/debs" && apt-get "${options[@]}" download "$@")
+    (cd "$work/debs" && logged apt-get "${options[@]}" download "$@")
     for package in "$work"/debs/*.deb; do
         dpkg -x "$package" "$work/root"
     done
@@ -82,9 +207,15 @@ END_OF_SCRIPT
     ln -sf "$to/$program" "/usr/local/bin/$command"
 }
 
+# Debian's own command, where it has the version, or one that is unpacked.
 install_openssl() {
-    local to=$folder/openssl-3.5 lib=$work/root/usr/lib/x86_64-linux-gnu it
-    ! openssl-3.5 version 2>/dev/null || [ ! -f "$to/include/openssl/evp.h" ] || return 0
+    local to=$folder/openssl-3.5 lib=$work/root/usr/lib/x86_64-linux-gnu
+    ! has_openssl || return 0
+    if has_version openssl 3.5; then
+        ln -sf /usr/bin/openssl /usr/local/bin/openssl-3.5
+        return
+    fi
+    echo "tools/setup.sh unpacks OpenSSL 3.5 of Debian 13 into $to: about 20 MB to download"
     unpack openssl libssl3t64 libssl-dev libc6 zlib1g libzstd1
     put "$to" openssl openssl-3.5 $(cd "$lib" && ls -d libcrypto.so* libssl.so* libz.so* libzstd.so*)
     mkdir -p "$to/include"
@@ -94,14 +225,33 @@ install_openssl() {
 
 install_wasm2c() {
     local lib=$work/root/usr/lib/x86_64-linux-gnu
-    ! wasm2c-1.0.36 --version 2>/dev/null || return 0
+    ! has_wasm2c || return 0
+    if [ "$(wasm2c --version 2>/dev/null)" = 1.0.36 ]; then
+        ln -sf /usr/bin/wasm2c /usr/local/bin/wasm2c-1.0.36
+        return
+    fi
+    echo "tools/setup.sh unpacks wasm2c 1.0.36 of Debian 13 into $folder/wabt: about 10 MB to download"
     unpack wabt libssl3t64 libstdc++6 libgcc-s1 libc6 zlib1g libzstd1
     put "$folder/wabt" wasm2c wasm2c-1.0.36 \
         $(cd "$lib" && ls -d libcrypto.so* libstdc++.so.6* libgcc_s.so* libz.so* libzstd.so*)
-    wasm2c-1.0.36 --version
+    echo "wasm2c $(wasm2c-1.0.36 --version)"
 }
 
+mapfile -t found < <(missing)
+if [ $asked = missing ] || [ ${#found[@]} = 0 ]; then
+    [ ${#found[@]} = 0 ] || { echo "${found[*]}" && exit 1; }
+    [ $asked = missing ] || echo "all is there that the tests need"
+    exit 0
+fi
+if ! is_debian || [ "$(id -u)" != 0 ]; then
+    echo "tools/setup.sh: run it as root on Debian, or install by other means: ${found[*]}" >&2
+    exit 2
+fi
+work=$(mktemp -d)
+trap 'rm -rf "$work"' EXIT
 install_packages
 install_openssl
 install_wasm2c
+mapfile -t found < <(missing)
+[ ${#found[@]} = 0 ] || { echo "tools/setup.sh: still missing: ${found[*]}" >&2 && exit 1; }
 echo "all is there that the tests need"

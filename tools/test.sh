@@ -1,63 +1,98 @@
 #!/usr/bin/env bash
-# All that is proved and tested: `rt ci` (every proof from nothing, some wrong bodies, the tests and the stored runs),
-# more wrong bodies, whether docs/CONTRACTS.md is what the sources say, the library against the tables of known values,
-# and then the program that `rt ci` has built, over tables of command lines, over the vectors of other implementations,
-# over pipes and broken streams, with each growth of memory refused, and with little stack and address space; and the
-# library for C, on this machine, under emulators of others and as portable C, and as a release hands it out, with the
-# packages that are made of it. The last line has the counts of all, and the status is 0 where nothing failed. Before it
-# stand the processor minutes of each part, and what was skipped; a part that took more than docs/CONTRIBUTING.md grants
-# it is told, and is no failure.
+# The test command: all that is proved and tested. With rt that is `rt ci` (every proof from nothing, some wrong bodies,
+# the tests and the stored runs), more wrong bodies, the tables of known values, and the scripts of tests/ over what
+# `rt ci` has built. Without rt it is the same scripts over the release in dist/; what needs rt is skipped by name.
 #
-# usage: tools/test.sh                     all of it, where rt is on the path; else as with --release
-#        tools/test.sh --release [--few]   all scripts over the release in dist/, which needs no rt; --few: a few tests
-#        tools/test.sh --quick             without `rt ci`, the tables and the library, over what earlier checks kept:
-#                                          the layout of all files, the program, the wrong bodies of changed crates, and
-#                                          the scripts
+# usage: tools/test.sh [--no-setup] [--quick | [--release] [--few]]
 #
-# tools/setup.sh installs what the scripts need, so that nothing is skipped.
+#   --no-setup   installs nothing
+#   --quick      without `rt ci`, the tables and the library, over what earlier checks kept: the layout of all files, the
+#                program, the wrong bodies of changed crates, and the scripts over the program
+#   --release    the scripts over the release in dist/, also if rt is there
+#   --few        the same, with a few tests of each script
+#   --help       prints this
+#
+# What is missing is installed by tools/setup.sh, if this is root on Debian. Elsewhere one line says what is missing and
+# how to get it; the tests that need it are skipped by name.
+#
+# Each part is announced with its number and its minutes. At the end stand a table of all parts, the names of what was
+# skipped, and each failure with the command that runs its part alone. The last line is 'N passed, M failed, K skipped',
+# and the status is 0 if nothing failed. A part that took more processor minutes than docs/CONTRIBUTING.md grants is
+# named, and is no failure.
 set -uo pipefail
 here=$(cd "$(dirname "${BASH_SOURCE[0]}")/.." && pwd)
 cd "$here"
 source "$here/tests/counts.sh"
 source "$here/tools/released.sh"
-log=$(mktemp) clock=$(mktemp) spent=0
-trap 'rm -f "$log" "$clock"' EXIT
-minutes=() names=()
+work=$(mktemp -d) spent=0 number=0
+trap 'rm -rf "$work"' EXIT
+export SLH_FAILURES=$work/failures
+plan=() rows=() names=() faults=()
 
-# The processor seconds of all commands so far.
-seconds() {
-    times >"$clock"
-    spent=$(awk -F'[ms ]+' 'NR == 2 { print int($1 * 60 + $2 + $3 * 60 + $4) }' "$clock")
-}
+usage() { sed -n '/^# usage:/,/^#   --help/s/^# \{0,1\}//p' "${BASH_SOURCE[0]}"; }
 
-# Notes the processor minutes of a part since the second $1, beside what docs/CONTRIBUTING.md grants it.
-note_minutes() {
-    local part=$1 before=$2 granted
-    seconds
-    granted=$(awk -F' *[|] *' -v part="\`$part\`" '$2 == part { print $3 }' docs/CONTRIBUTING.md)
-    minutes+=("$(awk -v part="$part" -v taken="$((spent - before))" -v granted="$granted" 'BEGIN {
-        printf "%s: %.1f processor minutes", part, taken / 60
-        if (granted != "") printf " of %s%s", granted, (taken > 60 * granted ? ": OVER ITS BUDGET" : "") }')")
-}
+setup=yes mode=whole few=
+for word in "$@"; do
+    case "$mode $word" in
+    *" --no-setup") setup=no ;;
+    "whole --quick") mode=quick ;;
+    "whole --release" | "release --release") mode=release ;;
+    "whole --few" | "release --few") mode=release few=--few ;;
+    *" --help" | *" -h") usage && exit ;;
+    *) { echo "tools/test.sh: unknown word: $word" && usage; } >&2 && exit 2 ;;
+    esac
+done
+if [ $mode = whole ] && ! command -v rt >/dev/null; then mode=release; fi
 
-# Runs a part, a command whose last line has counts, and adds them up. What it skips is named again at the end.
-part() {
-    seconds
-    local before=$spent
-    "$@" 2>&1 | tee "$log"
-    add_counts "${PIPESTATUS[0]}" "$log"
-    mapfile -t -O ${#names[@]} names < <(grep ': SKIPPED, since ' "$log")
-    note_minutes "$*" "$before"
-}
+# The scripts: what each tests, the minutes that it takes on 4 cores, those with --few, and the commands without which
+# nothing of it can be run.
+scripts_of_sources="tests/commands.py|program: its commands, refusals and help texts|1|1|python3
+tests/library_tests.sh|library for C: calls, headers, examples|6|1|cc g++ nm readelf pkg-config python3
+tests/targets_tests.sh|targets: aarch64, WebAssembly|2|1|python3
+tests/portable_tests.sh|portable C: ARM, RISC-V, s390x, Windows, Cortex-M4|4|1|cc python3
+tests/packages_tests.sh|packages: Python, JavaScript, CMake, Rust, Go|5|1|cc python3
+tests/release_tests.sh|release: README's commands, damaged files, the test command|3|1|cc objdump openssl xxd python3
+tests/provider_tests.sh|provider: OpenSSL's keys, certificates, CMS|4|1|cc python3"
+scripts_of_release="tests/vectors.sh|vectors: by the program|1|1|
+tests/interchange.py|interchange: bytes of other implementations|1|1|python3
+tests/streams.sh|streams: files, pipes, threads|1|1|cc python3
+tests/each_growth.sh|growth: each request for memory refused|1|1|cc
+tests/limits.sh|limits: little stack and address space|1|1|cc
+tests/debian_tests.sh|Debian: its packages|3|1|dpkg-deb dpkg-shlibdeps strip python3 cc pkg-config openssl
+tests/web_tests.py|web: the page that verifies|1|1|python3
+tests/archive_tests.py|archives: the examples for much work|1|1|python3
+tests/openssl_keys.sh|keys: to and from OpenSSL|1|1|openssl xxd"
+scripts_of_kit="rt ci|proofs: each function, from nothing|60|1|rt
+tests/wrong_bodies.py --gate|wrong bodies: of changed crates, and some of all|6|1|rt
+tests/tables.sh|tables: known values of single functions|1|1|rt
+tests/widths_tests.sh|widths: vectors for each number of lanes|6|1|rt"
 
-is_laid_out() {
-    git ls-files -z 'crates/*.rt' 'crates/*.antt' | xargs -0 tools/kit.py fmt >&2
+# ---- what is there ----
+
+# Prints what is missing, and installs it where that can be done.
+prepare() {
+    local missing only=
+    [ $mode != quick ] && [ "$few" = "" ] || only=--few
+    ! missing=$(tools/setup.sh --missing $only) || return 0
+    if [ $setup = yes ] && [ "$(id -u)" = 0 ] && [ -f /etc/debian_version ]; then
+        timeout 1200 tools/setup.sh $only </dev/null && return
+        missing=$(tools/setup.sh --missing $only) && return
+    fi
+    echo "missing: $missing. tools/setup.sh installs them, as root on Debian; else install them by other means." \
+        "What needs them is skipped."
 }
 
 is_whole_release() {
     (cd "$dist" && sha256sum --check --quiet --strict SHA256SUMS &&
         diff <(find . -type f ! -name SHA256SUMS -printf '%P\n' | sort) <(awk '{ print $2 }' SHA256SUMS | sort)) >&2
 }
+
+is_laid_out() {
+    find crates -name out -prune -o \( -name '*.rt' -o -name '*.antt' \) -type f -print0 |
+        xargs -0 tools/kit.py fmt >&2
+}
+
+builds_program() { SLH_BUILD=1 ./slh params >/dev/null; }
 
 # Says what is tested, and what is not. Sets `same` to whether the sources are those of the release.
 tell_release() {
@@ -67,66 +102,161 @@ tell_release() {
     if has_sources_of_release; then same=yes not=; fi
     echo "Tested is the release $(release_says version) of dist/, and the sources are ${not}those that it was built of." \
         "Proofs, wrong bodies, tables and tests inside crates are not run: they need rt."
-    tell "each file of dist/ has the hash that SHA256SUMS lists" "$(is_whole_release && echo yes || echo no)"
 }
 
-# The scripts over the release. Where the sources are others, those that try what these sources have are no test of it:
-# new calls are missing there, and what changed differs.
-test_release() {
-    local it others
-    local scripts=(commands.py library_tests.sh targets_tests.sh portable_tests.sh packages_tests.sh release_tests.sh
-        provider_tests.sh vectors.sh interchange.py streams.sh each_growth.sh limits.sh debian_tests.sh web_tests.py
-        archive_tests.py openssl_keys.sh)
-    for it in "${scripts[@]}"; do
-        if [ $same = no ] && [[ " ${scripts[*]:0:7} " == *" $it "* ]]; then
-            skip "tests/$it" "the sources are not those of dist/"
-            names+=("tests/$it: SKIPPED, since the sources are not those of dist/")
-        else
-            part "tests/$it" "$@" --dist dist
-        fi
-    done
-    [ $# = 0 ] || return 0
+# Runs a check of this command's own: NAME, a command without which it can't be run, and the command.
+check() {
+    local name=$1 needs=$2 word=no
+    shift 2
+    if [ -n "$(lacks $needs)" ]; then
+        skip "$name" "there is no $needs"
+        names+=("$name: SKIPPED, since there is no $needs")
+        return
+    fi
+    ! "$@" || word=yes
+    tell "$name" $word
+    [ $word = yes ] || faults+=("tools/test.sh: $name: no" "    alone: $*")
+}
+
+# ---- the parts ----
+
+# Adds scripts of a table to the parts: words that each is called with, why they are skipped or nothing, and the table.
+plan_parts() {
+    local words=$1 why=$2 script title whole brief needs
+    while IFS='|' read -r script title whole brief needs; do
+        [ "$few" = "" ] || whole=$brief
+        plan+=("$script${words:+ $words}|$title|$whole|$needs|$why")
+    done <<<"$3"
+}
+
+# The scripts over the release. If the sources are others, the scripts that try these sources are no test of it.
+plan_release() {
+    local other others= why=
+    plan_parts "" "it needs rt" "$scripts_of_kit"
+    [ $same = yes ] || why="the sources are not those of dist/"
+    plan_parts "${few:+$few }--dist dist" "$why" "$scripts_of_sources"
+    plan_parts "${few:+$few }--dist dist" "" "$scripts_of_release"
+    [ "$few" = "" ] || return 0
     mapfile -t others < <(programs_here | tail -n +2)
-    for it in ${others[@]+"${others[@]}"}; do
-        part tests/vectors.sh vectors "${it#"$here/"}"
+    for other in ${others[@]+"${others[@]}"}; do
+        plan_parts "vectors ${other#"$here/"}" "" "tests/vectors.sh|vectors: by ${other#"$here/"}|1|1|"
     done
 }
 
-case "$*" in
-"")
-    command -v rt >/dev/null || { rm -f "$log" "$clock" && exec "$here/tools/test.sh" --release; }
-    part rt ci
-    part tests/wrong_bodies.py --gate
+# The scripts over what rt ci has built. tests/release_tests.sh runs those over a release.
+plan_sources() {
+    local all
+    all=$(printf '%s\n' "$scripts_of_sources" "$scripts_of_release")
+    [ $mode = quick ] || plan_parts "" "" "$scripts_of_kit"
+    [ $mode = whole ] ||
+        plan_parts "" "" "tests/wrong_bodies.py --changed|wrong bodies: of changed crates|3|1|rt"
+    plan_parts "" "" "$(grep -E '^tests/(commands|vectors|interchange|streams|each_growth|limits)\.' <<<"$all")"
+    [ $mode = whole ] || return 0
+    plan_parts --after-ci "" "$(grep '^tests/library' <<<"$all")"
+    plan_parts "" "" "$(grep -E '^tests/(targets|portable)' <<<"$all")"
+    plan_parts "" "" "tests/release_tests.sh|release: packages, provider, Debian, and all without rt|10|1|cc openssl xxd"
+    plan_parts --few "" "tests/fresh_tests.sh|fresh: the test command on a minimal Debian|5|5|"
+}
+
+# The processor seconds of all commands so far.
+seconds() {
+    times >"$work/clock"
+    spent=$(awk -F'[ms ]+' 'NR == 2 { print int($1 * 60 + $2 + $3 * 60 + $4) }' "$work/clock")
+}
+
+# The processor minutes that docs/CONTRIBUTING.md grants a command, whatever its options are.
+granted() {
+    local name=${1%% *}
+    [ "$name" != rt ] || name=$1
+    awk -F' *[|] *' -v name="$name" '$2 == "`" name "`" || index($2, "`" name " ") == 1 { print $3; exit }' \
+        docs/CONTRIBUTING.md
+}
+
+# The first of these commands that is not there.
+lacks() {
+    local tool
+    for tool in "$@"; do
+        command -v "$tool" >/dev/null || { echo "$tool" && return; }
+    done
+}
+
+# Runs a part of the plan.
+run_part() {
+    local command title minutes needs why lacking
+    IFS='|' read -r command title minutes needs why <<<"$1"
+    number=$((number + 1))
+    lacking=$(lacks $needs)
+    [ -n "$why" ] || [ -z "$lacking" ] || why="there is no $lacking"
+    if [ -n "$why" ]; then
+        echo "[$number/${#plan[@]}] $title"
+        skip "$command" "$why"
+        names+=("$command: SKIPPED, since $why")
+        rows+=("$command|0|0|1|0|0|")
+    else
+        echo "[$number/${#plan[@]}] $title (about $minutes min): $command"
+        run_command "$command"
+    fi
+}
+
+# Runs a command whose last line has counts, adds them up, and notes what the end of the run says of it.
+run_command() {
+    local command=$1 before_passed=$passed before_failed=$failed before_skipped=$skipped before_spent start=$SECONDS
+    seconds
+    before_spent=$spent
+    : >"$SLH_FAILURES"
+    $command 2>&1 | watch_lines "$work/log" yes
+    add_counts "${PIPESTATUS[0]}" "$work/log"
+    seconds
+    mapfile -t -O ${#names[@]} names < <(grep ': SKIPPED, since ' "$work/log")
+    [ $failed = "$before_failed" ] || note_faults "$command" $((failed - before_failed))
+    rows+=("$command|$((passed - before_passed))|$((failed - before_failed))|$((skipped - before_skipped))|$((SECONDS -
+        start))|$((spent - before_spent))|$(granted "$command")")
+}
+
+# Names the failures of a command, of which there are COUNT.
+note_faults() {
+    local command=$1 count=$2 line lines
+    [ -z "$fault" ] || echo "$fault" >>"$SLH_FAILURES"
+    mapfile -t lines <"$SLH_FAILURES"
+    for line in ${lines[@]+"${lines[@]}"}; do faults+=("${command%% *}: $line"); done
+    [ $count -le ${#lines[@]} ] || faults+=("${command%% *}: $((count - ${#lines[@]})) failed that it names above")
+    faults+=("    alone: $command")
+}
+
+# ---- the end ----
+
+table() {
+    {
+        echo "part|passed|failed|skipped|minutes|processor minutes|granted|"
+        printf '%s\n' "${rows[@]}" | awk -F'|' -v OFS='|' '{
+            over = $7 != "" && $6 > 60 * $7 ? "OVER ITS BUDGET" : ""
+            print $1, $2, $3, $4, sprintf("%.1f", $5 / 60), sprintf("%.1f", $6 / 60), $7, over }'
+        echo "all|$passed|$failed|$skipped|$(awk "BEGIN { printf \"%.1f\", $SECONDS / 60 }")|$(awk "BEGIN {
+            printf \"%.1f\", $spent / 60 }")||"
+    } | awk -F'|' '{
+        printf "%-46s %7s %7s %8s %8s %18s %8s %s\n", $1, $2, $3, $4, $5, $6, $7, $8 }' | sed 's/ *$//'
+}
+
+if [ $mode = release ]; then tell_release; fi
+prepare
+case $mode in
+release)
+    check "each file of dist/ has the hash that SHA256SUMS lists" sha256sum is_whole_release
+    plan_release
     ;;
---quick)
-    tell "all files are as rt fmt lays them out" "$(is_laid_out && echo yes || echo no)"
-    tell "the program is built of its sources" "$(SLH_BUILD=1 ./slh params >/dev/null && echo yes || echo no)"
-    part tests/wrong_bodies.py --changed
+quick)
+    check "all files are as rt fmt lays them out" rt is_laid_out
+    check "the program is built of its sources" rt builds_program
+    plan_sources
     ;;
---release | "--release --few") tell_release ;;
-*)
-    echo "usage: tools/test.sh [--quick | --release [--few]]" >&2
-    exit 2
-    ;;
+whole) plan_sources ;;
 esac
-tell "docs/CONTRACTS.md is what the sources say" "$(tools/contracts.py --check >&2 && echo yes || echo no)"
-tell "docs/pictures is what the tables say" "$(tools/pictures.py --check >&2 && echo yes || echo no)"
-if [[ $* == --release* ]]; then
-    test_release "${@:2}"
-else
-    [ $# != 0 ] || part tests/tables.sh
-    [ $# != 0 ] || part tests/widths_tests.sh
-    part tests/commands.py
-    part tests/vectors.sh
-    part tests/interchange.py
-    part tests/streams.sh
-    part tests/each_growth.sh
-    part tests/limits.sh
-    [ $# != 0 ] || part tests/library_tests.sh --after-ci
-    [ $# != 0 ] || part tests/targets_tests.sh
-    [ $# != 0 ] || part tests/portable_tests.sh
-    [ $# != 0 ] || part tests/release_tests.sh
-fi
+check "docs/CONTRACTS.md is what the sources say" python3 tools/contracts.py --check
+check "docs/pictures is what the tables say" python3 tools/pictures.py --check
+rows+=("tools/test.sh|$passed|$failed|$skipped|$SECONDS|0|")
+for part in "${plan[@]}"; do run_part "$part"; done
 seconds
-printf '%s\n' "${minutes[@]}" "all parts: $((spent / 60)) processor minutes" ${names[@]+"${names[@]}"}
+table
+if [ ${#names[@]} != 0 ]; then printf '%s\n' "skipped:" "${names[@]}"; fi
+if [ ${#faults[@]} != 0 ]; then printf '%s\n' "failed:" "${faults[@]}"; fi
 end_counts
