@@ -32,11 +32,18 @@ can_use() {
     grep -qw "$1" /proc/cpuinfo || { skip "$1" "this processor has none" && return 1; }
 }
 
-# Whether this Node takes a module whose memory has 64-bit addresses. Says of a TARGET that it does not.
+# Whether this Node compiles slh.wasm, or has to: Node 20 and later do. Says of a TARGET that it does not. MODULE is the
+# one of dist/ if it is not given. Node 18 has memory with 64-bit addresses, and no SIMD over it.
 has_memory64() {
-    node --experimental-wasm-memory64 -e '
-        process.exit(WebAssembly.validate(new Uint8Array([0, 97, 115, 109, 1, 0, 0, 0, 5, 3, 1, 4, 1])) ? 0 : 1)
-    ' 2>/dev/null || { skip "$1" "this Node has no WebAssembly with 64-bit memory" && return 1; }
+    local target=$1 module=${2-$here/dist/wasm64/slh.wasm} version
+    version=$(node --version 2>/dev/null)
+    [[ $version =~ ^v([0-9]+)\. ]] && [ "${BASH_REMATCH[1]}" -ge 20 ] && return
+    [ "$(node --experimental-wasm-memory64 -e '
+        new WebAssembly.Module(require("node:fs").readFileSync(process.argv[1]));
+        console.log("compiled");
+    ' "$module" 2>/dev/null)" = compiled ] && return
+    skip "$target" "Node ${version:-without a version} does not compile slh.wasm: it takes Node 20 or later"
+    return 1
 }
 
 # Runs a command, and tells by NAME whether its status was 0. Where it was not, what it prints is shown, and the status is 1.
@@ -52,17 +59,25 @@ one() {
     fi
 }
 
-# Runs a command whose last line has counts, and adds them up. One that ends otherwise has failed. What
-# it skips is shown.
+# Runs a command whose last line has counts, and adds them up. One that ends otherwise has failed. What it skips is
+# shown, and the end of what it prints if it failed.
 count() {
-    local name=$1 status
+    local name=$1 status before=$failed noted
     shift
+    noted=$(noted_failures)
     "$@" >"$work/said" 2>&1
     status=$?
     add_counts $status "$work/said"
     [ "$status" = 0 ] || tail -n 20 "$work/said"
     grep SKIPPED "$work/said"
-    echo "$name: $(tail -n 1 "$work/said")"
+    echo "$name: ${fault:-$(tail -n 1 "$work/said")}"
+    [ "$failed" = "$before" ] || [ "$(noted_failures)" != "$noted" ] ||
+        note_failure "$name: ${fault:-$(tail -n 1 "$work/said")}"
+}
+
+# How much is noted for the test command: a script notes its own failures, and a program in C does not.
+noted_failures() {
+    [ ! -f "${SLH_FAILURES-}" ] || wc -c <"$SLH_FAILURES"
 }
 
 # Whether what NM lists of a FILE, with these flags, is just the lines of standard input. What the C runtime adds to
@@ -96,28 +111,28 @@ of_c() {
     printf 'U %s\n' memcpy memmove memset
 }
 
-# The kit's objcopy, or that of this machine where there is no kit.
-objcopy() {
-    local llvm
-    if llvm=$("$here/tools/kit.py" path toolchain/bin/clang 2>/dev/null); then
-        (exec -a llvm-objcopy "$llvm" "$@")
-    else
-        command objcopy "$@"
-    fi
+# Runs a program of binutils, as objcopy: that of `compiler`, since the others may not read its archives.
+of_binutils() {
+    local program=$1
+    shift
+    "$("${compiler:-${CC:-cc}}" -print-prog-name="$program")" "$@"
 }
 
 # Writes an ARCHIVE to OTHER, in which names that nobody else sees are seen, and weak: a program that is linked with it
-# can bring its own.
+# can bring its own. The result is looked at, since objcopy may change nothing and end with 0.
 with_weak() {
-    local archive=$1 other=$2
+    local archive=$1 other=$2 name
     shift 2
-    objcopy "${@/#/--globalize-symbol=}" "$archive" "$other.seen" &&
-        objcopy "${@/#/--weaken-symbol=}" "$other.seen" "$other"
+    of_binutils objcopy "${@/#/--globalize-symbol=}" "$archive" "$other.seen" &&
+        of_binutils objcopy "${@/#/--weaken-symbol=}" "$other.seen" "$other" || return
+    for name in "$@"; do
+        of_binutils nm "$other" | grep " [VW] $name$" || { echo "$name is not weak in $other" && return 1; }
+    done
 }
 
 # Makes PROGRAM of tests/library_depths.c and an ARCHIVE, by a compiler.
 measures_depths() {
-    local archive=$1 program=$2
+    local archive=$1 program=$2 compiler=$3
     shift 2
     with_weak "$archive" "$work/weak.a" slh_clear &&
         "$@" -std=c11 "${strict[@]}" -O1 -static "$here/tests/library_depths.c" "$work/weak.a" -o "$program"
@@ -136,7 +151,7 @@ best_level() {
 # Whether the program that searches for secrets finds some after each call where nothing is cleared: an ARCHIVE with
 # another slh_clear, compiled by a compiler, and run by RUN, for the set 128f.
 finds_what_is_left() {
-    local archive=$1 run=$2
+    local archive=$1 run=$2 compiler=$3
     shift 2
     {
         printf '#include <stddef.h>\n#include <stdint.h>\n'

@@ -6,8 +6,9 @@
 #
 # tools/library.sh says what --after-ci is, and which release is installed with --dist. With --few the symbols
 # and the headers are looked at, and that is all.
-# It needs what tools/library.sh needs, and a C++ compiler as CXX or g++, rustc as RUSTC or rustc, python3 and
-# pkg-config. The last line has the counts, and the status is 0 where nothing failed.
+# It needs what tools/library.sh needs, and a C++ compiler as CXX or g++, python3 and pkg-config. The examples in Rust
+# need rustc as RUSTC or rustc, and are skipped without it. The last line has the counts, and the status is 0 where
+# nothing failed.
 set -u
 here=$(cd "$(dirname "${BASH_SOURCE[0]}")/.." && pwd)
 cc=${CC:-cc} cxx=${CXX:-g++} rustc=${RUSTC:-rustc}
@@ -62,10 +63,10 @@ count_erasing() {
         <"$here/vectors/slh-dsa-sha2-128f.json" >"$work/key"
     erases_its_key "the C example" "$work/plain_c"
     erases_its_key "the C++ example" "$work/plain_cpp"
-    erases_its_key "the Rust example" "$work/of_rust"
+    [ $has_rust = no ] || erases_its_key "the Rust example" "$work/of_rust"
     erases_its_key "the Python example" python3 "$here/examples/sign_file.py" "$lib/libslh.so"
     erases_its_key "the C example of threads" "$work/plain_threads" 2 "$work/key"
-    erases_its_key "the Rust example of threads" "$work/rust_threads" 2 "$work/key"
+    [ $has_rust = no ] || erases_its_key "the Rust example of threads" "$work/rust_threads" 2 "$work/key"
 }
 
 # Whether examples of threads tell why, for no arguments, each file that is not there, and a key of another length.
@@ -277,6 +278,8 @@ one "libslh_verify.a makes a shared object" "$cc" -shared -o "$work/libslh_verif
     -Wl,--whole-archive "$lib/libslh_verify.a" -Wl,--no-whole-archive
 count "vectors of verify" "$here/tests/library_vectors.py" --verify-only "$work/libslh_verify.so"
 
+has_rust=no rust_threads=()
+if can_run "the examples in Rust" "$rustc"; then has_rust=yes rust_threads=("$work/rust_threads"); fi
 one "the C example compiles" "$cc" -std=c99 "${strict[@]}" "${sanitized[@]}" "$here/examples/sign_file.c" \
     -I "$prefix/include" "$lib/libslh.a" -o "$work/of_c"
 one "the C example" example "$work/of_c"
@@ -287,19 +290,22 @@ one "glibc loads the shared object that is installed, and no earlier one" is_loa
 one "the C++ example compiles" "$cxx" -std=c++11 "${strict[@]}" "${sanitized[@]}" "$here/examples/sign_file.cpp" \
     -I "$prefix/include" "$lib/libslh.a" -o "$work/of_cpp"
 one "the C++ example" example "$work/of_cpp"
-one "the Rust example compiles" "$rustc" -D warnings -O -L "native=$lib" -o "$work/of_rust" \
-    "$here/examples/sign_file.rs"
-one "the Rust example" example "$work/of_rust"
-one "the Rust example of threads compiles" "$rustc" -D warnings -O -L "native=$lib" -o "$work/rust_threads" \
-    "$here/examples/sign_threads.rs"
-one "the Rust example of threads gives the vectors' signatures" by_threads "$work/rust_threads"
+if [ $has_rust = yes ]; then
+    one "the Rust example compiles" "$rustc" -D warnings -O -L "native=$lib" -o "$work/of_rust" \
+        "$here/examples/sign_file.rs"
+    one "the Rust example" example "$work/of_rust"
+    one "the Rust example of threads compiles" "$rustc" -D warnings -O -L "native=$lib" -o "$work/rust_threads" \
+        "$here/examples/sign_threads.rs"
+    one "the Rust example of threads gives the vectors' signatures" by_threads "$work/rust_threads"
+fi
 one "the Python example" example python3 "$here/examples/sign_file.py" "$lib/libslh.so"
 verify_example "this machine" "$lib/libslh_verify.a" env "$cc" "${sanitized[@]}" -I "$prefix/include"
 one "the C example of threads compiles" "$cc" -std=c99 "${strict[@]}" "${sanitized[@]}" \
     "$here/examples/sign_threads.c" -I "$prefix/include" "$lib/libslh.a" -pthread -o "$work/of_threads"
 one "the C example of threads gives the vectors' signatures" by_threads "$work/of_threads"
 count_erasing
-one "the examples of threads say what is wrong" threads_tell_why "$work/of_threads" "$work/rust_threads"
+one "the examples of threads say what is wrong" threads_tell_why "$work/of_threads" \
+    ${rust_threads[@]+"${rust_threads[@]}"}
 one "each example that signs a file alone has under 90 lines" \
     awk 'FNR == 90 { long = 1 } END { exit long }' "$here"/examples/sign_file.*
 
