@@ -1,0 +1,197 @@
+#!/usr/bin/env bash
+# Tests the repository as on a new machine: debootstrap makes a minimal Debian 12 and a minimal Debian 13 in folders.
+# There README's commands are run one by one, as they are printed, by dash, bash and zsh, which are interactive as for
+# somebody who pastes them. Then the test command is run: first by a user who may install nothing, then by root, whom it
+# has to install all that is missing. Nothing may fail. Debian 12 has the files of `git archive`, Debian 13 a clone.
+#
+# usage: tests/fresh_tests.sh [--few]
+#
+# With --few it makes Debian 12 alone, and the test command runs with --few there. It has to be root on Debian, with
+# debootstrap (tools/setup.sh installs it) and the mirror that apt has: else all is skipped. A root takes 6 GB of the
+# folder for temporary files while it is tested. What is downloaded stays in ~/.cache/slh, for the next run. The last
+# line has the counts, and the status is 0 if nothing failed.
+set -u
+here=$(cd "$(dirname "${BASH_SOURCE[0]}")/.." && pwd)
+source "$here/tests/counts.sh"
+take_options "$@"
+[ ${#words[@]} = 0 ] || nothing_to_test "unknown word: ${words[0]}"
+work=$(mktemp -d)
+trap 'rm -rf --one-file-system "$work"' EXIT
+source "$here/tests/library_parts.sh"
+cache=${XDG_CACHE_HOME:-${HOME:-/root}/.cache}/slh
+export LC_ALL=C.UTF-8
+
+# ---- a root ----
+
+# The addresses and suites of this machine's apt, an entry a line, for a NAME of Debian in place of this machine's.
+suites_of() {
+    local own
+    own=$(. /etc/os-release && echo "$VERSION_CODENAME")
+    apt-get indextargets --format '$(REPO_URI) $(RELEASE)' 'Created-By: Packages' |
+        awk -v own="$own" -v name="$1" 'index($2, own) == 1 { print $1, name substr($2, length(own) + 1) }' | sort -u
+}
+
+is_on_mirror() { wget -q --spider --timeout=20 --tries=2 "$1/dists/$2/Release" 2>/dev/null; }
+
+# The address from which Debian of this NAME is downloaded.
+mirror_of() {
+    local address suite
+    suites_of "$1" | while read -r address suite; do
+        [ "$suite" != "$1" ] || ! is_on_mirror "$address" "$suite" || { echo "$address" && break; }
+    done
+}
+
+# Makes the root of Debian NAME, with what README's commands take: openssl, and the shells.
+make_root() {
+    local name=$1 address suite
+    mkdir -p "$cache/debs-$name/partial" "$root"
+    debootstrap --variant=minbase --include=openssl,zsh --cache-dir="$cache/debs-$name" "$name" "$root" \
+        "$(mirror_of "$name")" || return
+    suites_of "$name" | while read -r address suite; do
+        ! is_on_mirror "$address" "$suite" || echo "deb $address $suite main"
+    done >"$root/etc/apt/sources.list"
+    apt-config dump | grep -E '^Acquire::(http|https|ftp|Check|Retries)' >"$root/etc/apt/apt.conf.d/99machine"
+    echo force-unsafe-io >"$root/etc/dpkg/dpkg.cfg.d/unsafe-io"
+    cp -rL /etc/resolv.conf "$root/etc/"
+    [ ! -d /etc/apt/auth.conf.d ] || cp -r /etc/apt/auth.conf.d "$root/etc/apt/"
+}
+
+# Runs a command in the folder /slh of the root.
+in_root() {
+    local name=${root##*/} it words=(HOME=/root TERM=dumb LC_ALL=C.UTF-8)
+    words+=(PATH=/usr/local/sbin:/usr/local/bin:/usr/sbin:/usr/bin:/sbin:/bin)
+    for it in http_proxy https_proxy no_proxy; do [ -z "${!it-}" ] || words+=("$it=${!it}"); done
+    timeout 7200 unshare -mpf --kill-child bash -e -c '
+        mount -t proc proc "$0/proc"
+        mount --rbind /dev "$0/dev"
+        mount --rbind /sys "$0/sys"
+        mount --bind "$1" "$0/var/cache/apt/archives"
+        shift
+        exec chroot "$0" /usr/bin/env -i -C /slh "$@"
+    ' "$root" "$cache/debs-$name" "${words[@]}" "$@"
+}
+
+# The commit to test: the last one, with what has changed since in its files.
+commit() {
+    local it
+    it=$(git -C "$here" -c user.name=It -c user.email=it@example.org stash create 2>/dev/null)
+    echo "${it:-HEAD}"
+}
+
+# Copies the repository to the root: as a clone for Debian 13, else without .git.
+copy_in() {
+    if [ ! -e "$here/.git" ]; then
+        mkdir "$root/slh" && tar -C "$here" --exclude=out -cf - . | tar -C "$root/slh" -xf -
+    elif [ "$1" = trixie ]; then
+        git clone -q "$here" "$root/slh" && git -C "$here" archive "$(commit)" | tar -C "$root/slh" -xf -
+    else
+        mkdir "$root/slh" && git -C "$here" archive "$(commit)" | tar -C "$root/slh" -xf -
+    fi
+}
+
+# ---- README's commands ----
+
+# The commands of README as they are printed, a line each, but for those of "Test".
+commands() {
+    awk '/^## / { test = $0 == "## Test" } /^    / && !test { print substr($0, 5) }' "$here/README.md"
+}
+
+# README names the test command, and no other, for tests.
+names_one_command() {
+    diff <(awk '/^## / { test = $0 == "## Test" } /^    / && test' "$here/README.md") <(echo "    tools/test.sh")
+}
+
+# The same with a line after each that tells of a status other than 0.
+commands_told() {
+    commands | awk '{ print } !/\\$/ { printf "[ $? = 0 ] || echo \"line %d failed\"\n", NR }'
+}
+
+# Pastes the commands into a shell: each ends with 0, the signature is valid, and the secret key is for its owner alone.
+pastes() {
+    commands_told >"$root/slh/pasted"
+    in_root sh -c 'env PS1= PS2= "$@" <pasted >said 2>errors' sh "$@"
+    [ "$(cat "$root/slh/said")" = valid ] && [ "$(stat -c %a "$root/slh/secret.key")" = 600 ] || {
+        cat "$root/slh/said" "$root/slh/errors"
+        stat -c 'the mode of %n is %a' "$root"/slh/*.key
+        return 1
+    }
+    (cd "$root/slh" && rm -f pasted said errors letter.txt letter.sig public.key secret.key)
+}
+
+# ---- the test command ----
+
+# Whether the test command ended with 0, counted no failure, and ran something.
+has_passed() {
+    if [ "$1" = 0 ] && tail -n 1 "$work/tested" | grep -q '^[1-9][0-9]* passed, 0 failed, [0-9]* skipped$'; then
+        return
+    fi
+    sed -n '/^failed:$/,$p' "$work/tested" | grep . || tail -n 20 "$work/tested"
+    return 1
+}
+
+# A user who may install nothing is told in one line what is missing and how to get it. What lacks it is skipped.
+tests_as_nobody() {
+    in_root setpriv --reuid=65534 --regid=65534 --clear-groups env -u HOME tools/test.sh --release --few \
+        >"$work/tested" 2>&1
+    has_passed $? && grep '^missing: .*python3.*tools/setup.sh installs them, as root on Debian' "$work/tested"
+}
+
+# Root is told before it begins how much is downloaded, and has all that is needed afterwards.
+tests_as_root() {
+    local options=()
+    [ $few = no ] || options=(--few)
+    in_root tools/test.sh ${options[@]+"${options[@]}"} >"$work/tested" 2>&1
+    has_passed $? && grep '^It downloads [0-9.,]* MB, takes [0-9.,]* MB on disk, and about [0-9]* min\.$' "$work/tested" &&
+        in_root tools/setup.sh --missing ${options[@]+"${options[@]}"}
+}
+
+# What the test command skipped, and its counts.
+tell_skipped() {
+    sed -n '/^skipped:$/,/passed, /s/: SKIPPED, since/ is skipped, since/p' "$work/tested" | sed "s/^/$1: /"
+    echo "$1: $(tail -n 1 "$work/tested")"
+}
+
+test_debian() {
+    local name=$1 number=$2 shell
+    root=$work/$name
+    if [ -z "$(mirror_of "$name")" ]; then
+        skip "Debian $number" "the mirror of this machine's apt does not have it"
+        return
+    fi
+    one "Debian $number: a minimal root is made" make_root "$name" || return
+    one "Debian $number: the repository is copied" copy_in "$name" || return
+    for shell in "dash -i" "bash --norc -i" "zsh -f -i"; do
+        one "Debian $number: README's commands by ${shell%% *}" pastes $shell
+    done
+    one "Debian $number: the test command as a user" tests_as_nobody
+    one "Debian $number: the test command as root" tests_as_root
+    tell_skipped "Debian $number"
+    rm -rf --one-file-system "$root"
+}
+
+# Why no root can be made, or nothing.
+obstacle() {
+    if [ "$(id -u)" != 0 ]; then
+        echo "this is not root"
+    elif ! (. /etc/os-release && [ "$ID" = debian ]) || ! command -v apt-get >/dev/null; then
+        echo "this is not Debian"
+    elif ! command -v debootstrap >/dev/null || ! command -v wget >/dev/null; then
+        echo "there is no debootstrap"
+    elif ! unshare -mpf true 2>/dev/null; then
+        echo "unshare is refused"
+    fi
+}
+
+one "README's test command is one command" names_one_command
+why=$(obstacle)
+if [ -n "$why" ]; then
+    skip "Debian 12" "$why"
+    [ $few = yes ] || skip "Debian 13" "$why"
+    end_counts
+    exit
+fi
+eval "$(apt-config shell proxy Acquire::http::Proxy)"
+[ -z "${proxy-}" ] || export http_proxy=$proxy
+test_debian bookworm 12
+[ $few = yes ] || test_debian trixie 13
+end_counts
