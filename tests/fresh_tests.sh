@@ -31,7 +31,7 @@ suites_of() {
         awk -v own="$own" -v name="$1" 'index($2, own) == 1 { print $1, name substr($2, length(own) + 1) }' | sort -u
 }
 
-is_on_mirror() { wget -q --spider --timeout=20 --tries=2 "$1/dists/$2/Release" 2>/dev/null; }
+is_on_mirror() { wget -q --spider --timeout=20 --tries=2 "${1%/}/dists/$2/Release" 2>/dev/null; }
 
 # The address from which Debian of this NAME is downloaded.
 mirror_of() {
