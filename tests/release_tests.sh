@@ -11,7 +11,7 @@
 #
 # It stands on what `rt ci`, or `rt check` in crates/slh and crates/slh_c, has built, and needs rt for that. With --dist
 # the release DIST is taken instead: nothing is built or compared, and what is made of a release is left to the other
-# scripts. With --few README's and LIBRARY's commands alone are run. It needs a C compiler as cc, objdump, openssl, git
+# scripts. With --few README's and LIBRARY's commands alone are run. It needs a C compiler as cc, objdump, openssl
 # and unshare. Where no other root can be made, that is skipped, and so are the builds for a level that the processor
 # lacks, and emulated processors without qemu-x86_64. The last line has the counts, and the status is 0 where nothing
 # failed.
@@ -111,17 +111,15 @@ signs_in_another_root() {
 scripts=(commands.py library_tests.sh targets_tests.sh portable_tests.sh packages_tests.sh release_tests.sh
     provider_tests.sh vectors.sh interchange.py streams.sh each_growth.sh limits.sh debian_tests.sh web_tests.py archive_tests.py openssl_keys.sh)
 
-# The test command, briefly, as somebody runs it in a clone who has no kit: nothing fails, and each script was run.
+# The test command, briefly, in a folder without .git, as an unpacked tarball: nothing fails, and each script is run.
 tests_in_another_root() {
     local it
-    copy_anew
-    (cd "$copy" && git init -q && git add -A &&
-        git -c user.name=It -c user.email=it@example.com commit -q -m All) || return
-    printf 'cd /copy && export HOME=/tmp && exec tools/test.sh --release --few\n' >"$copy/try.sh"
+    copy_anew || return
+    printf 'cd /copy && export HOME=/tmp && exec tools/test.sh --no-setup --release --few\n' >"$copy/try.sh"
     in_another_root && grep -q '^[1-9][0-9]* passed, 0 failed, [0-9]* skipped$' <(tail -n 1 "$work/out") || return
     head -n 1 "$work/out" | grep "Tested is the release .* sources are those .* are not run: they need rt" || return
     for it in "${scripts[@]}"; do
-        grep "^tests/$it --few --dist dist: .* processor minutes$" "$work/out" || return
+        grep "^tests/$it --few --dist dist  *[0-9]* *0 *[0-9]* *[0-9.]* *[0-9.]*" "$work/out" || return
     done
 }
 
@@ -136,46 +134,124 @@ stub_scripts() {
     rm -f "$copy/called"
 }
 
-# Without rt the test command runs each script over dist/ and adds up the counts; a script that fails, ends otherwise or
-# runs nothing fails it, and what is skipped is named above the last line.
+# Runs the test command of the copy without installing anything.
+test_command() { bare tools/test.sh --no-setup "$@"; }
+
+# Without rt the test command runs each script over dist/ and adds up the counts. The four parts that need rt count as
+# skipped; what is skipped is named.
 test_command_needs_no_rt() {
     local others
-    copy_anew && stub_scripts 0 "4 passed, 0 failed" && bare tools/test.sh || return
+    copy_anew && stub_scripts 0 "4 passed, 0 failed" && test_command || return
     others=$(($(ls -d "$copy"/dist/x86-64-v*/slh | wc -l) - 1))
     diff <(printf '%s --dist dist\n' "${scripts[@]}" | sort) <(grep -e --dist "$copy/called" | sort) || return
     [ "$(grep -c '^vectors.sh vectors dist/' "$copy/called")" -le $others ] || return
-    counts_are "$((4 * $(grep -vc contracts.py "$copy/called") + 3)) passed, 0 failed, 0 skipped" || return
-    stub_scripts 0 "it: SKIPPED, since not" "4 passed, 0 failed, 1 skipped" && bare tools/test.sh || return
-    [ "$(tail -n 2 "$work/out" | head -n 1)" = "it: SKIPPED, since not" ] || return
-    for it in "1 4 passed, 1 failed" "2 no program" "0 0 passed, 0 failed" "1 4 passed, 0 failed"; do
-        stub_scripts "${it%% *}" "${it#* }" && ! bare tools/test.sh --release || return
-    done
+    counts_are "$((4 * $(grep -vc contracts.py "$copy/called") + 3)) passed, 0 failed, 4 skipped" || return
+    diff <(named skipped) <(printf '%s: SKIPPED, since it needs rt\n' "rt ci" "tests/wrong_bodies.py --gate" \
+        tests/{tables,widths_tests}.sh) || return
+    stub_scripts 0 "it: SKIPPED, since not" "4 passed, 0 failed, 1 skipped" && test_command || return
+    [ "$(named skipped | grep -c '^it: SKIPPED, since not$')" = "$(grep -vc contracts.py "$copy/called")" ] || return
     rm -r "$copy/dist"
-    bare tools/test.sh
+    test_command
     [ $? = 2 ] && grep "there is no release in dist/" "$work/err"
 }
 
-# Where the sources are not those of dist/ it says so, and names the scripts that are skipped.
+# The lines of the test command under a head, as `failed`, up to the next one.
+named() {
+    sed -n "/^$1:\$/,/^failed:\$\|passed, /p" "$work/out" | grep -vE '^[a-z]+:$|[0-9]+ passed, '
+}
+
+# A script that fails, one that prints no counts, one that ends otherwise than they say, and one that runs nothing: each
+# is named at the end with its reason and the command that runs it alone, and the status is 1.
+test_command_names_failures() {
+    local it status line
+    while IFS='|' read -r status line it; do
+        copy_anew && stub_scripts 0 "4 passed, 0 failed" && break_script "$status" "$line" || return
+        ! test_command --release || return
+        diff <(named failed) <(printf '%s\n' "tests/limits.sh: $it" "    alone: tests/limits.sh --dist dist") || return
+        tail -n 1 "$work/out" | grep -E '^[0-9]+ passed, 1 failed, 4 skipped$' || return
+        grep -E '^tests/limits.sh --dist dist +[0-9]+ +1 +0 ' "$work/out" || return
+    done <<'END'
+1|4 passed, 1 failed|it is right: no
+2|no program|it printed no counts, and ended with status 2
+0|nothing at all|it printed no counts, and ended with status 0
+0|0 passed, 0 failed|it ran nothing
+1|4 passed, 0 failed|it counted no failure, and ended with status 1
+END
+}
+
+# Makes limits.sh of the copy a script that ends with STATUS, and whose last line is LINE. It counts its failure by
+# tests/counts.sh, as each script does.
+break_script() {
+    cat >"$copy/tests/limits.sh" <<END
+#!/bin/bash
+. "$copy/tests/counts.sh"
+case "$2" in *" 1 failed") tell "it is right" no ;; esac
+echo "$2"
+exit $1
+END
+}
+
+# Parts are announced by number, a silence has dots, and a part over its budget is named whatever its options are.
+test_command_can_be_watched() {
+    copy_anew && stub_scripts 0 "4 passed, 0 failed" || return
+    printf '#!/bin/sh\nsleep 3\ni=0\nwhile [ $i -lt 300000 ]; do i=$((i + 1)); done\necho "4 passed, 0 failed"\n' \
+        >"$copy/tests/limits.sh"
+    sed -i 's/^| `tests\/limits.sh` | .*/| `tests\/limits.sh` | 0.0001 |/' "$copy/docs/CONTRIBUTING.md"
+    bare env SLH_DOTS_AFTER=1 tools/test.sh --no-setup || return
+    grep -E '^\[[0-9]+/[0-9]+\] limits: .* \(about [0-9]+ min\): tests/limits.sh --dist dist$' "$work/out" &&
+        [ "$(grep -cE '^\[[0-9]+/' "$work/out")" = "$(sed -nE 's|^\[1/([0-9]+)\].*|\1|p' "$work/out")" ] &&
+        grep -E '^\.{2,4}$' "$work/out" &&
+        grep -E '^tests/limits.sh --dist dist .* 0\.0001 OVER ITS BUDGET$' "$work/out" &&
+        [ "$(grep -c 'OVER ITS BUDGET' "$work/out")" = 1 ]
+}
+
+# If the sources are not those of dist/ it says so, and names the scripts that are skipped.
 test_command_names_what_is_skipped() {
-    local it
     copy_anew && stub_scripts 0 "4 passed, 0 failed" && echo '// changed' >>"$copy/crates/slh_core/src/lib.rt" || return
-    bare tools/test.sh && head -n 1 "$work/out" | grep 'the sources are NOT those that it was built of' || return
-    tail -n 1 "$work/out" | grep '^[1-9][0-9]* passed, 0 failed, 7 skipped$' || return
-    diff <(tail -n 8 "$work/out" | head -n 7) <(printf 'tests/%s: SKIPPED, since the sources are not those of dist/\n' \
+    test_command && head -n 1 "$work/out" | grep 'the sources are NOT those that it was built of' || return
+    tail -n 1 "$work/out" | grep '^[1-9][0-9]* passed, 0 failed, 11 skipped$' || return
+    diff <(named skipped | tail -n 7) <(printf 'tests/%s --dist dist: SKIPPED, since the sources are not those of dist/\n' \
         commands.py {library,targets,portable,packages,release,provider}_tests.sh) || return
     [ "$(grep -c -e --dist "$copy/called")" = 9 ] && ! grep -e commands -e library -e packages "$copy/called"
 }
 
-# CI runs the test command whether tools can be installed or not, and installs them where it can.
-ci_goes_on() {
+# The test command goes on whether tools can be installed or not, and installs them if it can and may. CI runs it.
+test_command_installs() {
     local status
     for status in 0 1; do
-        copy_anew && printf '#!/bin/sh\ntouch called\nexit %s\n' $status >"$copy/tools/setup.sh" || return
-        printf '#!/bin/sh\necho "1 passed, 2 failed, 3 skipped"\nexit 1\n' >"$copy/tools/test.sh"
-        bare .ci/run
-        [ $? = 1 ] && [ "$(cat "$work/out")" = "1 passed, 2 failed, 3 skipped" ] || return
-        [ "$(id -u)" != 0 ] || [ ! -f /etc/debian_version ] || [ -e "$copy/called" ] || return
+        copy_anew && stub_scripts 0 "4 passed, 0 failed" && stub_setup $status || return
+        bare .ci/run || return
+        if [ "$(id -u)" = 0 ] && [ -f /etc/debian_version ]; then
+            grep -x installs "$copy/called" || return
+            [ $status = 0 ] && ! grep '^missing: ' "$work/out" || [ $status = 1 ] || return
+        fi
+        [ $status = 0 ] || grep '^missing: it and more\. tools/setup.sh installs them, as root on Debian' "$work/out" || return
     done
+    rm "$copy/called" && test_command && grep '^missing: it and more\. ' "$work/out" && ! grep installs "$copy/called"
+}
+
+# A tools/setup.sh that lacks tools until it has installed them, which ends with STATUS.
+stub_setup() {
+    cat >"$copy/tools/setup.sh" <<END
+#!/bin/sh
+[ "\$1" != --missing ] || { grep -qsx "installs and has" called && exit 0; echo "it and more" && exit 1; }
+echo installs >>called
+[ $1 = 1 ] || echo "installs and has" >>called
+exit $1
+END
+}
+
+# Words that tools/setup.sh and tools/test.sh do not know are refused before anything is done, and --help is theirs.
+words_are_refused() {
+    local tool
+    copy_anew || return
+    for tool in setup test; do
+        refuses "unknown word: #" "tools/$tool.sh" '#' as root && [ ! -e "$copy/#" ] || return
+        refuses "unknown word: folder" "tools/$tool.sh" --few folder && [ ! -e "$copy/folder" ] || return
+        bare "tools/$tool.sh" --help && head -n 1 "$work/out" | grep "^usage: tools/$tool.sh " && [ ! -s "$work/err" ] ||
+            return
+    done
+    refuses "unknown word: --few" tools/test.sh --quick --few
 }
 
 counts_are() { [ "$(tail -n 1 "$work/out")" = "$1" ]; }
@@ -655,7 +731,10 @@ test_the_scripts() {
     cat "$work/times"
     one "the test command without rt" test_command_needs_no_rt
     one "the test command names what it skips" test_command_names_what_is_skipped
-    one "CI goes on where nothing can be installed" ci_goes_on
+    one "the test command names each failure at its end" test_command_names_failures
+    one "the test command can be watched" test_command_can_be_watched
+    one "the test command installs what is missing, or says so" test_command_installs
+    one "the test command and setup refuse unknown words" words_are_refused
     one "a script that has nothing to test has status 2" nothing_is_no_test
 }
 

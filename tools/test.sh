@@ -158,10 +158,10 @@ plan_sources() {
     plan_parts --few "" "tests/fresh_tests.sh|fresh: the test command on a minimal Debian|5|5|"
 }
 
-# The processor seconds of all commands so far.
-seconds() {
+# Sets `spent` to the hundredths of processor seconds of all commands so far.
+measure() {
     times >"$work/clock"
-    spent=$(awk -F'[ms ]+' 'NR == 2 { print int($1 * 60 + $2 + $3 * 60 + $4) }' "$work/clock")
+    spent=$(awk -F'[ms ]+' 'NR == 2 { print int(100 * ($1 * 60 + $2 + $3 * 60 + $4)) }' "$work/clock")
 }
 
 # The processor minutes that docs/CONTRIBUTING.md grants a command, whatever its options are.
@@ -201,12 +201,12 @@ run_part() {
 # Runs a command whose last line has counts, adds them up, and notes what the end of the run says of it.
 run_command() {
     local command=$1 before_passed=$passed before_failed=$failed before_skipped=$skipped before_spent start=$SECONDS
-    seconds
+    measure
     before_spent=$spent
     : >"$SLH_FAILURES"
     $command 2>&1 | watch_lines "$work/log" yes
     add_counts "${PIPESTATUS[0]}" "$work/log"
-    seconds
+    measure
     mapfile -t -O ${#names[@]} names < <(grep ': SKIPPED, since ' "$work/log")
     [ $failed = "$before_failed" ] || note_faults "$command" $((failed - before_failed))
     rows+=("$command|$((passed - before_passed))|$((failed - before_failed))|$((skipped - before_skipped))|$((SECONDS -
@@ -229,10 +229,10 @@ table() {
     {
         echo "part|passed|failed|skipped|minutes|processor minutes|granted|"
         printf '%s\n' "${rows[@]}" | awk -F'|' -v OFS='|' '{
-            over = $7 != "" && $6 > 60 * $7 ? "OVER ITS BUDGET" : ""
-            print $1, $2, $3, $4, sprintf("%.1f", $5 / 60), sprintf("%.1f", $6 / 60), $7, over }'
+            over = $7 != "" && $6 > 6000 * $7 ? "OVER ITS BUDGET" : ""
+            print $1, $2, $3, $4, sprintf("%.1f", $5 / 60), sprintf("%.1f", $6 / 6000), $7, over }'
         echo "all|$passed|$failed|$skipped|$(awk "BEGIN { printf \"%.1f\", $SECONDS / 60 }")|$(awk "BEGIN {
-            printf \"%.1f\", $spent / 60 }")||"
+            printf \"%.1f\", $spent / 6000 }")||"
     } | awk -F'|' '{
         printf "%-46s %7s %7s %8s %8s %18s %8s %s\n", $1, $2, $3, $4, $5, $6, $7, $8 }' | sed 's/ *$//'
 }
@@ -255,7 +255,7 @@ check "docs/CONTRACTS.md is what the sources say" python3 tools/contracts.py --c
 check "docs/pictures is what the tables say" python3 tools/pictures.py --check
 rows+=("tools/test.sh|$passed|$failed|$skipped|$SECONDS|0|")
 for part in "${plan[@]}"; do run_part "$part"; done
-seconds
+measure
 table
 if [ ${#names[@]} != 0 ]; then printf '%s\n' "skipped:" "${names[@]}"; fi
 if [ ${#faults[@]} != 0 ]; then printf '%s\n' "failed:" "${faults[@]}"; fi
