@@ -1,14 +1,14 @@
 #!/usr/bin/env bash
-# Tests the repository as on a new machine: debootstrap makes a minimal Debian 12 and a minimal Debian 13 in folders.
-# There README's commands are run one by one, as they are printed, by dash, bash and zsh, which are interactive as for
-# somebody who pastes them. Then the test command is run: first by a user who may install nothing, then by root, whom it
-# has to install all that is missing. Nothing may fail. Debian 12 has the files of `git archive`, Debian 13 a clone.
+# Tests the repository on new machines: a minimal Debian 12 and a minimal Debian 13, which debootstrap makes in folders.
+# Interactive shells (dash, bash and zsh) run README's commands one by one, as if they were pasted. Then a user without
+# rights runs the test command, which has to name the missing tools and skip. Then root runs it, and it has to install
+# them. Nothing may fail. Debian 12 has the files of `git archive`, Debian 13 a clone.
 #
 # usage: tests/fresh_tests.sh [--few]
 #
-# With --few it makes Debian 12 alone, and the test command runs with --few there. It has to be root on Debian, with
-# debootstrap (tools/setup.sh installs it) and the mirror that apt has: else all is skipped. A root takes 6 GB of the
-# folder for temporary files while it is tested. What is downloaded stays in ~/.cache/slh, for the next run. The last
+# --few makes Debian 12 alone, and runs the test command with --few there. The script has to be root on Debian, with
+# debootstrap (tools/setup.sh installs it) and a mirror of both: otherwise all is skipped. A root takes up to 7 GB of
+# the folder for temporary files while it is tested. Downloaded packages stay in ~/.cache/slh for the next run. The last
 # line has the counts, and the status is 0 if nothing failed.
 set -u
 here=$(cd "$(dirname "${BASH_SOURCE[0]}")/.." && pwd)
@@ -33,7 +33,7 @@ suites_of() {
 
 is_on_mirror() { wget -q --spider --timeout=20 --tries=2 "${1%/}/dists/$2/Release" 2>/dev/null; }
 
-# The address from which Debian of this NAME is downloaded.
+# The address of the mirror that has Debian NAME, or nothing.
 mirror_of() {
     local address suite
     suites_of "$1" | while read -r address suite; do
@@ -41,7 +41,7 @@ mirror_of() {
     done
 }
 
-# Makes the root of Debian NAME, with what README's commands take: openssl, and the shells.
+# Makes the root of Debian NAME, with openssl, which README's commands run, and the shells.
 make_root() {
     local name=$1 address suite
     mkdir -p "$cache/debs-$name/partial" "$root"
@@ -71,7 +71,7 @@ in_root() {
     ' "$root" "$cache/debs-$name" "${words[@]}" "$@"
 }
 
-# The commit to test: the last one, with what has changed since in its files.
+# The commit to test: the last one, with later changes of its files.
 commit() {
     local it
     it=$(git -C "$here" -c user.name=It -c user.email=it@example.org stash create 2>/dev/null)
@@ -91,7 +91,7 @@ copy_in() {
 
 # ---- README's commands ----
 
-# The commands of README as they are printed, a line each, but for those of "Test".
+# README's commands as they are printed, without those of "Test".
 commands() {
     awk '/^## / { test = $0 == "## Test" } /^    / && !test { print substr($0, 5) }' "$here/README.md"
 }
@@ -101,12 +101,13 @@ names_one_command() {
     diff <(awk '/^## / { test = $0 == "## Test" } /^    / && test' "$here/README.md") <(echo "    tools/test.sh")
 }
 
-# The same with a line after each that tells of a status other than 0.
+# The same, and after each command a line that tells if its status was not 0.
 commands_told() {
     commands | awk '{ print } !/\\$/ { printf "[ $? = 0 ] || echo \"line %d failed\"\n", NR }'
 }
 
-# Pastes the commands into a shell: each ends with 0, the signature is valid, and the secret key is for its owner alone.
+# Pastes the commands into a shell: each ends with 0, the signature is valid, and only its owner can read the secret
+# key.
 pastes() {
     commands_told >"$root/slh/pasted"
     in_root sh -c 'env PS1= PS2= "$@" <pasted >said 2>errors' sh "$@"
@@ -129,23 +130,23 @@ has_passed() {
     return 1
 }
 
-# A user who may install nothing is told in one line what is missing and how to get it. What lacks it is skipped.
+# A user without rights gets one line that names the missing tools and how to get them. Tests without tools are skipped.
 tests_as_nobody() {
     in_root setpriv --reuid=65534 --regid=65534 --clear-groups env -u HOME tools/test.sh --release --few \
         >"$work/tested" 2>&1
     has_passed $? && grep '^missing: .*python3.*tools/setup.sh installs them, as root on Debian' "$work/tested"
 }
 
-# Root is told before it begins how much is downloaded, and has all that is needed afterwards.
+# Root reads the size of the download before it begins, and no tool is missing afterwards.
 tests_as_root() {
     local options=()
     [ $few = no ] || options=(--few)
     in_root tools/test.sh ${options[@]+"${options[@]}"} >"$work/tested" 2>&1
-    has_passed $? && grep '^It downloads [0-9.,]* MB, takes [0-9.,]* MB on disk, and about [0-9]* min\.$' "$work/tested" &&
+    has_passed $? && grep '^It downloads .* MB, takes .* MB on disk, and about [0-9]* min\.$' "$work/tested" &&
         in_root tools/setup.sh --missing ${options[@]+"${options[@]}"}
 }
 
-# What the test command skipped, and its counts.
+# Prints the tests that the test command skipped, and its counts.
 tell_skipped() {
     sed -n '/^skipped:$/,/passed, /s/: SKIPPED, since/ is skipped, since/p' "$work/tested" | sed "s/^/$1: /"
     echo "$1: $(tail -n 1 "$work/tested")"
@@ -169,7 +170,7 @@ test_debian() {
     rm -rf --one-file-system "$root"
 }
 
-# Why no root can be made, or nothing.
+# Prints the reason why no root can be made, or nothing.
 obstacle() {
     if [ "$(id -u)" != 0 ]; then
         echo "this is not root"

@@ -109,7 +109,8 @@ signs_in_another_root() {
 
 # The scripts that the test command runs over a release.
 scripts=(commands.py library_tests.sh targets_tests.sh portable_tests.sh packages_tests.sh release_tests.sh
-    provider_tests.sh vectors.sh interchange.py streams.sh each_growth.sh limits.sh debian_tests.sh web_tests.py archive_tests.py openssl_keys.sh)
+    provider_tests.sh vectors.sh interchange.py streams.sh each_growth.sh limits.sh debian_tests.sh web_tests.py
+    archive_tests.py openssl_keys.sh)
 
 # The test command, briefly, in a folder without .git, as an unpacked tarball: nothing fails, and each script is run.
 tests_in_another_root() {
@@ -210,7 +211,8 @@ test_command_names_what_is_skipped() {
     copy_anew && stub_scripts 0 "4 passed, 0 failed" && echo '// changed' >>"$copy/crates/slh_core/src/lib.rt" || return
     test_command && head -n 1 "$work/out" | grep 'the sources are NOT those that it was built of' || return
     tail -n 1 "$work/out" | grep '^[1-9][0-9]* passed, 0 failed, 11 skipped$' || return
-    diff <(named skipped | tail -n 7) <(printf 'tests/%s --dist dist: SKIPPED, since the sources are not those of dist/\n' \
+    diff <(named skipped | tail -n 7) \
+        <(printf 'tests/%s --dist dist: SKIPPED, since the sources are not those of dist/\n' \
         commands.py {library,targets,portable,packages,release,provider}_tests.sh) || return
     [ "$(grep -c -e --dist "$copy/called")" = 9 ] && ! grep -e commands -e library -e packages "$copy/called"
 }
@@ -225,7 +227,7 @@ test_command_installs() {
             grep -x installs "$copy/called" || return
             [ $status = 0 ] && ! grep '^missing: ' "$work/out" || [ $status = 1 ] || return
         fi
-        [ $status = 0 ] || grep '^missing: it and more\. tools/setup.sh installs them, as root on Debian' "$work/out" || return
+        [ $status = 0 ] || grep '^missing: it and more\. tools/setup.sh installs them, as root' "$work/out" || return
     done
     rm "$copy/called" && test_command && grep '^missing: it and more\. ' "$work/out" && ! grep installs "$copy/called"
 }
@@ -239,6 +241,23 @@ echo installs >>called
 [ $1 = 1 ] || echo "installs and has" >>called
 exit $1
 END
+}
+
+# Packages are made in a folder without .git, and dated by SOURCE_DATE_EPOCH, else by CHANGELOG.md.
+packages_of_a_tarball() {
+    local second words=(env SOURCE_DATE_EPOCH=1500000000)
+    copy_anew && touch -d @1600000000 "$copy/CHANGELOG.md" || return
+    for second in 1500000000 1600000000; do
+        bare ${words[@]+"${words[@]}"} tools/debian.sh debs || return
+        [ "$(seconds_of "$copy"/debs/libslh-dev_*.deb)" = $second ] || return
+        words=()
+    done
+}
+
+# The seconds at which the files of a package were changed, each once.
+seconds_of() {
+    dpkg-deb --fsys-tarfile "$1" | python3 -c 'import sys, tarfile
+print(*{int(it.mtime) for it in tarfile.open(fileobj=sys.stdin.buffer, mode="r|")})'
 }
 
 # Words that tools/setup.sh and tools/test.sh do not know are refused before anything is done, and --help is theirs.
@@ -735,6 +754,9 @@ test_the_scripts() {
     one "the test command can be watched" test_command_can_be_watched
     one "the test command installs what is missing, or says so" test_command_installs
     one "the test command and setup refuse unknown words" words_are_refused
+    if can_run "packages of a tarball" dpkg-deb dpkg-shlibdeps strip; then
+        one "packages are made without .git" packages_of_a_tarball
+    fi
     one "a script that has nothing to test has status 2" nothing_is_no_test
 }
 

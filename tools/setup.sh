@@ -1,20 +1,20 @@
 #!/usr/bin/env bash
-# Installs from Debian the tools that the tests run. What is there already is kept: a second run takes a second. It
-# first prints how much it downloads and how long that takes. tools/test.sh calls it. It needs to be root on Debian, and
-# changes nothing elsewhere.
+# Installs the tools that the tests run, from Debian. It installs no tool that is there: a second run takes a second. It
+# prints the size of the download and the minutes before it begins. tools/test.sh calls it. It has to be root on Debian,
+# and changes nothing on other systems.
 #
 # usage: tools/setup.sh [--few] [--missing]
 #
-#   --few       installs the tools of all tests, and not those of other machines' tests
-#   --missing   prints what is missing, in one line, and installs nothing: the status is 1 if something is missing
+#   --few       leaves out the tools that only tests of other machines run
+#   --missing   installs nothing, and prints the missing packages in one line: with status 1 if there are some
 #   --help      prints this
 #
-# The tools of all tests are compilers for C, C++, Rust and Go, Python, Node, CMake, OpenSSL, git, xxd, valgrind,
-# lintian and others. The tests of other machines take compilers for ARM, RISC-V, s390x, Windows and boards, emulators,
-# wine, and a browser. A command of another origin, as of rustup, is taken in place of Debian's package.
+# All tests need compilers for C, C++, Rust and Go, Python, Node, CMake, OpenSSL, git, xxd, valgrind, lintian and
+# others. Tests of other machines need compilers for ARM, RISC-V, s390x, Windows and boards, emulators, wine, and a
+# browser. A command that another installer put on the path, for example rustup, replaces Debian's package.
 #
-# Debian 12 has no OpenSSL 3.5 and no wasm2c 1.0.36. There both are unpacked from packages of Debian 13 into
-# /usr/local/lib, with their libraries. In each case the commands are openssl-3.5 and wasm2c-1.0.36 in /usr/local/bin.
+# Debian 12 has no OpenSSL 3.5 and no wasm2c 1.0.36: both are unpacked from packages of Debian 13 into /usr/local/lib,
+# with their libraries. On Debian 12 and 13 the commands are openssl-3.5 and wasm2c-1.0.36 in /usr/local/bin.
 set -euo pipefail
 here=$(cd "$(dirname "${BASH_SOURCE[0]}")/.." && pwd)
 source "$here/tests/counts.sh"
@@ -78,7 +78,7 @@ wanted() {
 
 is_debian() { [ -f /etc/debian_version ] && command -v apt-get >/dev/null; }
 
-# Of the packages of standard input those that are not installed.
+# Prints those packages of standard input that are not installed.
 not_installed() {
     local package
     while read -r package; do
@@ -86,8 +86,8 @@ not_installed() {
     done
 }
 
-# The packages that are missing. Those of a command that is there are not. On a system that is not Debian's, the
-# commands that are missing.
+# Prints the missing packages; on other systems than Debian the missing commands. If a command is there, its packages
+# are not missing.
 missing_packages() {
     local command packages
     wanted | while read -r command packages; do
@@ -100,7 +100,7 @@ missing_packages() {
     done
 }
 
-# The name openssl-3.5 is ours: another system has the command and its headers, or not.
+# The name openssl-3.5 is ours: other systems have OpenSSL 3.5 as openssl, or not at all.
 has_openssl() {
     local command=openssl-3.5 beside
     is_debian || command=openssl
@@ -135,13 +135,13 @@ choose_packages() {
     if ! has_wasm2c && has_version wabt 1.0.36; then packages+=(wabt); fi
 }
 
-# Prints what will be downloaded, on disk, and how long that takes, where 4 MB are downloaded and installed in a second.
+# Prints the size of the download and on disk, and the minutes: some 4 MB are downloaded and installed in a second.
 announce() {
     local said download disk megabytes
     said=$(LC_ALL=C apt-get install --assume-no --no-install-recommends "${packages[@]}" 2>/dev/null || true)
     download=$(sed -n 's/^Need to get \(.*\) of archives.*/\1/p' <<<"$said")
     disk=$(sed -n 's/^After this operation, \(.*\) of additional.*/\1/p' <<<"$said")
-    megabytes=$(sed -nE 's|.*[/ ]?([0-9.,]+) MB$|\1|p' <<<"/$download" | tr -d ,)
+    megabytes=$(sed -nE 's|.*[/ ]([0-9.,]+) MB$|\1|p' <<<" $download" | tr -d ,)
     echo "tools/setup.sh installs: ${packages[*]}"
     echo "It downloads ${download:-an unknown size}, takes ${disk:-an unknown size} on disk, and" \
         "$(awk -v mb="${megabytes:-0}" 'BEGIN { printf "about %d min", 1 + mb / 240 }')."
@@ -158,7 +158,7 @@ install_packages() {
     logged env DEBIAN_FRONTEND=noninteractive apt-get -q -y --no-install-recommends install "${packages[@]}"
 }
 
-# Runs a command, and shows what it prints only if it fails.
+# Runs a command, and shows its output only if it fails.
 logged() {
     "$@" 2>&1 | watch_lines "$work/log" no || {
         tail -n 20 "$work/log" >&2
@@ -167,7 +167,7 @@ logged() {
     }
 }
 
-# The address from which Debian itself is downloaded here, and not its updates.
+# The address of Debian's main archive in this machine's configuration.
 mirror() {
     apt-get indextargets --format '$(REPO_URI) $(RELEASE)' 'Created-By: Packages' |
         awk '$2 !~ /-/ && $1 !~ /security/ { print $1; exit }'
@@ -175,13 +175,13 @@ mirror() {
 
 # Unpacks packages of Debian 13 into $work/root, and does not install them.
 unpack() {
-    local package
+    local package keys=/usr/share/keyrings/debian-archive-keyring.gpg
     local options=(-qq -o Dir::Etc::SourceList="$work/sources.list" -o Dir::Etc::SourceParts=-
         -o Dir::State::Lists="$work/lists" -o Dir::Cache="$work/cache" -o APT::Sandbox::User=root)
     rm -rf "$work"/{root,debs}
     mkdir -p "$work"/{lists/partial,cache/archives/partial,debs}
     if [ ! -f "$work/sources.list" ]; then
-        echo "deb [signed-by=/usr/share/keyrings/debian-archive-keyring.gpg] $(mirror) trixie main" >"$work/sources.list"
+        echo "deb [signed-by=$keys] $(mirror) trixie main" >"$work/sources.list"
         logged apt-get "${options[@]}" update
     fi
     (cd "$work/debs" && logged apt-get "${options[@]}" download "$@")
@@ -207,7 +207,7 @@ END_OF_SCRIPT
     ln -sf "$to/$program" "/usr/local/bin/$command"
 }
 
-# Debian's own command, where it has the version, or one that is unpacked.
+# Links Debian's own command if it has the version, and unpacks one otherwise.
 install_openssl() {
     local to=$folder/openssl-3.5 lib=$work/root/usr/lib/x86_64-linux-gnu
     ! has_openssl || return 0

@@ -1,24 +1,25 @@
 #!/usr/bin/env bash
-# The test command: all that is proved and tested. With rt that is `rt ci` (every proof from nothing, some wrong bodies,
-# the tests and the stored runs), more wrong bodies, the tables of known values, and the scripts of tests/ over what
-# `rt ci` has built. Without rt it is the same scripts over the release in dist/; what needs rt is skipped by name.
+# The test command. With rt it runs `rt ci` (every proof from nothing, some wrong bodies, the tests and the stored
+# runs), more wrong bodies, the tables of known values, and the scripts of tests/ over the libraries and the program
+# that `rt ci` has built. Without rt it runs the scripts over the release in dist/, and skips the parts that need rt by
+# name.
 #
 # usage: tools/test.sh [--no-setup] [--quick | [--release] [--few]]
 #
 #   --no-setup   installs nothing
-#   --quick      without `rt ci`, the tables and the library, over what earlier checks kept: the layout of all files, the
-#                program, the wrong bodies of changed crates, and the scripts over the program
+#   --quick      the layout of all files, the program, the wrong bodies of changed crates, and the scripts over the
+#                program, by the work that earlier checks kept: no `rt ci`, no tables and no library
 #   --release    the scripts over the release in dist/, also if rt is there
 #   --few        the same, with a few tests of each script
 #   --help       prints this
 #
-# What is missing is installed by tools/setup.sh, if this is root on Debian. Elsewhere one line says what is missing and
-# how to get it; the tests that need it are skipped by name.
+# If tools are missing, tools/setup.sh installs them, as root on Debian. On other systems one line names them and how to
+# get them, and the tests that need them are skipped by name.
 #
-# Each part is announced with its number and its minutes. At the end stand a table of all parts, the names of what was
-# skipped, and each failure with the command that runs its part alone. The last line is 'N passed, M failed, K skipped',
-# and the status is 0 if nothing failed. A part that took more processor minutes than docs/CONTRIBUTING.md grants is
-# named, and is no failure.
+# Each part is announced with its number and its minutes. The end is a table of all parts, a list of the skipped tests,
+# and each failure with the command that runs its part alone. The last line is 'N passed, M failed, K skipped', and the
+# status is 0 if nothing failed. The table marks parts that took more processor minutes than docs/CONTRIBUTING.md
+# grants: that is no failure.
 set -uo pipefail
 here=$(cd "$(dirname "${BASH_SOURCE[0]}")/.." && pwd)
 cd "$here"
@@ -44,8 +45,8 @@ for word in "$@"; do
 done
 if [ $mode = whole ] && ! command -v rt >/dev/null; then mode=release; fi
 
-# The scripts: what each tests, the minutes that it takes on 4 cores, those with --few, and the commands without which
-# nothing of it can be run.
+# Scripts, each with its title, its minutes on 4 cores, its minutes with --few, and the commands without which it can't
+# be run at all.
 scripts_of_sources="tests/commands.py|program: its commands, refusals and help texts|1|1|python3
 tests/library_tests.sh|library for C: calls, headers, examples|6|1|cc g++ nm readelf pkg-config python3
 tests/targets_tests.sh|targets: aarch64, WebAssembly|2|1|python3
@@ -67,9 +68,9 @@ tests/wrong_bodies.py --gate|wrong bodies: of changed crates, and some of all|6|
 tests/tables.sh|tables: known values of single functions|1|1|rt
 tests/widths_tests.sh|widths: vectors for each number of lanes|6|1|rt"
 
-# ---- what is there ----
+# ---- before the parts ----
 
-# Prints what is missing, and installs it where that can be done.
+# Installs missing tools, or names them.
 prepare() {
     local missing only=
     [ $mode != quick ] && [ "$few" = "" ] || only=--few
@@ -79,7 +80,7 @@ prepare() {
         missing=$(tools/setup.sh --missing $only) && return
     fi
     echo "missing: $missing. tools/setup.sh installs them, as root on Debian; else install them by other means." \
-        "What needs them is skipped."
+        "The tests that need them are skipped."
 }
 
 is_whole_release() {
@@ -94,20 +95,20 @@ is_laid_out() {
 
 builds_program() { SLH_BUILD=1 ./slh params >/dev/null; }
 
-# Says what is tested, and what is not. Sets `same` to whether the sources are those of the release.
+# Names the release that is tested, and the parts that are not run. Sets `same` to whether the sources are its own.
 tell_release() {
     has_release || nothing_to_test "there is no release in dist/"
     local not="NOT "
     same=no
     if has_sources_of_release; then same=yes not=; fi
-    echo "Tested is the release $(release_says version) of dist/, and the sources are ${not}those that it was built of." \
-        "Proofs, wrong bodies, tables and tests inside crates are not run: they need rt."
+    echo "Tested is the release $(release_says version) of dist/, and the sources are ${not}those that it was built" \
+        "of. Proofs, wrong bodies, tables and tests inside crates are not run: they need rt."
 }
 
-# Runs a check of this command's own: NAME, a command without which it can't be run, and the command.
+# Runs a check of this command's own: NAME, a command that it needs, how it is run alone, and the command.
 check() {
-    local name=$1 needs=$2 word=no
-    shift 2
+    local name=$1 needs=$2 alone=$3 word=no
+    shift 3
     if [ -n "$(lacks $needs)" ]; then
         skip "$name" "there is no $needs"
         names+=("$name: SKIPPED, since there is no $needs")
@@ -115,12 +116,12 @@ check() {
     fi
     ! "$@" || word=yes
     tell "$name" $word
-    [ $word = yes ] || faults+=("tools/test.sh: $name: no" "    alone: $*")
+    [ $word = yes ] || faults+=("tools/test.sh: $name: no" "    alone: $alone")
 }
 
 # ---- the parts ----
 
-# Adds scripts of a table to the parts: words that each is called with, why they are skipped or nothing, and the table.
+# Adds scripts of a table to the plan: WORDS that each is called with, WHY they are skipped (or nothing), TABLE.
 plan_parts() {
     local words=$1 why=$2 script title whole brief needs
     while IFS='|' read -r script title whole brief needs; do
@@ -129,7 +130,7 @@ plan_parts() {
     done <<<"$3"
 }
 
-# The scripts over the release. If the sources are others, the scripts that try these sources are no test of it.
+# Plans the scripts over the release. If the sources are others, some scripts would test calls that it lacks.
 plan_release() {
     local other others= why=
     plan_parts "" "it needs rt" "$scripts_of_kit"
@@ -143,7 +144,7 @@ plan_release() {
     done
 }
 
-# The scripts over what rt ci has built. tests/release_tests.sh runs those over a release.
+# Plans the scripts over the work of `rt ci`. tests/release_tests.sh runs the others, over a release that it builds.
 plan_sources() {
     local all
     all=$(printf '%s\n' "$scripts_of_sources" "$scripts_of_release")
@@ -154,7 +155,7 @@ plan_sources() {
     [ $mode = whole ] || return 0
     plan_parts --after-ci "" "$(grep '^tests/library' <<<"$all")"
     plan_parts "" "" "$(grep -E '^tests/(targets|portable)' <<<"$all")"
-    plan_parts "" "" "tests/release_tests.sh|release: packages, provider, Debian, and all without rt|10|1|cc openssl xxd"
+    plan_parts "" "" "tests/release_tests.sh|release: packages, provider, Debian, what needs no rt|10|1|cc openssl xxd"
     plan_parts --few "" "tests/fresh_tests.sh|fresh: the test command on a minimal Debian|5|5|"
 }
 
@@ -164,15 +165,14 @@ measure() {
     spent=$(awk -F'[ms ]+' 'NR == 2 { print int(100 * ($1 * 60 + $2 + $3 * 60 + $4)) }' "$work/clock")
 }
 
-# The processor minutes that docs/CONTRIBUTING.md grants a command, whatever its options are.
+# The processor minutes that docs/CONTRIBUTING.md grants a command: those of the script, if it runs over a release.
 granted() {
-    local name=${1%% *}
-    [ "$name" != rt ] || name=$1
-    awk -F' *[|] *' -v name="$name" '$2 == "`" name "`" || index($2, "`" name " ") == 1 { print $3; exit }' \
-        docs/CONTRIBUTING.md
+    local script=${1%% --dist *}
+    awk -F' *[|] *' -v command="\`$1\`" -v script="\`${script% --few}" '
+        $2 == command || $2 == script "`" || $2 == script " --after-ci`" { print $3; exit }' docs/CONTRIBUTING.md
 }
 
-# The first of these commands that is not there.
+# Prints the first of these commands that is not there.
 lacks() {
     local tool
     for tool in "$@"; do
@@ -198,7 +198,7 @@ run_part() {
     fi
 }
 
-# Runs a command whose last line has counts, adds them up, and notes what the end of the run says of it.
+# Runs a command whose last line has counts, adds them up, and notes its row of the table, skipped tests and failures.
 run_command() {
     local command=$1 before_passed=$passed before_failed=$failed before_skipped=$skipped before_spent start=$SECONDS
     measure
@@ -213,13 +213,15 @@ run_command() {
         start))|$((spent - before_spent))|$(granted "$command")")
 }
 
-# Names the failures of a command, of which there are COUNT.
+# Notes the COUNT failures of a command: those that its scripts noted, else lines of its output.
 note_faults() {
-    local command=$1 count=$2 line lines
+    local command=$1 count=$2 file=${1%% *} line lines
+    [ "$file" != rt ] || file=$command
+    [ -s "$SLH_FAILURES" ] || grep -E ': (no|fail)$|no proof' "$work/log" | head -n "$count" >>"$SLH_FAILURES"
     [ -z "$fault" ] || echo "$fault" >>"$SLH_FAILURES"
     mapfile -t lines <"$SLH_FAILURES"
-    for line in ${lines[@]+"${lines[@]}"}; do faults+=("${command%% *}: $line"); done
-    [ $count -le ${#lines[@]} ] || faults+=("${command%% *}: $((count - ${#lines[@]})) failed that it names above")
+    for line in ${lines[@]+"${lines[@]}"}; do faults+=("$file: $line"); done
+    [ $count -le ${#lines[@]} ] || faults+=("$file: $((count - ${#lines[@]})) failed that it names above")
     faults+=("    alone: $command")
 }
 
@@ -241,18 +243,19 @@ if [ $mode = release ]; then tell_release; fi
 prepare
 case $mode in
 release)
-    check "each file of dist/ has the hash that SHA256SUMS lists" sha256sum is_whole_release
+    check "each file of dist/ has the hash that SHA256SUMS lists" sha256sum \
+        "(cd dist && sha256sum --check SHA256SUMS)" is_whole_release
     plan_release
     ;;
 quick)
-    check "all files are as rt fmt lays them out" rt is_laid_out
-    check "the program is built of its sources" rt builds_program
+    check "all files are as rt fmt lays them out" rt "rt fmt, in each crate" is_laid_out
+    check "the program is built of its sources" rt "SLH_BUILD=1 ./slh params" builds_program
     plan_sources
     ;;
 whole) plan_sources ;;
 esac
-check "docs/CONTRACTS.md is what the sources say" python3 tools/contracts.py --check
-check "docs/pictures is what the tables say" python3 tools/pictures.py --check
+check "docs/CONTRACTS.md is what the sources say" python3 "tools/contracts.py --check" tools/contracts.py --check
+check "docs/pictures is what the tables say" python3 "tools/pictures.py --check" tools/pictures.py --check
 rows+=("tools/test.sh|$passed|$failed|$skipped|$SECONDS|0|")
 for part in "${plan[@]}"; do run_part "$part"; done
 measure
