@@ -172,7 +172,7 @@ test_command_names_failures() {
         tail -n 1 "$work/out" | grep -E '^[0-9]+ passed, 1 failed, 4 skipped$' || return
         grep -E '^tests/limits.sh --dist dist +[0-9]+ +1 +0 ' "$work/out" || return
     done <<'END'
-1|4 passed, 1 failed|it is right: no
+1|4 passed, 1 failed|it is right: no, it is not
 2|no program|it printed no counts, and ended with status 2
 0|nothing at all|it printed no counts, and ended with status 0
 0|0 passed, 0 failed|it ran nothing
@@ -186,7 +186,7 @@ break_script() {
     cat >"$copy/tests/limits.sh" <<END
 #!/bin/bash
 . "$copy/tests/counts.sh"
-case "$2" in *" 1 failed") tell "it is right" no ;; esac
+case "$2" in *" 1 failed") tell "it is right" "no, it is not" ;; esac
 echo "$2"
 exit $1
 END
