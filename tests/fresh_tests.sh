@@ -27,7 +27,7 @@ export LC_ALL=C.UTF-8
 suites_of() {
     local own
     own=$(. /etc/os-release && echo "$VERSION_CODENAME")
-    apt-get indextargets --format '$(REPO_URI) $(RELEASE)' 'Created-By: Packages' |
+    apt-get indextargets --format '$(REPO_URI) $(RELEASE)' 'Created-By: Packages' 'Origin: Debian' |
         awk -v own="$own" -v name="$1" 'index($2, own) == 1 { print $1, name substr($2, length(own) + 1) }' | sort -u
 }
 

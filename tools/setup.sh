@@ -148,10 +148,8 @@ announce() {
 }
 
 install_packages() {
-    local lists=(/var/lib/apt/lists/*Packages*)
-    [ -e "${lists[0]}" ] && [ -n "$(find "${lists[@]}" -mtime -1 -print -quit)" ] || {
-        echo "tools/setup.sh asks for Debian's lists of packages: about 10 MB" && logged apt-get -qq update
-    }
+    echo "tools/setup.sh asks for Debian's lists of packages: about 10 MB to download"
+    logged apt-get -q update || echo "tools/setup.sh: it goes on with the lists that are there" >&2
     choose_packages
     [ ${#packages[@]} != 0 ] || return 0
     announce
@@ -169,7 +167,7 @@ logged() {
 
 # The address of Debian's main archive in this machine's configuration.
 mirror() {
-    apt-get indextargets --format '$(REPO_URI) $(RELEASE)' 'Created-By: Packages' |
+    apt-get indextargets --format '$(REPO_URI) $(RELEASE)' 'Created-By: Packages' 'Origin: Debian' |
         awk '$2 !~ /-/ && $1 !~ /security/ { print $1; exit }'
 }
 
