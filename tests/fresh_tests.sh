@@ -139,11 +139,11 @@ tests_as_nobody() {
 
 # Root reads the size of the download before it begins, and no tool is missing afterwards.
 tests_as_root() {
-    local options=()
-    [ $few = no ] || options=(--few)
+    local options=() tools=()
+    [ $few = no ] || options=(--release --few) tools=(--few)
     in_root tools/test.sh ${options[@]+"${options[@]}"} >"$work/tested" 2>&1
     has_passed $? && grep '^It downloads .* MB, takes .* MB on disk, and about [0-9]* min\.$' "$work/tested" &&
-        in_root tools/setup.sh --missing ${options[@]+"${options[@]}"}
+        in_root tools/setup.sh --missing ${tools[@]+"${tools[@]}"}
 }
 
 # Prints the tests that the test command skipped, and its counts.
