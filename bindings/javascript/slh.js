@@ -9,267 +9,107 @@
  *     publicKey.verify(message, signature); // true
  *
  * The names are those of libslh: docs/LIBRARY.md of its repository says what each call does and what is proved of it.
- * Bytes are Uint8Arrays. A call that is refused throws a Refusal, with libslh's number and name, and one that is given
- * an argument of another kind, or an option of another name, a TypeError. `verify` and `check` return true or false.
+ * Bytes are Uint8Arrays. A call that is refused throws a Refusal, with libslh's number and name. An argument of another
+ * kind, or an option of another name, throws a TypeError. `verify` and `check` return true or false.
  *
  * Each signature has a fresh randomizer from crypto.getRandomValues, unless one is given or `deterministic: true` asks
- * for none. When a call returns, what it was handed is cleared in the module's memory, and its stack, too, where it
- * takes secrets. `erase` clears a secret key. Arrays that a caller hands in or gets stay as they are, and an engine may
- * keep what it had in its own stack and registers.
+ * for none. After each call, also one that throws, its arguments and results are cleared in the module's memory, and
+ * the module's stack too if the call takes secrets. `erase` clears a secret key. Arrays that a caller hands in or gets
+ * stay as they are, and an engine may keep copies in its own stack and registers.
  *
  * The module has a 64-bit memory. Node 20 needs --experimental-wasm-memory64.
  */
 
-// The parameter sets (FIPS 205, section 11, Table 2), by libslh's numbers.
-export const SLH_DSA_SHA2_128S = 1;
-export const SLH_DSA_SHA2_128F = 2;
-export const SLH_DSA_SHA2_192S = 3;
-export const SLH_DSA_SHA2_192F = 4;
-export const SLH_DSA_SHA2_256S = 5;
-export const SLH_DSA_SHA2_256F = 6;
+import { byteLength, copyOf, NONE, zeros } from "./bytes.js";
+import { Calls, Scratch } from "./calls.js";
+import { Erased, Fault, Refusal } from "./errors.js";
+import { formatKey, parseKey } from "./key_files.js";
+import { DIGEST_LENGTHS, NAMES } from "./sets.js";
 
-// The pre-hash functions (FIPS 205, section 10.2.2), by libslh's numbers.
-export const SLH_SHA2_224 = 1;
-export const SLH_SHA2_256 = 2;
-export const SLH_SHA2_384 = 3;
-export const SLH_SHA2_512 = 4;
-export const SLH_SHA2_512_224 = 5;
-export const SLH_SHA2_512_256 = 6;
+export { Erased, Fault, Refusal, Trap } from "./errors.js";
+export {
+    SLH_DSA_SHA2_128F, SLH_DSA_SHA2_128S, SLH_DSA_SHA2_192F, SLH_DSA_SHA2_192S, SLH_DSA_SHA2_256F, SLH_DSA_SHA2_256S,
+    SLH_SHA2_224, SLH_SHA2_256, SLH_SHA2_384, SLH_SHA2_512, SLH_SHA2_512_224, SLH_SHA2_512_256,
+} from "./sets.js";
 
-const DONE = 0;
+const CONTEXT_TOO_LONG = 2;
 const BAD_LENGTH = 3;
+const BAD_SEED_LENGTH = 10;
+const UNKNOWN_SET = 12;
+const BAD_DIGEST_LENGTH = 16;
 const BAD_RANDOMIZER_LENGTH = 17;
-const INVALID = 30;
-const MAX_NAME = 20;
-const PAGE = 65536;
-// The calls that take no secret. After each other one the module's stack is cleared.
-const OPEN = ["slh_version", "slh_lengths", "slh_verify", "slh_hash_verify", "slh_hash_verify_digest"];
 
-const NAMES = ["", "128s", "128f", "192s", "192f", "256s", "256f"];
-const NONE = new Uint8Array(0);
-const SIGN_OPTIONS = ["context", "randomizer", "deterministic"];
+const SIGN_OPTIONS = ["context", "randomizer", "deterministic", "twice", "verify"];
 const VERIFY_OPTIONS = ["context"];
+const INSPECT = Symbol.for("nodejs.util.inspect.custom");
 
-/** A call was refused: `number` and `name` are libslh's, as 2 and "ContextTooLong". */
-export class Refusal extends Error {
-    constructor(number, name) {
-        super(`${number} ${name}`);
-        this.number = number;
-        this.name = name;
-    }
-}
+// The shortest module with a memory whose addresses have 64 bits.
+const WITH_MEMORY64 = Uint8Array.of(0, 97, 115, 109, 1, 0, 0, 0, 5, 3, 1, 4, 1);
 
-/** A secret key was used after `erase`. */
-export class Erased extends Error {
-    constructor() {
-        super("the secret key was erased");
-        this.name = "Erased";
-    }
-}
+// The bytes of secret keys. They are no fields: consoles of browsers and debuggers print private fields, too.
+const secrets = new WeakMap();
 
-/** Where a call writes so many bytes. */
-class Room {
-    constructor(length) {
-        this.bytes = zeros(length);
-    }
-}
-
-/** Where a call writes one number of 64 bits. */
-class NumberRoom extends Room {
-    constructor() {
-        super(8);
-    }
-
-    get value() {
-        return Number(new DataView(this.bytes.buffer).getBigUint64(0, true));
-    }
-}
-
-/** The calls of the module's exports, with bytes in and out of its memory. */
-class Calls {
-    #wasm;
-    #first;
-    #stackEnd;
-    #lengths = new Map();
-
-    constructor(wasm) {
-        this.#wasm = wasm;
-        this.#first = aligned(Number(wasm.__heap_base.value));
-        this.#stackEnd = stackEnd(new Int32Array(wasm.memory.buffer));
-    }
-
-    /** Calls with numbers, and with bytes and rooms as a pointer and a length each. Returns the number. */
-    call(name, numbers, ...given) {
-        const words = [...numbers];
-        const placed = [];
-        let end = this.#first;
-        for (const it of given) {
-            const bytes = it instanceof Room ? it.bytes : checkedBytes(it);
-            placed.push({ it, bytes, at: end });
-            words.push(BigInt(end));
-            if (!(it instanceof NumberRoom)) words.push(BigInt(bytes.length));
-            end = aligned(end + bytes.length);
-        }
-        this.#reserve(end);
-        for (const { bytes, at } of placed) this.#memory().set(bytes, at);
-        try {
-            return this.#wasm[name](...words) >>> 0;
-        } finally {
-            const memory = this.#memory();
-            for (const { it, bytes, at } of placed) {
-                if (it instanceof Room) bytes.set(memory.subarray(at, at + bytes.length));
-            }
-            memory.fill(0, this.#first, end);
-            if (!OPEN.includes(name)) this.#clearStack();
-        }
-    }
-
-    /** Clears pages from the stack's end down, until there is one that no call has written to. */
-    #clearStack() {
-        for (let end = this.#stackEnd; end > 0; end -= PAGE) {
-            const page = new Int32Array(this.#wasm.memory.buffer, Math.max(end - PAGE, 0), Math.min(end, PAGE) / 4);
-            if (end !== this.#stackEnd && areZeros(page)) return;
-            page.fill(0);
-        }
-    }
-
-    /** Calls, and returns whether it is done, or false where it says invalid. Else it throws a Refusal. */
-    judge(name, numbers, ...given) {
-        const result = this.call(name, numbers, ...given);
-        if (result === DONE) return true;
-        if (result === INVALID) return false;
-        throw this.refusal(result);
-    }
-
-    /** Calls one that writes bytes into its last argument, and returns them. */
-    write(name, length, numbers, ...given) {
-        const room = new Room(length);
-        const result = this.call(name, numbers, ...given, room);
-        if (result !== DONE) throw this.refusal(result);
-        return room.bytes;
-    }
-
-    refusal(number) {
-        const room = new Room(MAX_NAME);
-        const isOne = this.call("slh_refusal_name", [number], room) === DONE;
-        const letters = room.bytes.subarray(0, room.bytes.indexOf(0));
-        return new Refusal(number, isOne ? String.fromCharCode(...letters) : "NoSuchRefusal");
-    }
-
-    lengths(set) {
-        if (!this.#lengths.has(checkedSet(set))) this.#lengths.set(set, this.#askLengths(set));
-        return { ...this.#lengths.get(set) };
-    }
-
-    #askLengths(set) {
-        const rooms = [new NumberRoom(), new NumberRoom(), new NumberRoom(), new NumberRoom()];
-        const result = this.call("slh_lengths", [set], ...rooms);
-        if (result !== DONE) throw this.refusal(result);
-        const [publicKey, secretKey, signature, n] = rooms.map((it) => it.value);
-        return { publicKey, secretKey, signature, n };
-    }
-
-    /** The n bytes of a randomizer. None at all, the deterministic variant, is had by name alone. */
-    randomizer(set, { randomizer, deterministic = false }) {
-        const { n } = this.lengths(set);
-        if (typeof deterministic !== "boolean") throw new TypeError("deterministic is true or false");
-        if (deterministic) {
-            if (randomizer !== undefined) throw new TypeError("a deterministic signature has no randomizer");
-            return NONE;
-        }
-        if (randomizer === undefined) return random(n);
-        if (checkedBytes(randomizer).length !== n) throw this.refusal(BAD_RANDOMIZER_LENGTH);
-        return randomizer;
-    }
-
-    #memory() {
-        return new Uint8Array(this.#wasm.memory.buffer);
-    }
-
-    #reserve(end) {
-        const lacking = Math.ceil((end - this.#wasm.memory.buffer.byteLength) / PAGE);
-        if (lacking > 0) grow(this.#wasm.memory, lacking);
-    }
-}
-
-/** Adds pages to a 64-bit memory. The standard has their number as a BigInt, and Node 20 as a number. */
-function grow(memory, pages) {
-    try {
-        memory.grow(BigInt(pages));
-    } catch (error) {
-        if (!(error instanceof TypeError)) throw error;
-        memory.grow(pages);
-    }
-}
-
-function aligned(at) {
-    return Math.ceil(at / 16) * 16;
-}
-
-/**
- * Where the module's stack ends: it lies below the constants, and is zeros before the first call. A constant's own
- * zeros may be taken for it, which clearing leaves as they are. Words are those of the whole memory.
- */
-function stackEnd(words) {
-    const end = 4 * words.findIndex((word) => word !== 0);
-    if (end < PAGE) throw new Error("the module does not have its stack below its constants");
-    return end - (end % 16);
-}
-
-function areZeros(words) {
-    let all = 0;
-    for (let at = 0; at < words.length; at += 1) all |= words[at];
-    return all === 0;
-}
-
-/** Zeros in memory of their own: engines move the bytes of short arrays that have none, and leave copies behind. */
-function zeros(length) {
-    return new Uint8Array(new ArrayBuffer(length));
-}
-
-function copyOf(bytes) {
-    const copy = zeros(bytes.length);
-    copy.set(bytes);
-    return copy;
-}
-
-function random(count) {
-    return globalThis.crypto.getRandomValues(zeros(count));
-}
-
-function checkedBytes(it) {
-    if (!(it instanceof Uint8Array)) throw new TypeError("bytes are needed, as a Uint8Array");
-    return it;
+function fillRandom(bytes) {
+    return globalThis.crypto.getRandomValues(bytes);
 }
 
 function checkedNumber(it, wanted, example) {
     if (!Number.isInteger(it)) throw new TypeError(`${wanted} is needed, as ${example}`);
-    if (it >>> 0 !== it) throw new RangeError(`${it} is not a number of 32 bits`);
+    if (it >>> 0 !== it) throw new RangeError(`${wanted} is a number of 32 bits, as ${example}`);
     return it;
 }
 
+/** The number of a set, which is given by it or by its name. */
 function checkedSet(it) {
-    return checkedNumber(it, "a parameter set", "SLH_DSA_SHA2_128F");
+    if (typeof it !== "string") return checkedNumber(it, "a parameter set", 'SLH_DSA_SHA2_128F or "SLH-DSA-SHA2-128f"');
+    const set = NAMES.indexOf(it);
+    if (set < 0) throw new Refusal(UNKNOWN_SET, "UnknownSet", 'a set\'s name is needed, as "SLH-DSA-SHA2-128f"');
+    return set;
 }
 
 function checkedFunction(it) {
     return checkedNumber(it, "a pre-hash function", "SLH_SHA2_256");
 }
 
-/** Options, which have these names alone: a misspelt one is not passed over. */
-function checkedOptions(it, names) {
-    if (typeof it !== "object" || it === null || ArrayBuffer.isView(it)) {
-        throw new TypeError("options are needed, as { context }");
+function isPlain(it) {
+    if (typeof it !== "object" || it === null) return false;
+    const prototype = Object.getPrototypeOf(it);
+    return prototype === null || Object.getPrototypeOf(prototype) === null;
+}
+
+/**
+ * The options of these names, each read once. A misspelt name is not passed over. Only own properties count, so that a
+ * changed Object.prototype changes no signature; an object of a class, whose getters are not its own, is none.
+ */
+function readOptions(it, names) {
+    if (!isPlain(it)) throw new TypeError("options are needed as a plain object, as { context }");
+    const options = { __proto__: null };
+    for (const name of Reflect.ownKeys(it)) {
+        if (!names.includes(name)) throw new TypeError(`there is no option ${String(name)}`);
+        options[name] = it[name];
     }
-    for (const name of Object.keys(it)) {
-        if (!names.includes(name)) throw new TypeError(`there is no option ${name}`);
+    return options;
+}
+
+function checkedFlags(flags) {
+    for (const [name, it] of Object.entries(flags)) {
+        if (typeof it !== "boolean") throw new TypeError(`${name} is true or false`);
     }
-    return it;
+}
+
+/** The lengths that the refusals of a call's text and context tell: the expected and the given one. */
+function lengthsOf(hash, text, context) {
+    return {
+        __proto__: null,
+        [CONTEXT_TOO_LONG]: ["at most 255", byteLength(context)],
+        [BAD_DIGEST_LENGTH]: [DIGEST_LENGTHS[hash], byteLength(text)],
+    };
 }
 
 /** A copy of a key's bytes. Refused: BadLength where there are more or fewer. */
 function keyBytes(calls, bytes, length) {
-    if (checkedBytes(bytes).length !== length) throw calls.refusal(BAD_LENGTH);
+    const given = byteLength(bytes);
+    if (given !== length) throw calls.refusal(BAD_LENGTH, length, given);
     return copyOf(bytes);
 }
 
@@ -293,6 +133,15 @@ class PublicKey {
         return Uint8Array.from(this.#bytes);
     }
 
+    format() {
+        return formatKey("public", this.#set, this.#bytes);
+    }
+
+    async fingerprint() {
+        const digest = await globalThis.crypto.subtle.digest("SHA-256", this.#bytes);
+        return `SHA256:${btoa(String.fromCharCode(...new Uint8Array(digest))).replace("=", "")}`;
+    }
+
     verify(message, signature, options = {}) {
         return this.#verify("slh_verify", [], message, signature, options);
     }
@@ -306,15 +155,20 @@ class PublicKey {
     }
 
     #verify(call, hash, text, signature, options) {
-        const { context = NONE } = checkedOptions(options, VERIFY_OPTIONS);
-        return this.#calls.judge(call, [this.#set, ...hash], this.#bytes, text, context, signature);
+        const { context = NONE } = readOptions(options, VERIFY_OPTIONS);
+        const lengths = lengthsOf(hash, text, context);
+        return this.#calls.judge(call, [this.#set, ...hash], lengths, this.#bytes, text, context, signature);
     }
 
     toString() {
-        return `PublicKey(SLH-DSA-SHA2-${NAMES[this.#set]})`;
+        return `PublicKey(${NAMES[this.#set]})`;
     }
 
-    [Symbol.for("nodejs.util.inspect.custom")]() {
+    toJSON() {
+        return this.toString();
+    }
+
+    [INSPECT]() {
         return this.toString();
     }
 }
@@ -323,11 +177,9 @@ class PublicKey {
 class SecretKey {
     #calls;
     #set;
-    #bytes;
-    #isErased = false;
 
     constructor(calls, set, bytes) {
-        this.#bytes = keyBytes(calls, bytes, calls.lengths(set).secretKey);
+        secrets.set(this, keyBytes(calls, bytes, calls.lengths(set).secretKey));
         this.#calls = calls;
         this.#set = set;
     }
@@ -340,59 +192,96 @@ class SecretKey {
         return copyOf(this.#held());
     }
 
+    format() {
+        return formatKey("secret", this.#set, this.#held());
+    }
+
     public() {
         const { publicKey } = this.#calls.lengths(this.#set);
-        const bytes = this.#calls.write("slh_public", publicKey, [this.#set], this.#held());
+        const bytes = this.#calls.write("slh_public", publicKey, [this.#set], {}, this.#held());
         return new PublicKey(this.#calls, this.#set, bytes);
     }
 
     check() {
-        return this.#calls.judge("slh_check", [this.#set], this.#held());
+        return this.#calls.judge("slh_check", [this.#set], {}, this.#held());
     }
 
     erase() {
-        this.#bytes.fill(0);
-        this.#isErased = true;
+        secrets.get(this)?.fill(0);
+        secrets.delete(this);
     }
 
     /** The bytes, unless they were erased: zeros would sign, too. */
     #held() {
-        if (this.#isErased) throw new Erased();
-        return this.#bytes;
+        const bytes = secrets.get(this);
+        if (bytes === undefined) throw new Erased();
+        return bytes;
     }
 
     sign(message, options = {}) {
-        return this.#sign("slh_sign", [], message, options);
+        return this.#sign("sign", [], message, options);
     }
 
     hashSign(hash, message, options = {}) {
-        return this.#sign("slh_hash_sign", [checkedFunction(hash)], message, options);
+        return this.#sign("hash_sign", [checkedFunction(hash)], message, options);
     }
 
     hashSignDigest(hash, digest, options = {}) {
-        return this.#sign("slh_hash_sign_digest", [checkedFunction(hash)], digest, options);
+        return this.#sign("hash_sign_digest", [checkedFunction(hash)], digest, options);
     }
 
-    #sign(call, hash, text, options) {
-        const { context = NONE } = checkedOptions(options, SIGN_OPTIONS);
-        const randomizer = this.#calls.randomizer(this.#set, options);
-        const { signature } = this.#calls.lengths(this.#set);
-        const numbers = [this.#set, ...hash];
-        const made = this.#calls.write(call, signature, numbers, this.#held(), text, context, randomizer);
-        this.#held(); // what was handed in may have code of the caller's, which may have erased the key
-        return made;
+    #sign(form, hash, text, options) {
+        const own = readOptions(options, SIGN_OPTIONS);
+        const { context = NONE, twice = false, verify = false } = own;
+        checkedFlags({ twice, verify });
+        const randomizer = this.#randomizer(own);
+        const { signature: length } = this.#calls.lengths(this.#set);
+        const call = twice ? `slh_${form}_twice` : `slh_${form}`;
+        const given = [this.#held(), text, context, randomizer, ...(twice ? [new Scratch(2 * length)] : [])];
+        const lengths = lengthsOf(hash, text, context);
+        const signature = this.#calls.write(call, length, [this.#set, ...hash], lengths, ...given);
+        if (verify) this.#verify(`slh_${form.replace("sign", "verify")}`, hash, text, context, signature);
+        return signature;
+    }
+
+    /** The n bytes of a randomizer. Only `deterministic` asks for none at all, the deterministic variant. */
+    #randomizer({ randomizer, deterministic = false }) {
+        checkedFlags({ deterministic });
+        if (deterministic && randomizer !== undefined) throw new TypeError("a deterministic signature has no randomizer");
+        if (deterministic) return NONE;
+        const { n } = this.#calls.lengths(this.#set);
+        if (randomizer === undefined) return fillRandom(zeros(n));
+        const given = byteLength(randomizer);
+        if (given !== n) throw this.#calls.refusal(BAD_RANDOMIZER_LENGTH, n, given);
+        return randomizer;
+    }
+
+    /** Overwrites a signature and throws a Fault, unless the signature is valid under the key's own public part. */
+    #verify(call, hash, text, context, signature) {
+        const publicPart = this.#held().subarray(-this.#calls.lengths(this.#set).publicKey);
+        let isValid = false;
+        try {
+            isValid = this.#calls.judge(call, [this.#set, ...hash], {}, publicPart, text, context, signature);
+        } finally {
+            if (!isValid) signature.fill(0);
+        }
+        if (!isValid) throw new Fault("the signature is not valid under the key's own public part");
     }
 
     toString() {
-        return `SecretKey(SLH-DSA-SHA2-${NAMES[this.#set]})`;
+        return `SecretKey(${NAMES[this.#set]})`;
     }
 
-    [Symbol.for("nodejs.util.inspect.custom")]() {
+    toJSON() {
+        return this.toString();
+    }
+
+    [INSPECT]() {
         return this.toString();
     }
 }
 
-/** One instance of the module. `load` makes it. */
+/** The calls over the module. `load` makes it. */
 class Library {
     #calls;
 
@@ -405,13 +294,14 @@ class Library {
     }
 
     lengths(set) {
-        return this.#calls.lengths(set);
+        return this.#calls.lengths(checkedSet(set));
     }
 
     generate(set) {
         const { n } = this.lengths(set);
-        const seeds = [random(n), random(n), random(n)];
+        const seeds = [zeros(n), zeros(n), zeros(n)];
         try {
+            seeds.forEach(fillRandom);
             return this.keygen(set, ...seeds);
         } finally {
             for (const seed of seeds) seed.fill(0);
@@ -419,21 +309,39 @@ class Library {
     }
 
     keygen(set, skSeed, skPrf, pkSeed) {
-        const { secretKey } = this.lengths(set);
-        const made = this.#calls.write("slh_keygen", secretKey, [set], skSeed, skPrf, pkSeed);
-        try {
-            return this.secretKey(set, made);
-        } finally {
-            made.fill(0);
-        }
+        const number = checkedSet(set);
+        const { n, secretKey } = this.lengths(number);
+        const seeds = [skSeed, skPrf, pkSeed];
+        const given = seeds.map(byteLength).find((it) => it !== n);
+        const made = this.#calls.write("slh_keygen", secretKey, [number], { [BAD_SEED_LENGTH]: [n, given] }, ...seeds);
+        return this.#takeKey(number, made);
     }
 
     secretKey(set, bytes) {
-        return new SecretKey(this.#calls, set, bytes);
+        return new SecretKey(this.#calls, checkedSet(set), bytes);
     }
 
     publicKey(set, bytes) {
-        return new PublicKey(this.#calls, set, bytes);
+        return new PublicKey(this.#calls, checkedSet(set), bytes);
+    }
+
+    parseSecretKey(file) {
+        const { set, bytes } = parseKey("secret", file, (number) => this.lengths(number).secretKey);
+        return this.#takeKey(set, bytes);
+    }
+
+    parsePublicKey(file) {
+        const { set, bytes } = parseKey("public", file, (number) => this.lengths(number).publicKey);
+        return this.publicKey(set, bytes);
+    }
+
+    /** The secret key of bytes that the package made, which are overwritten. */
+    #takeKey(set, bytes) {
+        try {
+            return this.secretKey(set, bytes);
+        } finally {
+            bytes.fill(0);
+        }
     }
 }
 
@@ -445,10 +353,17 @@ async function read(url) {
     return response.arrayBuffer();
 }
 
+/** Throws an Error that says what to do if the engine has no 64-bit memory. */
+function expectMemory64() {
+    if (typeof WebAssembly === "object" && WebAssembly.validate(WITH_MEMORY64)) return;
+    throw new Error("this engine has no WebAssembly with 64-bit memory: run Node 20 or 22 as " +
+        "`node --experimental-wasm-memory64 FILE`, or take Node 24, Chrome or Edge 133, Firefox 134, or later");
+}
+
 /** Makes an instance of slh.wasm: the one beside this file, or of a URL, of its bytes, or of a compiled module. */
 export async function load(source = new URL("slh.wasm", import.meta.url)) {
-    const given = source instanceof URL ? await read(source) : source;
-    const module = given instanceof WebAssembly.Module ? given : await WebAssembly.compile(given);
-    const instance = await WebAssembly.instantiate(module, {});
-    return new Library(new Calls(instance.exports));
+    expectMemory64();
+    if (source instanceof WebAssembly.Module) return new Library(new Calls(source));
+    const bytes = source instanceof URL ? await read(source) : source;
+    return new Library(new Calls(await WebAssembly.compile(bytes)));
 }

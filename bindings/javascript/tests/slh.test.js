@@ -5,22 +5,17 @@ import assert from "node:assert/strict";
 import { createHash } from "node:crypto";
 import { readFileSync, readdirSync } from "node:fs";
 import test from "node:test";
-import { inspect } from "node:util";
 
 import * as names from "../slh.js";
+import { hex, isZeros, module, repository, unhex, watchInstances } from "./support.js";
 
 const { Erased, load, Refusal, SLH_DSA_SHA2_128F, SLH_SHA2_256 } = names;
-
-const repository = new URL("../../../", import.meta.url);
-const module = new WebAssembly.Module(readFileSync(process.env.SLH_WASM));
 const slh = await load(module);
 
 const FILES = readdirSync(new URL("vectors/", repository)).filter((it) => /^slh-dsa-.*\.json$/.test(it));
 const VECTORS = FILES.flatMap((file) => JSON.parse(readFileSync(new URL(`vectors/${file}`, repository), "utf8")));
 
 const bytes = (text) => Uint8Array.from(Buffer.from(text, "utf8"));
-const unhex = (digits) => Uint8Array.from(Buffer.from(digits, "hex"));
-const hex = (it) => Buffer.from(it).toString("hex");
 const setOf = (it) => names[it.set.replaceAll("-", "_").toUpperCase()];
 const functionOf = (it) => names[`SLH_${it.form.replace(/[-/]/g, "_")}`];
 
@@ -61,17 +56,25 @@ test("signatures are those of other implementations", () => {
     }
     assert.ok(chosen.some((it) => it.random) && chosen.some((it) => !it.random) && chosen.some((it) => it.context));
     for (const it of chosen) {
-        const secret = slh.secretKey(setOf(it), unhex(it.sk));
+        const secret = slh.secretKey(it.set, unhex(it.sk));
         const how = it.random ? { randomizer: unhex(it.random) } : { deterministic: true };
-        const options = { context: unhex(it.context), ...how };
-        if (it.form === "pure") {
-            assert.equal(hex(secret.sign(unhex(it.message), options)), it.signature);
-        } else {
-            assert.equal(hex(secret.hashSign(functionOf(it), unhex(it.message), options)), it.signature);
-            assert.equal(hex(secret.hashSignDigest(functionOf(it), digestOf(it), options)), it.signature);
+        expectSignature(secret, it, { context: unhex(it.context), ...how });
+        if (it.set.endsWith("128f")) {
+            expectSignature(secret, it, { context: unhex(it.context), ...how, twice: true });
+            expectSignature(secret, it, { context: unhex(it.context), ...how, verify: true });
+            expectSignature(secret, it, { context: unhex(it.context), ...how, twice: true, verify: true });
         }
     }
 });
+
+function expectSignature(secret, it, options) {
+    if (it.form === "pure") {
+        assert.equal(hex(secret.sign(unhex(it.message), options)), it.signature);
+    } else {
+        assert.equal(hex(secret.hashSign(functionOf(it), unhex(it.message), options)), it.signature);
+        assert.equal(hex(secret.hashSignDigest(functionOf(it), digestOf(it), options)), it.signature);
+    }
+}
 
 test("verdicts are those of other implementations", () => {
     const tests = ofKind("verify");
@@ -100,11 +103,13 @@ function withWrongRoot() {
     return slh.secretKey(SLH_DSA_SHA2_128F, changed);
 }
 
-/** Fails unless a call throws this refusal. */
-function refused(number, name, call) {
+/** Fails unless a call throws this refusal, with an expected and a given length if it is about a length. */
+function refused(number, name, call, expected, given) {
+    const message = `${number} ${name}`;
+    const lengths = expected === undefined ? "" : `: ${expected} bytes are expected, and ${given} were given`;
     assert.throws(call, (error) => {
         assert.ok(error instanceof Refusal);
-        assert.deepEqual([error.number, error.name, error.message], [number, name, `${number} ${name}`]);
+        assert.deepEqual([error.number, error.name, error.message], [number, name, message + lengths]);
         return true;
     });
 }
@@ -123,11 +128,14 @@ test("randomizers are drawn", () => {
     assert.equal(hex(made[2]), hex(made[3]));
     for (const signature of made) assert.equal(publicKey.verify(letter, signature), true);
     for (const length of [0, 15]) {
-        refused(17, "BadRandomizerLength", () => secret.sign(letter, { randomizer: new Uint8Array(length) }));
+        const options = { randomizer: new Uint8Array(length) };
+        refused(17, "BadRandomizerLength", () => secret.sign(letter, options), 16, length);
     }
     assert.throws(() => secret.sign(letter, { randomizer: new Uint8Array(16), deterministic: true }), TypeError);
-    for (const other of ["false", 1, null]) {
-        assert.throws(() => secret.sign(letter, { deterministic: other }), { name: "TypeError", message: /true or false/ });
+    for (const name of ["deterministic", "twice", "verify"]) {
+        for (const other of ["false", 1, null]) {
+            assert.throws(() => secret.sign(letter, { [name]: other }), { name: "TypeError", message: /true or false/ });
+        }
     }
 });
 
@@ -139,9 +147,13 @@ test("contexts have at most 255 bytes", () => {
         assert.equal(publicKey.verify(letter, signature, { context }), false);
     }
     const options = { context: longer };
-    refused(2, "ContextTooLong", () => secret.sign(letter, options));
-    refused(2, "ContextTooLong", () => secret.hashSign(SLH_SHA2_256, letter, options));
-    refused(2, "ContextTooLong", () => secret.hashSignDigest(SLH_SHA2_256, new Uint8Array(32), options));
+    for (const call of [
+        () => secret.sign(letter, options),
+        () => secret.hashSign(SLH_SHA2_256, letter, options),
+        () => secret.hashSignDigest(SLH_SHA2_256, new Uint8Array(32), options),
+    ]) {
+        refused(2, "ContextTooLong", call, "at most 255", 256);
+    }
 });
 
 test("damage is invalid", () => {
@@ -164,30 +176,44 @@ test("what is not valid is refused", () => {
     const zeros = (count) => new Uint8Array(count);
     refused(8, "NoSuchSet", () => slh.generate(7));
     refused(8, "NoSuchSet", () => slh.publicKey(0, zeros(32)));
-    refused(3, "BadLength", () => slh.secretKey(SLH_DSA_SHA2_128F, zeros(63)));
-    refused(3, "BadLength", () => slh.publicKey(SLH_DSA_SHA2_128F, zeros(33)));
-    refused(10, "BadSeedLength", () => slh.keygen(SLH_DSA_SHA2_128F, zeros(16), zeros(16), zeros(15)));
+    refused(3, "BadLength", () => slh.secretKey(SLH_DSA_SHA2_128F, zeros(63)), 64, 63);
+    refused(3, "BadLength", () => slh.publicKey(SLH_DSA_SHA2_128F, zeros(33)), 32, 33);
+    refused(3, "BadLength", () => slh.publicKey("SLH-DSA-SHA2-128s", zeros(64)), 32, 64);
+    for (const at of [0, 1, 2]) {
+        const seeds = [0, 1, 2].map((it) => zeros(it === at ? 40 + it : 16));
+        refused(10, "BadSeedLength", () => slh.keygen(SLH_DSA_SHA2_128F, ...seeds), 16, 40 + at);
+    }
     refused(9, "NoSuchFunction", () => secret.hashSign(7, letter));
+    refused(9, "NoSuchFunction", () => secret.hashSign(7, letter, { twice: true }));
     refused(9, "NoSuchFunction", () => publicKey.hashVerify(0, letter, zeros(0)));
-    refused(16, "BadDigestLength", () => secret.hashSignDigest(SLH_SHA2_256, zeros(31)));
-    refused(16, "BadDigestLength", () => publicKey.hashVerifyDigest(SLH_SHA2_256, zeros(31), zeros(0)));
+    for (const [hash, length] of [[1, 28], [2, 32], [3, 48], [4, 64], [5, 28], [6, 32]]) {
+        const other = zeros(length - 1);
+        refused(16, "BadDigestLength", () => secret.hashSignDigest(hash, other), length, length - 1);
+        refused(16, "BadDigestLength", () => secret.hashSignDigest(hash, other, { twice: true }), length, length - 1);
+        refused(16, "BadDigestLength", () => publicKey.hashVerifyDigest(hash, other, zeros(0)), length, length - 1);
+    }
     assert.throws(() => secret.hashSign(2 ** 32 + 2, letter), RangeError);
     assert.throws(() => secret.sign("letter"), TypeError);
 });
 
 test("arguments of another kind are told by what is wanted", () => {
-    const set = /a parameter set is needed, as SLH_DSA_SHA2_128F/;
+    const set = /a parameter set is needed, as SLH_DSA_SHA2_128F or "SLH-DSA-SHA2-128f"/;
     const hash = /a pre-hash function is needed, as SLH_SHA2_256/;
     const data = new Uint8Array(64);
-    for (const wrong of ["SLH-DSA-SHA2-128f", data, undefined, null, true, 2n, 2.5, NaN]) {
-        const calls = [
-            () => slh.lengths(wrong),
-            () => slh.generate(wrong),
-            () => slh.keygen(wrong, data.subarray(48), data.subarray(48), data.subarray(48)),
-            () => slh.secretKey(wrong, data),
-            () => slh.publicKey(wrong, data),
-        ];
-        for (const call of calls) assert.throws(call, { name: "TypeError", message: set });
+    const bySet = [
+        (it) => slh.lengths(it),
+        (it) => slh.generate(it),
+        (it) => slh.keygen(it, data.subarray(48), data.subarray(48), data.subarray(48)),
+        (it) => slh.secretKey(it, data),
+        (it) => slh.publicKey(it, data),
+    ];
+    for (const name of ["", "128f", "SLH-DSA-SHA2-128F", "SLH_DSA_SHA2_128F", "undefined", "length", "2"]) {
+        for (const call of bySet) assert.throws(() => call(name), { name: "UnknownSet", number: 12 });
+    }
+    for (const wrong of [data, undefined, null, true, 2n, 2.5, NaN]) {
+        for (const call of bySet) assert.throws(() => call(wrong), { name: "TypeError", message: set });
+    }
+    for (const wrong of ["SHA2-256", data, undefined, null, true, 2n, 2.5, NaN]) {
         for (const call of [
             () => secret.hashSign(wrong, letter),
             () => secret.hashSignDigest(wrong, data.subarray(32)),
@@ -205,7 +231,9 @@ test("arguments of another kind are told by what is wanted", () => {
         assert.throws(() => slh.secretKey(SLH_DSA_SHA2_128F, wrong), bytesNeeded);
     }
     assert.throws(() => secret.sign(letter, { context: 7 }), bytesNeeded);
-    assert.throws(() => secret.sign(letter, { randomizer: 7 }), bytesNeeded);
+    for (const wrong of [7, null, "sixteen letters.", []]) {
+        assert.throws(() => secret.sign(letter, { randomizer: wrong }), bytesNeeded);
+    }
 });
 
 test("options of other names are refused", () => {
@@ -227,9 +255,63 @@ test("options of other names are refused", () => {
         for (const options of [context, "letters", 7, true, null]) assert.throws(() => call(options), TypeError);
     }
     for (const call of verifying) {
-        assert.throws(() => call({ deterministic: true }), { name: "TypeError", message: /no option deterministic/ });
+        for (const name of ["deterministic", "randomizer", "twice", "verify"]) {
+            const message = new RegExp(`no option ${name}`);
+            assert.throws(() => call({ [name]: true }), { name: "TypeError", message });
+        }
     }
 });
+
+const OPTIONS = { context: bytes("other"), randomizer: new Uint8Array(16), deterministic: true, twice: 7, verify: 7 };
+
+test("options that Object.prototype has change nothing", () => {
+    const context = bytes("letters");
+    const wanted = hex(secret.sign(letter, { deterministic: true }));
+    const ofRandom = hex(secret.sign(letter, { randomizer: new Uint8Array(16).fill(1), context }));
+    for (const [name, value] of Object.entries(OPTIONS)) {
+        Object.prototype[name] = value;
+        try {
+            const drawn = [secret.sign(letter), secret.sign(letter, {}), secret.sign(letter, { __proto__: null })];
+            assert.equal(new Set([wanted, ...drawn.map(hex)]).size, 4, name);
+            for (const it of drawn) assert.equal(publicKey.verify(letter, it), true, name);
+            const given = { randomizer: new Uint8Array(16).fill(1), context };
+            assert.equal(hex(secret.sign(letter, given)), ofRandom, name);
+            assert.equal(hex(secret.sign(letter, { deterministic: true })), wanted, name);
+        } finally {
+            delete Object.prototype[name];
+        }
+    }
+});
+
+test("options are a plain object, and each is read once", () => {
+    class Options {
+        get context() {
+            return bytes("letters");
+        }
+    }
+    const inherited = Object.create({ context: bytes("letters") });
+    for (const options of [new Options(), inherited, [], new Map(), () => 7]) {
+        assert.throws(() => secret.sign(letter, options), { name: "TypeError", message: /plain object/ });
+    }
+    const hidden = Object.defineProperty({}, "ctx", { value: letter, enumerable: false });
+    for (const options of [hidden, { [Symbol("context")]: letter }]) {
+        assert.throws(() => secret.sign(letter, options), { name: "TypeError", message: /no option/ });
+    }
+    let count = 0;
+    const once = {
+        get context() {
+            count += 1;
+            return count === 1 ? letter : new Uint8Array(0);
+        },
+    };
+    assert.equal(publicKey.verify(letter, secret.sign(letter, { ...OPTIONS_OFF, ...once }), { context: letter }), true);
+    count = 0;
+    const signature = secret.sign(letter, Object.defineProperties({ verify: true }, Object.getOwnPropertyDescriptors(once)));
+    assert.equal(count, 1);
+    assert.equal(publicKey.verify(letter, signature, { context: letter }), true);
+});
+
+const OPTIONS_OFF = { randomizer: undefined, deterministic: false, twice: false, verify: undefined };
 
 test("messages may be longer than the memory", async () => {
     const other = await load(module);
@@ -240,26 +322,6 @@ test("messages may be longer than the memory", async () => {
     long[4_999_999] ^= 1;
     assert.equal(judge.verify(long, signature), false);
 });
-
-test("secrets are not printed", () => {
-    for (const text of [inspect(secret, { showHidden: true, depth: 9 }), `${secret}`, String(secret)]) {
-        assert.equal(text, "SecretKey(SLH-DSA-SHA2-128f)");
-    }
-    assert.equal(JSON.stringify(secret), "{}");
-});
-
-/** Loads the module anew. The library, and the module's memory, which the package keeps to itself. */
-async function loadWithMemory() {
-    const { instantiate } = WebAssembly;
-    let made;
-    WebAssembly.instantiate = async (...given) => (made = await instantiate(...given));
-    try {
-        const library = await load(module);
-        return [library, () => Buffer.from(made.exports.memory.buffer)];
-    } finally {
-        WebAssembly.instantiate = instantiate;
-    }
-}
 
 /** Runs an action, and returns the arrays that the package has drawn and those that it has put into the memory. */
 function watched(action) {
@@ -279,14 +341,14 @@ function watched(action) {
     }
 }
 
-const isZeros = (it) => it.every((byte) => byte === 0);
-
 // Each call that takes a secret: afterwards the memory is what it was before the first call, and zeros where it grew.
 // The sets whose names end in s are slow.
 test("no call leaves secrets in the module's memory", async () => {
     const digest = new Uint8Array(32);
     for (const set of [SLH_DSA_SHA2_128F, names.SLH_DSA_SHA2_192F, names.SLH_DSA_SHA2_256F]) {
-        const [library, memory] = await loadWithMemory();
+        const memories = [];
+        const library = await watchInstances(memories, (exports) => exports, () => load(module));
+        const memory = () => Buffer.from(memories[0].buffer);
         const before = Buffer.from(memory());
         const expectClear = (name) => {
             assert.ok(memory().subarray(0, before.length).equals(before), `${name} of set ${set}`);
@@ -306,8 +368,11 @@ test("no call leaves secrets in the module's memory", async () => {
         expectClear("hashSign");
         secret.hashSignDigest(SLH_SHA2_256, digest);
         expectClear("hashSignDigest");
-        refused(2, "ContextTooLong", () => secret.sign(letter, { context: new Uint8Array(256) }));
+        secret.sign(letter, { twice: true });
+        expectClear("sign, twice");
+        assert.throws(() => secret.sign(letter, { context: new Uint8Array(256) }), { name: "ContextTooLong" });
         expectClear("a refusal");
+        assert.equal(memories.length, 1);
     }
 });
 
@@ -336,21 +401,16 @@ test("after it was erased a key does nothing", () => {
         () => made.hashSign(SLH_SHA2_256, letter),
         () => made.hashSignDigest(SLH_SHA2_256, new Uint8Array(32)),
     ];
+    calls.push(() => made.format());
     for (const call of calls) assert.throws(call, Erased);
     assert.ok(!(new Erased() instanceof Refusal));
     assert.equal(new Erased().name, "Erased");
     assert.equal(String(made), "SecretKey(SLH-DSA-SHA2-128f)");
 });
 
-test("a key that is erased while a call looks at its arguments signs nothing", () => {
-    const other = slh.secretKey(SLH_DSA_SHA2_128F, secret.toBytes());
-    class Late extends Uint8Array {
-        get length() {
-            other.erase();
-            return super.length;
-        }
-    }
-    assert.throws(() => other.sign(new Late(6)), Erased);
+test("a fingerprint is the SHA-256 of the bytes", async () => {
+    const digest = createHash("sha256").update(publicKey.toBytes()).digest("base64");
+    assert.equal(await publicKey.fingerprint(), `SHA256:${digest.slice(0, 43)}`);
 });
 
 test("numbers are those of the header", () => {

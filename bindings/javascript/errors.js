@@ -1,0 +1,32 @@
+/** A call was refused: `number` and `name` are libslh's, as 2 and "ContextTooLong". Lengths are in the message. */
+export class Refusal extends Error {
+    constructor(number, name, detail) {
+        super(detail === undefined ? `${number} ${name}` : `${number} ${name}: ${detail}`);
+        this.number = number;
+        this.name = name;
+    }
+}
+
+/** A secret key was used after `erase`. */
+export class Erased extends Error {
+    constructor() {
+        super("the secret key was erased");
+        this.name = "Erased";
+    }
+}
+
+/** Signing went wrong, as `twice` or `verify` found: the memory or the processor failed. No signature is given. */
+export class Fault extends Error {
+    constructor(message) {
+        super(message);
+        this.name = "Fault";
+    }
+}
+
+/** The module ended a call early. `cause` is the engine's error. The next call takes a new instance. */
+export class Trap extends Error {
+    constructor(cause) {
+        super(`the module trapped (${cause.message}): its memory is dropped, the next call takes a new instance`, { cause });
+        this.name = "Trap";
+    }
+}
