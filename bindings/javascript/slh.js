@@ -46,8 +46,9 @@ const INSPECT = Symbol.for("nodejs.util.inspect.custom");
 // The shortest module with a memory whose addresses have 64 bits.
 const WITH_MEMORY64 = Uint8Array.of(0, 97, 115, 109, 1, 0, 0, 0, 5, 3, 1, 4, 1);
 
-// The bytes of secret keys. They are no fields: consoles of browsers and debuggers print private fields, too.
-const secrets = new WeakMap();
+// The bytes of each key. They are not fields: consoles of browsers and debuggers print private fields, too. Those of a
+// public key may be secret, if somebody took a secret key for one.
+const bytesOf = new WeakMap();
 
 function fillRandom(bytes) {
     return globalThis.crypto.getRandomValues(bytes);
@@ -117,10 +118,9 @@ function keyBytes(calls, bytes, length) {
 class PublicKey {
     #calls;
     #set;
-    #bytes;
 
     constructor(calls, set, bytes) {
-        this.#bytes = keyBytes(calls, bytes, calls.lengths(set).publicKey);
+        bytesOf.set(this, keyBytes(calls, bytes, calls.lengths(set).publicKey));
         this.#calls = calls;
         this.#set = set;
     }
@@ -130,15 +130,15 @@ class PublicKey {
     }
 
     toBytes() {
-        return Uint8Array.from(this.#bytes);
+        return Uint8Array.from(bytesOf.get(this));
     }
 
     format() {
-        return formatKey("public", this.#set, this.#bytes);
+        return formatKey("public", this.#set, bytesOf.get(this));
     }
 
     async fingerprint() {
-        const digest = await globalThis.crypto.subtle.digest("SHA-256", this.#bytes);
+        const digest = await globalThis.crypto.subtle.digest("SHA-256", bytesOf.get(this));
         return `SHA256:${btoa(String.fromCharCode(...new Uint8Array(digest))).replace("=", "")}`;
     }
 
@@ -157,7 +157,7 @@ class PublicKey {
     #verify(call, hash, text, signature, options) {
         const { context = NONE } = readOptions(options, VERIFY_OPTIONS);
         const lengths = lengthsOf(hash, text, context);
-        return this.#calls.judge(call, [this.#set, ...hash], lengths, this.#bytes, text, context, signature);
+        return this.#calls.judge(call, [this.#set, ...hash], lengths, bytesOf.get(this), text, context, signature);
     }
 
     toString() {
@@ -179,7 +179,7 @@ class SecretKey {
     #set;
 
     constructor(calls, set, bytes) {
-        secrets.set(this, keyBytes(calls, bytes, calls.lengths(set).secretKey));
+        bytesOf.set(this, keyBytes(calls, bytes, calls.lengths(set).secretKey));
         this.#calls = calls;
         this.#set = set;
     }
@@ -207,13 +207,13 @@ class SecretKey {
     }
 
     erase() {
-        secrets.get(this)?.fill(0);
-        secrets.delete(this);
+        bytesOf.get(this)?.fill(0);
+        bytesOf.delete(this);
     }
 
     /** The bytes, unless they were erased: zeros would sign, too. */
     #held() {
-        const bytes = secrets.get(this);
+        const bytes = bytesOf.get(this);
         if (bytes === undefined) throw new Erased();
         return bytes;
     }
