@@ -3,15 +3,17 @@
 import { open, unlink } from "node:fs/promises";
 
 import { zeros } from "./bytes.js";
-import { Refusal } from "./errors.js";
 
-const MOST = 2 ** 30;
+// A key file has at most 292 bytes. More are read for the sake of the refusal; of a longer file, these.
+const MOST = 2 ** 20;
 const SECRET = new TextEncoder().encode("slh-dsa-secret");
 
+/** Reads a secret key file. Throws a Refusal, or the error of node:fs. */
 export async function loadSecretKey(slh, path) {
     return withFile(path, (bytes) => slh.parseSecretKey(bytes));
 }
 
+/** Reads a public key file. Throws a Refusal, or the error of node:fs. */
 export async function loadPublicKey(slh, path) {
     return withFile(path, (bytes) => slh.parsePublicKey(bytes));
 }
@@ -19,30 +21,29 @@ export async function loadPublicKey(slh, path) {
 /** Hands on the bytes of a file, and overwrites them. */
 async function withFile(path, take) {
     const file = await open(path, "r");
-    let room = zeros(4096);
+    const room = zeros(MOST);
     try {
-        let length = 0;
-        for (;;) {
-            const { bytesRead } = await file.read(room, length, room.length - length);
-            if (bytesRead === 0) return take(room.subarray(0, length));
-            length += bytesRead;
-            if (length > MOST) throw new Refusal(36, "FileTooLong", `at most ${MOST} bytes are read`);
-            if (length === room.length) room = moved(room);
-        }
+        return take(room.subarray(0, await readInto(room, file)));
     } finally {
         room.fill(0);
         await file.close();
     }
 }
 
-/** The bytes in an array of twice the length. Overwrites the old array. */
-function moved(bytes) {
-    const room = zeros(2 * bytes.length);
-    room.set(bytes);
-    bytes.fill(0);
-    return room;
+/** Reads until the file ends or the room is full. Returns the number of bytes. */
+async function readInto(room, file) {
+    let length = 0;
+    for (;;) {
+        const { bytesRead } = await file.read(room, length, room.length - length);
+        length += bytesRead;
+        if (bytesRead === 0 || length === room.length) return length;
+    }
 }
 
+/**
+ * Writes a key into a new key file of version 2, with mode 0600 if the key is secret. Throws the error of node:fs if the
+ * file exists or writing fails, and leaves no file then.
+ */
 export async function dump(key, path) {
     const bytes = key.format();
     try {

@@ -5,7 +5,7 @@ import assert from "node:assert/strict";
 import test from "node:test";
 
 import * as names from "../slh.js";
-import { hex, isIn, isZeros, module, partsOf, vectorKey, watchInstances } from "./support.js";
+import { buffersOf, hex, isIn, isZeros, module, partsOf, vectorKey, watchInstances } from "./support.js";
 
 const { Erased, Fault, load, Refusal, SLH_DSA_SHA2_128F, SLH_SHA2_256, Trap } = names;
 
@@ -234,22 +234,6 @@ test("a key that is erased while the options are read signs nothing", () => {
         expectNothing(name);
     }
 });
-
-/** Runs an action, and returns all ArrayBuffers that are made meanwhile. */
-function buffersOf(action) {
-    const { ArrayBuffer } = globalThis;
-    const made = [];
-    globalThis.ArrayBuffer = function (length) {
-        made.push(new ArrayBuffer(length));
-        return made.at(-1);
-    };
-    try {
-        action();
-        return made;
-    } finally {
-        globalThis.ArrayBuffer = ArrayBuffer;
-    }
-}
 
 /** Fails unless a call throws a Fault, and all bytes of a signature's length that the package had are zeros. */
 function expectFault(name, call) {

@@ -46,3 +46,22 @@ export async function watchInstances(memories, change, action) {
 export function isIn(memories, parts) {
     return memories.some((it) => parts.some((part) => Buffer.from(it.buffer).includes(part)));
 }
+
+/** Puts each ArrayBuffer that is made while an action runs, also an asynchronous one, into a list. */
+export function buffersOf(action, made = []) {
+    const { ArrayBuffer } = globalThis;
+    const restore = () => Object.assign(globalThis, { ArrayBuffer });
+    globalThis.ArrayBuffer = function (length) {
+        made.push(new ArrayBuffer(length));
+        return made.at(-1);
+    };
+    try {
+        const result = action();
+        if (result instanceof Promise) return result.finally(restore).then(() => made);
+    } catch (error) {
+        restore();
+        throw error;
+    }
+    restore();
+    return made;
+}
