@@ -15,7 +15,7 @@ export class Erased extends Error {
     }
 }
 
-/** Signing went wrong, as `twice` or `verify` found: the memory or the processor failed. No signature is given. */
+/** `twice` or `verify` found a wrong signature, which is not given. */
 export class Fault extends Error {
     constructor(message) {
         super(message);
@@ -26,7 +26,7 @@ export class Fault extends Error {
 /** The module ended a call early. `cause` is the engine's error. The next call takes a new instance. */
 export class Trap extends Error {
     constructor(cause) {
-        super(`the module trapped (${cause.message}): its memory is dropped, the next call takes a new instance`, { cause });
+        super(`the module trapped (${cause.message}): the next call takes a new instance`, { cause });
         this.name = "Trap";
     }
 }

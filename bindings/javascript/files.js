@@ -41,8 +41,8 @@ async function readInto(room, file) {
 }
 
 /**
- * Writes a key into a new key file of version 2, with mode 0600 if the key is secret. Throws the error of node:fs if the
- * file exists or writing fails, and leaves no file then.
+ * Writes a key into a new key file of version 2, with mode 0600 if the key is secret. Throws the error of node:fs if
+ * the file exists or writing fails, and leaves no file then.
  */
 export async function dump(key, path) {
     const bytes = key.format();

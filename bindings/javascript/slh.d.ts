@@ -2,8 +2,12 @@
  * SLH-DSA (FIPS 205) with SHA-2: keys, signing and verifying, over the WebAssembly module slh.wasm. The names are those
  * of libslh: docs/LIBRARY.md of its repository says what each call does and what is proved of it.
  *
- * Each call throws a TypeError that names what is wanted where an argument is of another kind, as the text
- * "SLH-DSA-SHA2-128f" for a set, and where options have a name that is not one of theirs.
+ * Each call throws a TypeError if an argument is of another kind, if an array's buffer is detached, and if options have
+ * a name that is not one of theirs. Only own properties of options count. Each call throws a Trap if the module ends it
+ * early, and a RangeError if the module's memory can't grow.
+ *
+ * Arrays over a SharedArrayBuffer are taken: each is copied once for a call, and once more with `verify`. Arrays over a
+ * resizable buffer have the length that they have when a call begins.
  */
 
 /** libslh's number of a parameter set (FIPS 205, section 11, Table 2). */
@@ -15,6 +19,15 @@ export const SLH_DSA_SHA2_192F: 4;
 export const SLH_DSA_SHA2_256S: 5;
 export const SLH_DSA_SHA2_256F: 6;
 
+/** The name of a parameter set, which each call takes for its number. Other names: Refusal UnknownSet. */
+export type ParameterSetName =
+    | "SLH-DSA-SHA2-128s"
+    | "SLH-DSA-SHA2-128f"
+    | "SLH-DSA-SHA2-192s"
+    | "SLH-DSA-SHA2-192f"
+    | "SLH-DSA-SHA2-256s"
+    | "SLH-DSA-SHA2-256f";
+
 /** libslh's number of a pre-hash function (FIPS 205, section 10.2.2). */
 export type HashFunction = 1 | 2 | 3 | 4 | 5 | 6;
 export const SLH_SHA2_224: 1;
@@ -24,15 +37,34 @@ export const SLH_SHA2_512: 4;
 export const SLH_SHA2_512_224: 5;
 export const SLH_SHA2_512_256: 6;
 
-/** A call was refused: `number` and `name` are libslh's, as 2 and "ContextTooLong". */
+/**
+ * A call was refused: `number` and `name` are libslh's, as 2 and "ContextTooLong". The message has both, and the
+ * expected and the given length if a length was wrong.
+ */
 export class Refusal extends Error {
-    constructor(number: number, name: string);
+    constructor(number: number, name: string, detail?: string);
     readonly number: number;
 }
 
 /** A secret key was used after `erase`. */
 export class Erased extends Error {
     constructor();
+}
+
+/**
+ * `twice` found two different signatures, or `verify` one that is not valid: the memory or the processor failed, or
+ * the secret key's PK.root is not that of its seeds (`check`). No signature is given, and what was made is overwritten.
+ */
+export class Fault extends Error {
+    constructor(message: string);
+}
+
+/**
+ * The module ended a call early; `cause` is the engine's error. Its memory was cleared, and the next call takes a new
+ * instance. Keys stay usable.
+ */
+export class Trap extends Error {
+    constructor(cause: Error);
 }
 
 /** Lengths in bytes. n is that of a seed and of a randomizer. */
@@ -55,8 +87,12 @@ export interface SignOptions {
     context?: Uint8Array;
     /** n bytes; without it they are drawn from crypto.getRandomValues. */
     randomizer?: Uint8Array;
-    /** No randomizer (FIPS 205, section 9.2), which is worse where faults are feared. */
+    /** No randomizer (FIPS 205, section 9.2): more exposed to hardware faults. */
     deterministic?: boolean;
+    /** Signs two times and compares all bytes, in twice the time. Throws a Fault if they differ. */
+    twice?: boolean;
+    /** Verifies the signature under the key's own public part. Throws a Fault if it is not valid. */
+    verify?: boolean;
 }
 
 /** A public key, PK.seed and PK.root: 32, 48 or 64 bytes. */
@@ -65,6 +101,12 @@ export interface PublicKey {
 
     /** A copy of the 2n bytes. */
     toBytes(): Uint8Array;
+
+    /** The key file of version 2, as ASCII. */
+    format(): Uint8Array;
+
+    /** SHA-256 of the bytes, as "SHA256:" and base64 without padding. A browser has it in secure contexts alone. */
+    fingerprint(): Promise<string>;
 
     /**
      * Whether a signature of the pure form is valid (Algorithm 24). Bytes of another length than the set's signatures,
@@ -80,14 +122,18 @@ export interface PublicKey {
 }
 
 /**
- * A secret key, SK.seed, SK.prf, PK.seed and PK.root: 64, 96 or 128 bytes, which are not printed. After `erase` each
- * other call throws Erased.
+ * A secret key, SK.seed, SK.prf, PK.seed and PK.root: 64, 96 or 128 bytes. It is printed and serialised as its set
+ * alone; a copy by structuredClone, postMessage or spread has nothing of it. After `erase` each other call throws
+ * Erased.
  */
 export interface SecretKey {
     readonly set: ParameterSet;
 
-    /** A copy of the 4n bytes. */
+    /** A copy of the 4n bytes. Overwrite it after use. */
     toBytes(): Uint8Array;
+
+    /** The key file of version 2, as ASCII. Overwrite it after use. */
+    format(): Uint8Array;
 
     /** The public key, the last 2n bytes. */
     public(): PublicKey;
@@ -103,7 +149,7 @@ export interface SecretKey {
 
     /**
      * Signs a message in the pure form (Algorithm 22). Throws a Refusal: ContextTooLong for a context of over 255
-     * bytes; BadRandomizerLength.
+     * bytes; BadRandomizerLength. Throws a Fault if `twice` or `verify` finds one.
      */
     sign(message: Uint8Array, options?: SignOptions): Uint8Array;
 
@@ -117,32 +163,44 @@ export interface SecretKey {
     hashSignDigest(hash: HashFunction, digest: Uint8Array, options?: SignOptions): Uint8Array;
 }
 
-/** One instance of the module. Its memory grows to the longest message, and does not shrink. */
+/** The calls over an instance of the module, whose memory grows to the longest message, and does not shrink. */
 export interface Library {
     /** The version of libslh: 1,000,000 times its first number, 1,000 times its second, and its third. */
     version(): number;
 
     /** The lengths of a set's keys and signatures. Throws a Refusal: NoSuchSet. */
-    lengths(set: ParameterSet): Lengths;
+    lengths(set: ParameterSet | ParameterSetName): Lengths;
 
     /** Makes a key from random bytes of crypto.getRandomValues (Algorithm 21). Throws a Refusal: NoSuchSet. */
-    generate(set: ParameterSet): SecretKey;
+    generate(set: ParameterSet | ParameterSetName): SecretKey;
 
     /**
      * Makes the key of three seeds of n bytes each (Algorithm 18). They are as secret as the key. Throws a Refusal:
      * NoSuchSet, BadSeedLength.
      */
-    keygen(set: ParameterSet, skSeed: Uint8Array, skPrf: Uint8Array, pkSeed: Uint8Array): SecretKey;
+    keygen(set: ParameterSet | ParameterSetName, skSeed: Uint8Array, skPrf: Uint8Array, pkSeed: Uint8Array): SecretKey;
 
     /**
      * The secret key of these bytes. Call `check` once on one that comes from elsewhere. Throws a Refusal: NoSuchSet;
      * BadLength unless there are 4n.
      */
-    secretKey(set: ParameterSet, bytes: Uint8Array): SecretKey;
+    secretKey(set: ParameterSet | ParameterSetName, bytes: Uint8Array): SecretKey;
 
     /** The public key of these bytes. Throws a Refusal: NoSuchSet; BadLength unless there are 2n. */
-    publicKey(set: ParameterSet, bytes: Uint8Array): PublicKey;
+    publicKey(set: ParameterSet | ParameterSetName, bytes: Uint8Array): PublicKey;
+
+    /**
+     * The secret key of a key file of either version. A string cannot be overwritten: hand in bytes, and overwrite
+     * them. Throws a Refusal: NotAKeyFile, UnknownSet, BadHex, BadKeyLength, TrailingBytes.
+     */
+    parseSecretKey(file: Uint8Array | string): SecretKey;
+
+    /** The public key of a key file of either version. Throws a Refusal: as `parseSecretKey`. */
+    parsePublicKey(file: Uint8Array | string): PublicKey;
 }
 
-/** Makes an instance of slh.wasm: the one beside slh.js, or of a URL, of its bytes, or of a compiled module. */
+/**
+ * Makes an instance of slh.wasm: the one beside slh.js, or of a URL, of its bytes, or of a compiled module. Throws an
+ * Error that names the flag and the engines to take if this one has no WebAssembly with 64-bit memory.
+ */
 export function load(source?: URL | ArrayBuffer | ArrayBufferView | WebAssembly.Module): Promise<Library>;

@@ -98,7 +98,7 @@ function checkedFlags(flags) {
     }
 }
 
-/** The lengths that the refusals of a call's text and context tell: the expected and the given one. */
+/** For the refusals of a context's and of a digest's length: the expected and the given one. */
 function lengthsOf(hash, text, context) {
     return {
         __proto__: null,
@@ -247,7 +247,9 @@ class SecretKey {
     /** The n bytes of a randomizer. Only `deterministic` asks for none at all, the deterministic variant. */
     #randomizer({ randomizer, deterministic = false }) {
         checkedFlags({ deterministic });
-        if (deterministic && randomizer !== undefined) throw new TypeError("a deterministic signature has no randomizer");
+        if (deterministic && randomizer !== undefined) {
+            throw new TypeError("a deterministic signature has no randomizer");
+        }
         if (deterministic) return NONE;
         const { n } = this.#calls.lengths(this.#set);
         if (randomizer === undefined) return fillRandom(zeros(n));

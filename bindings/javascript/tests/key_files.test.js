@@ -179,7 +179,8 @@ test("what the package makes of a secret key file is overwritten", async () => {
     const made = await buffersOf(async () => loaded.push(await loadSecretKey(slh, inFolder("erase.key"))));
     buffersOf(() => loaded.push(slh.parseSecretKey(SECRET_FILE), slh.parseSecretKey(Buffer.from(SECRET_FILE))), made);
     await buffersOf(() => dump(secret, inFolder("erase.dumped")), made);
-    const left = () => made.filter((it) => [...partsOf(sk), ...inDigits].some((part) => Buffer.from(it).includes(part)));
+    const isIn = (it) => [...partsOf(sk), ...inDigits].some((part) => Buffer.from(it).includes(part));
+    const left = () => made.filter(isIn);
     assert.equal(left().length, 3);
     for (const it of loaded) it.erase();
     assert.equal(left().length, 0);

@@ -1,5 +1,5 @@
-// All ways of printing, serialising and copying, over all holders of a secret key: no eight bytes in a row of SK.seed or
-// SK.prf come out, in hexadecimal digits, decimal numbers, base64, raw or escaped.
+// All ways of printing, serialising and copying, over all holders of a secret key: no eight bytes in a row of SK.seed
+// or SK.prf come out, in hexadecimal digits, decimal numbers, base64, raw or escaped.
 //
 // usage: SLH_WASM=PREFIX/lib/slh.wasm node --experimental-wasm-memory64 --test bindings/javascript/tests
 import assert from "node:assert/strict";
@@ -42,10 +42,12 @@ function found(coloured) {
     const text = coloured.replace(/\x1b\[\d+m/g, "");
     const numbers = text.match(/\d+/g) ?? [];
     const every = (step, from) => numbers.filter((_, at) => at % step === from);
-    const unescaped = text.replace(/\\x([0-9a-f]{2})|\\u00([0-9a-f]{2})/gi, (_, x, u) => String.fromCharCode(`0x${x ?? u}`));
+    const unescaped = text.replace(/\\(?:x|u00)([0-9a-f]{2})/gi, (_, digits) => String.fromCharCode(`0x${digits}`));
     const among = {
         digits: text.toLowerCase().replace(/0x|[^0-9a-f]/g, ""),
-        decimal: [numbers, every(2, 0), every(2, 1), every(3, 0), every(3, 1), every(3, 2)].map((it) => `,${it.join(",")},`).join(" "),
+        decimal: [numbers, every(2, 0), every(2, 1), every(3, 0), every(3, 1), every(3, 2)]
+            .map((it) => `,${it.join(",")},`)
+            .join(" "),
         base64: text.replaceAll("-", "+").replaceAll("_", "/"),
         raw: text + unescaped + Buffer.from(text, "latin1").toString("utf8"),
     };
@@ -56,16 +58,17 @@ test("the search finds eight bytes in each form", () => {
     const part = sk.subarray(3, 11);
     const bytes = Buffer.from(part);
     const listed = Array.from(part);
+    const raw = bytes.toString("latin1");
+    const inDigits = listed.map((it) => it.toString(16).padStart(2, "0"));
+    const padded = [0, 1, 2].map((at) => Buffer.concat([Buffer.alloc(at, 9), bytes, Buffer.alloc(5, 9)]));
     const texts = {
-        digits: [bytes.toString("hex"), bytes.toString("hex").toUpperCase(), inspect(bytes), listed.map((it) =>
-            `0x${it.toString(16).padStart(2, "0")}`).join(", ")],
-        decimal: [String(part), inspect(part), JSON.stringify(part), JSON.stringify(bytes), JSON.stringify(listed, null, 1)],
-        base64: [0, 1, 2].flatMap((at) => ["base64", "base64url"].map((it) =>
-            Buffer.concat([Buffer.alloc(at, 9), bytes, Buffer.alloc(5, 9)]).toString(it))),
-        raw: [bytes.toString("latin1"), bytes.toString("utf8") === "" ? "" : Buffer.from(bytes.toString("latin1"),
-            "utf8").toString("latin1"), listed.map((it) => `\\x${it.toString(16).padStart(2, "0")}`).join(""),
-            v8.serialize(part).toString("latin1")],
+        digits: ["", " ", ":", ", 0x"].map((it) => inDigits.join(it)).concat(inspect(bytes), bytes.toString("hex")),
+        decimal: [String(part), inspect(part), ...[part, bytes, listed].map((it) => JSON.stringify(it, null, 1))],
+        base64: ["base64", "base64url"].flatMap((it) => padded.map((data) => data.toString(it))),
+        raw: [raw, Buffer.from(raw, "utf8").toString("latin1"), inDigits.map((it) => `\\x${it}`).join("")],
     };
+    texts.digits.push(...texts.digits.map((it) => it.toUpperCase()));
+    texts.raw.push(v8.serialize(part).toString("latin1"));
     for (const [form, all] of Object.entries(texts)) {
         for (const text of all) assert.ok(found(`a ${text} b`).includes(form), `${form}: ${text}`);
     }
@@ -124,9 +127,8 @@ const holders = {
 
 // ---- the ways
 
-const ALL = {
-    showHidden: true, depth: null, colors: true, getters: true, showProxy: true, maxArrayLength: null, maxStringLength: null,
-};
+const WHOLE = { depth: null, maxArrayLength: null, maxStringLength: null };
+const ALL = { ...WHOLE, showHidden: true, colors: true, getters: true, showProxy: true };
 
 /** What a console writes. */
 function printed(write) {
@@ -180,7 +182,7 @@ function ask(method, parameters) {
 
 const ASIDE = ["[[Prototype]]", "[[Scopes]]", "[[FunctionLocation]]", "__proto__", "constructor"];
 
-/** What a console of a browser or a debugger shows of a value that is opened, and of what is in it, some levels deep. */
+/** What a debugger or a console of a browser shows of a value and of all that is in it, some levels deep. */
 function shown(value, levels = 7) {
     if (!value?.objectId || levels === 0 || Number(/\((\d+)\)/.exec(value.description)?.[1]) > 300) return "";
     const { objectId } = value;
@@ -288,7 +290,7 @@ for (const [name, way] of Object.entries(ways)) {
 }
 
 test("a secret key is printed as its set", () => {
-    for (const text of [inspect(secret, ALL), `${secret}`, String(secret), secret + "", JSON.parse(JSON.stringify(secret))]) {
+    for (const text of [inspect(secret, ALL), `${secret}`, secret + "", JSON.parse(JSON.stringify(secret))]) {
         assert.equal(text, NAME);
     }
     assert.equal(inspect([secret]), `[ ${NAME} ]`);

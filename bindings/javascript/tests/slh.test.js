@@ -134,7 +134,8 @@ test("randomizers are drawn", () => {
     assert.throws(() => secret.sign(letter, { randomizer: new Uint8Array(16), deterministic: true }), TypeError);
     for (const name of ["deterministic", "twice", "verify"]) {
         for (const other of ["false", 1, null]) {
-            assert.throws(() => secret.sign(letter, { [name]: other }), { name: "TypeError", message: /true or false/ });
+            const message = /true or false/;
+            assert.throws(() => secret.sign(letter, { [name]: other }), { name: "TypeError", message });
         }
     }
 });
@@ -304,14 +305,13 @@ test("options are a plain object, and each is read once", () => {
             return count === 1 ? letter : new Uint8Array(0);
         },
     };
-    assert.equal(publicKey.verify(letter, secret.sign(letter, { ...OPTIONS_OFF, ...once }), { context: letter }), true);
+    const off = { randomizer: undefined, deterministic: false, twice: false, verify: undefined };
+    assert.equal(publicKey.verify(letter, secret.sign(letter, { ...off, ...once }), { context: letter }), true);
     count = 0;
-    const signature = secret.sign(letter, Object.defineProperties({ verify: true }, Object.getOwnPropertyDescriptors(once)));
+    const signature = secret.sign(letter, Object.assign(once, { verify: true }));
     assert.equal(count, 1);
     assert.equal(publicKey.verify(letter, signature, { context: letter }), true);
 });
-
-const OPTIONS_OFF = { randomizer: undefined, deterministic: false, twice: false, verify: undefined };
 
 test("messages may be longer than the memory", async () => {
     const other = await load(module);
