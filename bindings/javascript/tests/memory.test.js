@@ -3,6 +3,7 @@
 // usage: SLH_WASM=PREFIX/lib/slh.wasm node --experimental-wasm-memory64 --test bindings/javascript/tests
 import assert from "node:assert/strict";
 import test from "node:test";
+import { runInNewContext } from "node:vm";
 
 import * as names from "../slh.js";
 import { buffersOf, hex, isIn, isZeros, module, partsOf, vectorKey, watchInstances } from "./support.js";
@@ -105,6 +106,7 @@ const notBytes = {
     "an object with the prototype of arrays": () => Object.create(Uint8Array.prototype),
     "an array-like object": () => ({ length: 2 ** 40 }),
     "an array of 16 bits": () => new Uint16Array(16),
+    "an array of 16 bits that seems one of bytes": () => Object.setPrototypeOf(new Uint16Array(8), Uint8Array.prototype),
     "an ArrayBuffer": () => new ArrayBuffer(16),
     "a view": () => new DataView(new ArrayBuffer(16)),
     "a list": () => new Array(16).fill(0),
@@ -133,6 +135,13 @@ test("an array has the length that the engine knows", () => {
     }
     assert.equal(hex(slh.keygen(SLH_DSA_SHA2_128F, ...seeds.map((it) => Throws.from(it))).toBytes()), hex(sk));
     expectNothing("keygen");
+});
+
+test("arrays of another realm are taken", () => {
+    const other = runInNewContext("new Uint8Array([108, 101, 116, 116, 101, 114])");
+    assert.ok(!(other instanceof Uint8Array));
+    assert.equal(publicKey.verify(other, signature), true);
+    assert.equal(publicKey.verify(text, signature, runInNewContext("({ context: new Uint8Array(0) })")), true);
 });
 
 test("arrays over shared and resizable buffers are read as they are when they are handed in", () => {
