@@ -194,6 +194,40 @@ class Tests:
             expect(is_so == "refused" and text.startswith("Not judged\n"), data)
         expect(self.says(self.files(self.test), context="0")[0] == "refused", "an odd number of digits")
 
+    def other_keys(self):
+        """A secret key and a PEM file are named as what they are, and no digit of a secret key is shown."""
+        secret, name = self.test["sk"], self.test["set"]
+        raw = [bytes.fromhex(secret)] + [bytes.fromhex(secret) * 2, (bytes.fromhex(secret) * 2)[:96]]
+        files = [f"slh-dsa-secret {version}\n{name}\n{secret}\n".encode() for version in (1, 2)]
+        for data in files + raw:
+            is_so, text = self.says(self.files(self.test, key=data))
+            expect(is_so == "refused" and "secret key" in text and "slh public" in text, f"{data}: {text}")
+            shown = self.browser.value("document.documentElement.innerHTML + document.title").lower()
+            parts = [secret[at : at + 16] for at in range(0, 2 * 32 - 16, 2)]
+            expect(not any(part in shown for part in parts), f"{data} is shown")
+        for kind in "PUBLIC KEY", "PRIVATE KEY", "ENCRYPTED PRIVATE KEY", "CERTIFICATE":
+            data = f"-----BEGIN {kind}-----\n{'A' * 64}\n-----END {kind}-----\n".encode()
+            for pem in data, data + data * 40:
+                is_so, text = self.says(self.files(self.test, key=pem))
+                expect(is_so == "refused" and f"PEM file ({kind})" in text, f"{kind}: {text}")
+        test = next(it for it in self.vectors("256f") if it["valid"])
+        is_so, text = self.says(self.files(test, key=bytes.fromhex(test["pk"])), test["form"], test["context"])
+        expect(is_so == "valid", f"64 bytes of a public key of a 256 set: {text}")
+
+    def other_browsers(self):
+        """The page says which browsers work, also if this one does not, and tells that from a damaged module."""
+        known = ["Chrome", "Edge", "Firefox", "64-bit"]
+        self.browser.open(self.page)
+        expect(all(it in self.browser.value("document.querySelector('main').innerText") for it in known), "the note")
+        without = "WebAssembly.validate = () => false"
+        added = self.browser.tell("Page.addScriptToEvaluateOnNewDocument", source=without)["identifier"]
+        try:
+            self.browser.open(self.page)
+            is_so, text = self.judged()
+            expect(is_so == "refused" and all(it in text for it in known) and "damaged" not in text, text)
+        finally:
+            self.browser.tell("Page.removeScriptToEvaluateOnNewDocument", identifier=added)
+
     def dropped(self):
         """Files that are dropped onto their places are judged; one beside them does not leave the page."""
         self.browser.open(self.page)
@@ -294,10 +328,11 @@ class Tests:
         cut.write_text(page[:at] + page[at + 4 :])
         bare = self.page.with_name("bare.html")
         shutil.copy(here / "web" / "verify.html", bare)
-        for path in bare, cut:
+        for path, word in (bare, "no module"), (cut, "damaged"):
             self.browser.open(path)
             self.choose(paths)
-            expect(self.judged()[0] == "refused", path.name)
+            is_so, text = self.judged()
+            expect(is_so == "refused" and word in text and "browser" not in text, f"{path.name}: {text}")
 
     def no_faults(self):
         """No exception was thrown in the page that nothing caught."""
@@ -311,6 +346,8 @@ class Tests:
             return
         tell("damaged signatures are invalid", self.damaged)
         tell("keys of each kind", self.keys)
+        tell("a secret key and a PEM file are named", self.other_keys)
+        tell("the browsers that work are named", self.other_browsers)
         tell("files that are dropped", self.dropped)
         tell("a large file has its progress shown", self.large)
         tell("the keyboard reaches all", self.by_keyboard)
