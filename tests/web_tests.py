@@ -1,7 +1,8 @@
 #!/usr/bin/env python3
 """Tries the page that verifies, as tools/web_page.sh writes it, in Chromium without a window, opened from a folder:
-over signatures of vectors/, damaged ones, drops, a large file, the keyboard, and what a screen reader is told; that it
-can't send anything; and that a page without its module judges nothing.
+over signatures of vectors/, damaged ones, drops, a large file, the keyboard, and what a screen reader is told; that
+secret keys and PEM files are named; that it can't send anything; and that a page without its module judges nothing.
+Then the package for JavaScript is tried there, in a page and in a worker.
 
 usage: tests/web_tests.py [--few] [--dist DIST] [--screenshot FILE]
 
@@ -11,6 +12,7 @@ has the counts, and the status is 0 where nothing failed.
 """
 import argparse
 import base64
+import functools
 import http.server
 import json
 import os
@@ -30,6 +32,24 @@ LABELS = ["128s", "128f", "192s", "192f", "256s", "256f"]
 FORMS = ["pure", "SHA2-224", "SHA2-256", "SHA2-384", "SHA2-512", "SHA2-512/224", "SHA2-512/256"]
 
 
+# Signs and verifies by the package for JavaScript, in a page or in a worker. Each answer has to be true.
+PROGRAM = """
+import { load, Refusal } from "./slh.js";
+const message = new TextEncoder().encode("letter");
+const isRefused = (call) => { try { call(); } catch (error) { return error instanceof Refusal; } };
+
+async function answersOf() {
+    const slh = await load();
+    const secret = slh.parseSecretKey(slh.generate("SLH-DSA-SHA2-128f").format());
+    const signature = secret.sign(message, { twice: true, verify: true });
+    return [secret.public().verify(message, signature), !secret.public().verify(signature, signature),
+        isRefused(() => secret.sign(message, { context: new Uint8Array(256) })),
+        (await secret.public().fingerprint()).startsWith("SHA256:")];
+}
+const answers = await answersOf().catch((error) => [String(error)]);
+"""
+
+
 def tell(name, test, *arguments):
     """Runs a test, and counts it."""
     try:
@@ -42,6 +62,11 @@ def tell(name, test, *arguments):
 def expect(is_so, what):
     if not is_so:
         raise AssertionError(what)
+
+
+class QuietHandler(http.server.SimpleHTTPRequestHandler):
+    def log_message(self, *_):
+        pass
 
 
 class Browser:
@@ -92,8 +117,11 @@ class Browser:
         return found["result"].get("value")
 
     def open(self, path):
+        self.go(pathlib.Path(path).as_uri())
+
+    def go(self, url):
         self.value("window.isLeft = true")
-        self.tell("Page.navigate", url=pathlib.Path(path).as_uri())
+        self.tell("Page.navigate", url=url)
         self.wait_for("!window.isLeft && document.readyState === 'complete' && !!document.querySelector('#verdict')")
 
     def wait_for(self, expression):
@@ -320,6 +348,24 @@ class Tests:
         other = [it for it in urls if not it.startswith((self.page.as_uri(), "blob:"))]
         expect(len(urls) > 50 and not other, f"of {len(urls)} requests {other}")
 
+    def package(self, module):
+        """The package for JavaScript signs and verifies in Chromium, in a page's thread and in a worker."""
+        folder = self.work / "package"
+        shutil.copytree(here / "bindings" / "javascript", folder, ignore=shutil.ignore_patterns("tests", "*.wasm"))
+        shutil.copy(module, folder / "slh.wasm")
+        (folder / "worker.mjs").write_text(PROGRAM + "postMessage(answers);")
+        (folder / "index.html").write_text(f"<p id=verdict><script type=module>{PROGRAM}window.answers = answers;"
+                                           "new Worker('worker.mjs', { type: 'module' }).onmessage = ({ data }) => "
+                                           "window.others = data;</script>")
+        handler = functools.partial(QuietHandler, directory=folder)
+        with http.server.ThreadingHTTPServer(("127.0.0.1", 0), handler) as server:
+            threading.Thread(target=server.serve_forever, daemon=True).start()
+            self.browser.go(f"http://127.0.0.1:{server.server_port}/index.html")
+            self.browser.wait_for("window.answers && window.others")
+            server.shutdown()
+        for name in "answers", "others":
+            expect(self.browser.value(f"window.{name}") == [True] * 4, f"{name}: {self.browser.value(name)}")
+
     def without_module(self):
         """The page as it stands in the repository, and one with a damaged module, judge nothing."""
         paths, cut = self.files(self.test), self.page.with_name("cut.html")
@@ -339,7 +385,7 @@ class Tests:
         thrown = [it["params"] for it in self.browser.events if it["method"] == "Runtime.exceptionThrown"]
         expect(not thrown, thrown[:2])
 
-    def run(self, few):
+    def run(self, few, module):
         for label in LABELS[1:2] if few else LABELS:
             tell(f"signatures of {label}", self.of_vectors, label)
         if few:
@@ -355,6 +401,7 @@ class Tests:
         tell("nothing is thrown", self.no_faults)
         tell("nothing is sent", self.sends_nothing)
         tell("a page without its module judges nothing", self.without_module)
+        tell("the package for JavaScript signs and verifies here", self.package, module)
 
     def screenshot(self, path):
         self.says(self.files(self.test))
@@ -387,7 +434,7 @@ def main():
             counts.skip("the page", "this chromium has no WebAssembly with 64-bit memory")
             return
         tests = Tests(browser, page, work)
-        tests.run(few)
+        tests.run(few, (release or here / "dist") / "wasm64" / "slh.wasm")
         if words.screenshot:
             tests.screenshot(words.screenshot)
     finally:
