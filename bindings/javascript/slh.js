@@ -362,10 +362,18 @@ function expectMemory64() {
         "`node --experimental-wasm-memory64 FILE`, or take Node 24, Chrome or Edge 133, Firefox 134, or later");
 }
 
+async function compile(bytes) {
+    try {
+        return await WebAssembly.compile(bytes);
+    } catch (cause) {
+        if (!(cause instanceof WebAssembly.CompileError)) throw cause;
+        throw new Error("the module does not compile: it is damaged, or the engine is older than Node 20", { cause });
+    }
+}
+
 /** Makes an instance of slh.wasm: the one beside this file, or of a URL, of its bytes, or of a compiled module. */
 export async function load(source = new URL("slh.wasm", import.meta.url)) {
     expectMemory64();
     if (source instanceof WebAssembly.Module) return new Library(new Calls(source));
-    const bytes = source instanceof URL ? await read(source) : source;
-    return new Library(new Calls(await WebAssembly.compile(bytes)));
+    return new Library(new Calls(await compile(source instanceof URL ? await read(source) : source)));
 }

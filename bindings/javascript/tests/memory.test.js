@@ -322,17 +322,29 @@ const traps = {
     slh_verify: (_, key) => key.sign(text, { verify: true }),
 };
 
-/** A library in whose module a call, after its work, ends by a trap. Parts of the key are in the memory then. */
-function withTrap(name) {
+/** A library in whose module a call, after its work, does something. Parts of the key are in the memory then. */
+function withEnd(name, act) {
     return watched((exports) => {
-        const trap = (...words) => {
+        const ended = (...words) => {
             exports[name](...words);
             assert.equal(isIn([exports.memory], parts), name !== "slh_verify");
-            return exports.slh_verify(SLH_DSA_SHA2_128F, 0n, 32n, 0n, BEHIND, 0n, 0n, 0n, 17088n);
+            return act(exports);
         };
-        return { ...exports, [name]: trap };
+        return { ...exports, [name]: ended };
     });
 }
+
+const readBehind = ({ slh_verify }) => slh_verify(SLH_DSA_SHA2_128F, 0n, 32n, 0n, BEHIND, 0n, 0n, 0n, 17088n);
+const withTrap = (name) => withEnd(name, readBehind);
+
+test("a call that runs out of the engine's stack is a trap", async () => {
+    const forever = () => 1 + forever();
+    const library = await withEnd("slh_sign", forever);
+    const key = library.secretKey(SLH_DSA_SHA2_128F, sk);
+    assert.throws(() => key.sign(text), (error) => error instanceof Trap && error.cause instanceof RangeError);
+    expectNothing("out of stack");
+    assert.equal(publicKey.verify(text, key.sign(text)), true);
+});
 
 for (const [name, act] of Object.entries(traps)) {
     test(`a trap in ${name} leaves nothing, and the next call takes a new instance`, async () => {

@@ -413,6 +413,15 @@ test("a fingerprint is the SHA-256 of the bytes", async () => {
     assert.equal(await publicKey.fingerprint(), `SHA256:${digest.slice(0, 43)}`);
 });
 
+test("a module that is damaged, or another one, is told", async () => {
+    const damaged = Uint8Array.from(readFileSync(process.env.SLH_WASM)).fill(7, 600, 700);
+    await assert.rejects(load(damaged), { message: /does not compile: it is damaged/ });
+    const empty = Uint8Array.of(0, 97, 115, 109, 1, 0, 0, 0);
+    await assert.rejects(load(empty), { message: /has no slh_version: it is not the slh.wasm of this version/ });
+    await assert.rejects(load("slh.wasm"), TypeError);
+    await assert.rejects(load(new URL("none.wasm", import.meta.url)), { code: "ENOENT" });
+});
+
 test("numbers are those of the header", () => {
     const text = readFileSync(new URL("include/slh_verify.h", repository), "utf8");
     for (const [list, prefix] of [["slh_set", "SLH_DSA_"], ["slh_function", "SLH_SHA2_"]]) {
