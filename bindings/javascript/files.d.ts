@@ -3,7 +3,7 @@
 import type { Library, PublicKey, SecretKey } from "./slh.js";
 
 /**
- * Reads a secret key file of either version. What was read of it is overwritten. Throws a Refusal (NotAKeyFile,
+ * Reads a secret key file of either version, and overwrites the bytes that were read. Throws a Refusal (NotAKeyFile,
  * UnknownSet, BadHex, BadKeyLength, TrailingBytes), or the error of node:fs.
  */
 export function loadSecretKey(slh: Library, path: string | URL): Promise<SecretKey>;

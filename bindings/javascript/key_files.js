@@ -41,7 +41,7 @@ function hasAt(data, at, text) {
     return at + text.length <= data.length && Array.from(text).every((it, i) => data[at + i] === it.charCodeAt(0));
 }
 
-/** What a file is that is not of this kind, if it is told easily. */
+/** Names a PEM file, or a key file of the other kind, for the message of the refusal. */
 function otherKind(kind, data) {
     if (hasAt(data, 0, "-----BEGIN ")) return "this is a PEM file";
     const other = kind === "public" ? "secret" : "public";

@@ -1,6 +1,6 @@
 /**
  * SLH-DSA (FIPS 205) with SHA-2: keys, signing and verifying, over the WebAssembly module slh.wasm. The names are those
- * of libslh: docs/LIBRARY.md of its repository says what each call does and what is proved of it.
+ * of libslh, whose calls and proofs docs/LIBRARY.md of its repository describes.
  *
  * Each call throws a TypeError if an argument is of another kind, if an array's buffer is detached, and if options have
  * a name that is not one of theirs. Only own properties of options count. Each call throws a Trap if the module ends it
@@ -52,8 +52,8 @@ export class Erased extends Error {
 }
 
 /**
- * `twice` found two different signatures, or `verify` one that is not valid: the memory or the processor failed, or
- * the secret key's PK.root is not that of its seeds (`check`). No signature is given, and what was made is overwritten.
+ * `twice` found two different signatures, or `verify` an invalid one: memory or the processor failed, or the key's
+ * PK.root is not the root of its seeds (`check`). No signature is given, and those that were made are overwritten.
  */
 export class Fault extends Error {
     constructor(message: string);

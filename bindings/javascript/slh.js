@@ -8,14 +8,14 @@
  *     const signature = secret.sign(message);
  *     publicKey.verify(message, signature); // true
  *
- * The names are those of libslh: docs/LIBRARY.md of its repository says what each call does and what is proved of it.
- * Bytes are Uint8Arrays. A call that is refused throws a Refusal, with libslh's number and name. An argument of another
+ * The names are those of libslh, whose calls and proofs docs/LIBRARY.md of its repository describes. Bytes are
+ * Uint8Arrays. A call that is refused throws a Refusal, with libslh's number and name. An argument of another
  * kind, or an option of another name, throws a TypeError. `verify` and `check` return true or false.
  *
  * Each signature has a fresh randomizer from crypto.getRandomValues, unless one is given or `deterministic: true` asks
  * for none. After each call, also one that throws, its arguments and results are cleared in the module's memory, and
- * the module's stack too if the call takes secrets. `erase` clears a secret key. Arrays that a caller hands in or gets
- * stay as they are, and an engine may keep copies in its own stack and registers.
+ * the module's stack too if the call takes secrets. `erase` clears a secret key. The caller's arrays stay as they are,
+ * and an engine may keep copies in its own stack and registers.
  *
  * The module has a 64-bit memory. Node 20 needs --experimental-wasm-memory64.
  */
@@ -79,8 +79,8 @@ function isPlain(it) {
 }
 
 /**
- * The options of these names, each read once. A misspelt name is not passed over. Only own properties count, so that a
- * changed Object.prototype changes no signature; an object of a class, whose getters are not its own, is none.
+ * The options of these names, each read once. A misspelt name is refused. Only own properties are read, so that a
+ * changed Object.prototype changes no signature. An object of a class is refused: its getters are inherited.
  */
 function readOptions(it, names) {
     if (!isPlain(it)) throw new TypeError("options are needed as a plain object, as { context }");
@@ -107,7 +107,7 @@ function lengthsOf(hash, text, context) {
     };
 }
 
-/** A copy of a key's bytes. Refused: BadLength where there are more or fewer. */
+/** A copy of a key's bytes. Throws the Refusal BadLength if there are more or fewer. */
 function keyBytes(calls, bytes, length) {
     const given = byteLength(bytes);
     if (given !== length) throw calls.refusal(BAD_LENGTH, length, given);
