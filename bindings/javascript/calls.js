@@ -73,14 +73,18 @@ class Instance {
 
     /** Copies the bytes in, calls, and copies out what was written. Returns the call's number. */
     run(name, numbers, places) {
-        for (const { it, at, length } of places) {
-            if (!(it instanceof Scratch)) this.#bytes(at, length).set(it);
-        }
+        places.forEach((place) => this.#copyIn(place));
         const result = this.#enter(name, [...numbers, ...places.flatMap(wordsOf)]);
-        for (const { it, at, length } of places) {
-            if (it instanceof Room) it.bytes.set(this.#bytes(at, length));
-        }
+        places.forEach((place) => this.#copyOut(place));
         return result;
+    }
+
+    #copyIn({ it, at, length }) {
+        if (!(it instanceof Scratch)) this.#bytes(at, length).set(it);
+    }
+
+    #copyOut({ it, at, length }) {
+        if (it instanceof Room) it.bytes.set(this.#bytes(at, length));
     }
 
     #enter(name, words) {
