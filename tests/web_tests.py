@@ -127,7 +127,7 @@ class Browser:
     def wait_for(self, expression):
         end = time.monotonic() + 60
         while not self.value(expression):
-            expect(time.monotonic() < end, f"it is not so: {expression}: {self.value('document.body.innerText')}")
+            expect(time.monotonic() < end, f"it is not so: {expression}: {self.value('document.body?.innerText')}")
             time.sleep(0.01)
 
     def press(self, key):
