@@ -42,7 +42,7 @@ function expectNothing(name) {
     memories.splice(0, memories.length - 1);
 }
 
-/** What calls a key and a library have, by the argument at one position, whose name stands first. */
+/** The calls of a key and of a library by one argument, whose position is the name. */
 const callsBy = {
     "message of sign": (it) => secret.sign(it),
     "message of sign, twice and verified": (it) => secret.sign(it, { twice: true, verify: true }),
@@ -98,7 +98,7 @@ function saying(length) {
 
 const isTypeError = (error) => error instanceof TypeError;
 
-/** What is no array of bytes: each is a TypeError at each position. */
+/** Values that are not arrays of bytes: each is a TypeError at each position. */
 const notBytes = {
     "a detached array": detached,
     "an array over a buffer that has shrunk": shrunk,
@@ -253,7 +253,7 @@ function expectFault(name, call) {
     expectNothing(name);
 }
 
-test("a signature that is not valid under the key's own public part is a fault where verify is asked for", () => {
+test("a signature that is not valid under the key's own public part is a fault with verify", () => {
     const wrongRoot = Uint8Array.from(sk);
     wrongRoot[63] ^= 1;
     const wrong = slh.secretKey(SLH_DSA_SHA2_128F, wrongRoot);
@@ -286,8 +286,8 @@ for (const [name, sign] of Object.entries(signing)) {
         assert.equal(sign(key, {}).length, signature.length);
     });
 
-    // The module says SLH_FAULT, as it does if the signatures differ, and leaves the key where it has worked.
-    test(`where ${name}_twice says that the two differ it is a fault`, async () => {
+    // The module returns SLH_FAULT, as it does if the signatures differ, and leaves the key in its scratch.
+    test(`SLH_FAULT of ${name}_twice is a Fault`, async () => {
         let count = 0;
         const library = await watched((exports) => ({
             ...exports,
@@ -306,7 +306,7 @@ for (const [name, sign] of Object.entries(signing)) {
     });
 }
 
-// The module traps where it is handed a message that ends behind the memory.
+// The module traps if a message ends behind the memory.
 const BEHIND = 2n ** 40n;
 
 const traps = {

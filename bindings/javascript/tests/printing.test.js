@@ -22,7 +22,7 @@ const NAME = "SecretKey(SLH-DSA-SHA2-128f)";
 
 // ---- the search
 
-/** What base64 has of a part, wherever it begins: without the digits that its neighbours share. */
+/** The digits of a part in base64, at each place that it can begin, without those that neighbours share. */
 function base64Of(part) {
     return [0, 1, 2].map((before) => {
         const digits = Buffer.concat([Buffer.alloc(before), part]).toString("base64").replace(/=/g, "");
@@ -130,7 +130,7 @@ const holders = {
 const WHOLE = { depth: null, maxArrayLength: null, maxStringLength: null };
 const ALL = { ...WHOLE, showHidden: true, colors: true, getters: true, showProxy: true };
 
-/** What a console writes. */
+/** The text that a console writes. */
 function printed(write) {
     const pieces = [];
     const stream = new Writable({
@@ -182,7 +182,7 @@ function ask(method, parameters) {
 
 const ASIDE = ["[[Prototype]]", "[[Scopes]]", "[[FunctionLocation]]", "__proto__", "constructor"];
 
-/** What a debugger or a console of a browser shows of a value and of all that is in it, some levels deep. */
+/** A value as a debugger or a console of a browser shows it, with its fields, some levels deep. */
 function shown(value, levels = 7) {
     if (!value?.objectId || levels === 0 || Number(/\((\d+)\)/.exec(value.description)?.[1]) > 300) return "";
     const { objectId } = value;
@@ -259,7 +259,7 @@ const ways = {
     "a debugger": inDebugger,
 };
 
-/** What comes out, also by the error of a way that refuses. */
+/** The text of a way, and that of its error if it refuses. */
 function outcome(way, it) {
     let text = "";
     const refused = thrown(() => {
@@ -268,7 +268,7 @@ function outcome(way, it) {
     return text + refused;
 }
 
-// These ways do not print what they are given, or not whole.
+// These ways print no part of their argument, or not all of it.
 const TELL_LESS = [
     "format %s", "format %d", "format %i", "format %f", "an error of an argument", "a call of another key", "a set",
     "an option",

@@ -341,7 +341,7 @@ function watched(action) {
     }
 }
 
-// Each call that takes a secret: afterwards the memory is what it was before the first call, and zeros where it grew.
+// After each call that takes a secret, the memory is as it was before the first call, with zeros in its new pages.
 // The sets whose names end in s are slow.
 test("no call leaves secrets in the module's memory", async () => {
     const digest = new Uint8Array(32);
