@@ -278,9 +278,10 @@ in_go() {
 
 with_javascript() {
     local node=(node --experimental-wasm-memory64) package=$here/bindings/javascript
-    one "javascript: the module passes its tests" env SLH_WASM="$wasm/lib/slh.wasm" "${node[@]}" --test "$package/tests"
+    one "javascript: the package passes its tests, and the calls of its README run" \
+        env SLH_WASM="$wasm/lib/slh.wasm" "${node[@]}" --test "$package/tests"
     mkdir -p "$work/node_modules/slh"
-    cp "$package"/{package.json,slh.js,slh.d.ts} "$wasm/lib/slh.wasm" "$work/node_modules/slh/"
+    cp "$package"/*.{json,js,ts} "$wasm/lib/slh.wasm" "$work/node_modules/slh/"
     cat >"$work/lines.mjs" <<'END'
 import { load, SLH_DSA_SHA2_128F } from "slh";
 const slh = await load();
@@ -290,28 +291,18 @@ const signature = secret.sign(message);
 console.log(secret.check() && secret.public().verify(message, signature) ? "valid" : "invalid");
 END
     one "javascript: the package finds its module" says valid 0 "${node[@]}" --no-warnings "$work/lines.mjs"
-    page_in_javascript >"$work/page.mjs"
-    one "javascript: the calls of docs/PACKAGES.md" says done 0 "${node[@]}" --no-warnings "$work/page.mjs"
-    one "javascript: the types name what is exported" types_name_all
+    one "javascript: the types name what is exported" types_name_all slh slh.d.ts
+    one "javascript: the types of key files do" types_name_all slh/files files.d.ts
     cp "$here/bindings/tests/erased.mjs" "$work/"
     erases javascript "${node[@]}" --no-warnings "$work/erased.mjs"
 }
 
-page_in_javascript() {
-    echo 'import assert from "node:assert";'
-    imports_of 4
-    echo 'const [message, context] = ["letter", "letters"].map((it) => new TextEncoder().encode(it));'
-    echo 'const [random, digest] = [new Uint8Array(16), new Uint8Array(32)];'
-    calls_of 4 | sed -E '/erase/!s/^((publicKey|secret)\.[a-zA-Z]*\(.*);$/assert(\1);/'
-    echo 'console.log("done");'
-}
-
-# Whether slh.d.ts declares just the values that slh.js exports.
+# Whether a file of types declares just the values that a module exports: MODULE FILE.
 types_name_all() {
-    sed -n 's/^export \(const\|class\|function\) \([A-Za-z0-9_]*\).*/\2/p' "$work/node_modules/slh/slh.d.ts" |
+    local line='console.log(Object.keys(await import(process.argv[1])).join("\n"))'
+    sed -n 's/^export \(const\|class\|function\) \([A-Za-z0-9_]*\).*/\2/p' "$work/node_modules/slh/$2" |
         LC_ALL=C sort >"$work/declared"
-    (cd "$work" && node --input-type=module -e 'console.log(Object.keys(await import("slh")).join("\n"))') |
-        LC_ALL=C sort | diff - "$work/declared"
+    (cd "$work" && node --input-type=module -e "$line" "$1") | LC_ALL=C sort | diff - "$work/declared"
 }
 
 if can_run python python3 && can_build_wheels python; then with_python; fi
