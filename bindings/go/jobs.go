@@ -12,11 +12,11 @@ import (
 // four workers, whatever their number. FORS trees are not cut: each is one job.
 func (set Set) xmssLevels() C.uint32_t {
 	switch set {
-	case SLH_DSA_SHA2_128S, SLH_DSA_SHA2_192S:
+	case SHA2_128s, SHA2_192s:
 		return 4
-	case SLH_DSA_SHA2_256S:
+	case SHA2_256s:
 		return 3
-	case SLH_DSA_SHA2_256F:
+	case SHA2_256f:
 		return 1
 	default:
 		return 0
@@ -116,9 +116,6 @@ func (it *signing) answer(workers int) error {
 	close(queue)
 	if workers > int(it.jobs) {
 		workers = int(it.jobs)
-	}
-	if workers < 1 {
-		workers = 1
 	}
 	errs := make([]error, workers)
 	var running sync.WaitGroup

@@ -5,100 +5,19 @@ import "C"
 
 import (
 	"crypto"
-	"crypto/rand"
+	"crypto/sha256"
 	"crypto/subtle"
+	"encoding/base64"
 	"fmt"
 	"io"
+	"runtime"
 	"sync"
 )
 
-// Options say how a signature is made or verified. Nil stands for the zero value: the pure form, the empty context, a
-// fresh randomizer, and one thread.
-type Options struct {
-	// Context has at most 255 bytes.
-	Context []byte
-	// Hash is 0 for the pure form. Else Sign and Verify take the digest of a message, in the pre-hash form. The calls
-	// that take a Function do not look at it.
-	Hash crypto.Hash
-	// Deterministic asks for no randomizer (FIPS 205, section 9.2), which is worse where faults are feared.
-	Deterministic bool
-	// Workers is the number of goroutines that compute a signature, where it is above 1. No more start than the
-	// signature has jobs. Under a key that Check finds invalid they are refused as AnswersDisagree, where one alone
-	// makes a signature that is not valid. SecretKey.HashSignDigest, and Sign of a digest, take one alone. Verifying
-	// does not look at it.
-	Workers int
-	// Twice has each job of a signature done two times, by the workers or, without them, by one goroutine. Where the
-	// answers differ nothing is signed: ErrFault. A digest is signed two times, and the signatures are compared. This
-	// is for who fears faults, by bad memory or a bad processor (docs/JOBS.md, "Faults"). Verifying does not look at
-	// it.
-	Twice bool
-}
-
-// HashFunc returns Hash, so that Options and *Options are crypto.SignerOpts.
-func (options Options) HashFunc() crypto.Hash {
-	return options.Hash
-}
-
-// value returns the options, and the zero value for nil.
-func (options *Options) value() Options {
-	if options == nil {
-		return Options{}
-	}
-	return *options
-}
-
-// runs returns how many times each job is done.
-func (options Options) runs() int {
-	if options.Twice {
-		return 2
-	}
-	return 1
-}
-
-// byJobs tells whether a signature is made by jobs.
-func (options Options) byJobs() bool {
-	return options.Workers > 1 || options.Twice
-}
-
-// optionsOf returns what opts say: all of Options and *Options, and of others the hash function.
-func optionsOf(opts crypto.SignerOpts) Options {
-	switch it := opts.(type) {
-	case nil:
-		return Options{}
-	case Options:
-		return it
-	case *Options:
-		return it.value()
-	default:
-		return Options{Hash: opts.HashFunc()}
-	}
-}
-
-// randomizer draws n bytes from a source, by default crypto/rand, or none for the deterministic variant.
-func (options Options) randomizer(source io.Reader, n int) ([]byte, error) {
-	if options.Deterministic {
-		return nil, nil
-	}
-	return draw(source, n)
-}
-
-// draw reads bytes from a source, or from crypto/rand where that is nil. A source that fails has its error wrapped.
-func draw(source io.Reader, count int) ([]byte, error) {
-	if source == nil {
-		source = rand.Reader
-	}
-	bytes := make([]byte, count)
-	if _, err := io.ReadFull(source, bytes); err != nil {
-		erase(bytes)
-		return nil, fmt.Errorf("slh: RandomFailed: %w", err)
-	}
-	return bytes, nil
-}
-
-// A PublicKey has 2n bytes, PK.seed and PK.root.
+// A PublicKey has 2n bytes, PK.seed and PK.root. It is printed as its set and a fingerprint.
 type PublicKey struct {
-	set   Set
-	bytes []byte
+	set Set
+	key hidden // a secret key's bytes, if a caller mistook them
 }
 
 // NewPublicKey returns the public key of these bytes. It is refused as NoSuchSet, and as BadLength unless there are 2n.
@@ -108,9 +27,9 @@ func NewPublicKey(set Set, bytes []byte) (*PublicKey, error) {
 		return nil, err
 	}
 	if len(bytes) != lengths.PublicKey {
-		return nil, BadLength
+		return nil, wrongLength(BadLength, "a public key of "+set.String(), lengths.PublicKey, len(bytes))
 	}
-	return &PublicKey{set, append([]byte(nil), bytes...)}, nil
+	return &PublicKey{set, hide(copied(bytes))}, nil
 }
 
 // Set returns the parameter set.
@@ -120,58 +39,80 @@ func (public *PublicKey) Set() Set {
 
 // Bytes returns a copy of the 2n bytes.
 func (public *PublicKey) Bytes() []byte {
-	return append([]byte(nil), public.bytes...)
+	return copied(public.key.bytes())
 }
 
 // Equal tells whether other is the same *PublicKey.
 func (public *PublicKey) Equal(other crypto.PublicKey) bool {
 	it, ok := other.(*PublicKey)
-	return ok && public.set == it.set && subtle.ConstantTimeCompare(public.bytes, it.bytes) == 1
+	return ok && public.set == it.set && subtle.ConstantTimeCompare(public.key.bytes(), it.key.bytes()) == 1
 }
 
-// Verify returns nil where the signature of the message is valid, and else ErrInvalid (Algorithm 24). Where
-// options.Hash is not 0 the message is a digest, as for Sign. Bytes of another length than the set's signatures, and a
-// context of over 255 bytes, are invalid.
+// String returns the set and a fingerprint, the SHA-256 of the bytes: PublicKey(SLH-DSA-SHA2-128f SHA256:BASE64).
+func (public PublicKey) String() string {
+	sum := sha256.Sum256(public.key.bytes())
+	return fmt.Sprintf("PublicKey(%s SHA256:%s)", public.set, base64.RawStdEncoding.EncodeToString(sum[:]))
+}
+
+// Format writes String for each verb of package fmt.
+func (public PublicKey) Format(state fmt.State, verb rune) {
+	fmt.Fprint(state, public.String())
+}
+
+// Verify returns nil if the signature of the message is valid, and else ErrInvalid (Algorithm 24). If options.Hash is
+// not 0, the message is a digest, as for Sign. A signature of another length than the set's and a context of over 255
+// bytes are invalid.
 func (public *PublicKey) Verify(message, signature []byte, options *Options) error {
-	chosen := options.value()
-	if chosen.Hash != 0 {
-		return public.HashVerifyDigest(functions[chosen.Hash], message, signature, options)
-	}
-	context := chosen.Context
-	return done(C.slh_verify(C.uint32_t(public.set), at(public.bytes), size(public.bytes), at(message), size(message),
-		at(context), size(context), at(signature), size(signature)))
+	return public.verify(pureOrDigest(public.set, options.value(), message), signature)
 }
 
-// HashVerify verifies a signature of the pre-hash form, with the message (Algorithm 25). It returns nil where it is
-// valid, and else ErrInvalid. It is refused as NoSuchFunction.
-func (public *PublicKey) HashVerify(function Function, message, signature []byte, options *Options) error {
-	context := options.value().Context
-	return done(C.slh_hash_verify(C.uint32_t(public.set), C.uint32_t(function), at(public.bytes), size(public.bytes),
-		at(message), size(message), at(context), size(context), at(signature), size(signature)))
+// HashVerify verifies a signature of the pre-hash form, with the message (Algorithm 25). It returns nil if it is valid,
+// and else ErrInvalid. It is refused as NoSuchFunction.
+func (public *PublicKey) HashVerify(hash crypto.Hash, message, signature []byte, options *Options) error {
+	it := &form{preHash, C.uint32_t(public.set), hash, message, options.value().Context}
+	return public.verify(it, signature)
 }
 
-// HashVerifyDigest verifies a signature of the pre-hash form, with the message's digest. It returns nil where it is
-// valid, and else ErrInvalid. It is refused as NoSuchFunction, and as BadDigestLength.
-func (public *PublicKey) HashVerifyDigest(function Function, digest, signature []byte, options *Options) error {
-	context := options.value().Context
-	return done(C.slh_hash_verify_digest(C.uint32_t(public.set), C.uint32_t(function), at(public.bytes),
-		size(public.bytes), at(digest), size(digest), at(context), size(context), at(signature), size(signature)))
+// HashVerifyDigest verifies a signature of the pre-hash form, with the message's digest. It returns nil if it is valid,
+// and else ErrInvalid. It is refused as NoSuchFunction and as BadDigestLength.
+func (public *PublicKey) HashVerifyDigest(hash crypto.Hash, digest, signature []byte, options *Options) error {
+	it := &form{byDigest, C.uint32_t(public.set), hash, digest, options.value().Context}
+	return public.verify(it, signature)
 }
 
-// A SecretKey has 4n bytes, SK.seed, SK.prf, PK.seed and PK.root. It is a crypto.Signer. Package fmt does not print the
-// bytes. After Destroy each other call that needs them returns ErrDestroyed, or panics with it where it returns no
-// error.
+// verify returns nil if a signature is valid.
+func (public *PublicKey) verify(it *form, signature []byte) error {
+	return it.explained(done(it.verify(public.key.bytes(), signature)))
+}
+
+// A SecretKey has 4n bytes, SK.seed, SK.prf, PK.seed and PK.root. It is a crypto.Signer. It is printed as its set, and
+// encoders get ErrMarshal. All copies of a SecretKey share its bytes; go vet reports such copies. After Destroy each
+// call that needs the bytes returns ErrDestroyed, or panics with it if it returns no error.
 type SecretKey struct {
-	set     Set
-	lengths Lengths
-	held    *held
+	_ noCopy
+	redacted
+	held *held
 }
+
+var _ crypto.Signer = (*SecretKey)(nil)
 
 // held has the bytes of a secret key, which all copies of a SecretKey share.
 type held struct {
 	lock        sync.Mutex
-	bytes       []byte
+	key         hidden
 	isDestroyed bool
+}
+
+// newSecret returns the secret key of these bytes, which have the set's length and are not copied. A key that is
+// forgotten is erased when the garbage collector finds it.
+func newSecret(set Set, bytes []byte) (*SecretKey, error) {
+	lengths, err := set.Lengths()
+	if err != nil {
+		return nil, err
+	}
+	it := &held{key: hide(bytes)}
+	runtime.SetFinalizer(it, (*held).destroy)
+	return &SecretKey{redacted: redacted{set, lengths}, held: it}, nil
 }
 
 // taken returns a copy for one call, which has to be erased. So Destroy need not wait for calls that run.
@@ -184,30 +125,32 @@ func (secret *SecretKey) taken() ([]byte, error) {
 	if secret.held.isDestroyed {
 		return nil, ErrDestroyed
 	}
-	return copied(secret.held.bytes), nil
+	return copied(secret.held.key.bytes()), nil
 }
 
-// copied returns a copy of secret bytes, made byte by byte. On x86-64 append leaves the bytes in vector registers. Where
-// the runtime interrupts a goroutine it writes these to the goroutine's stack, and the system to the handler's.
+// copied returns a copy of secret bytes, made byte by byte. On x86-64 append leaves the bytes in vector registers. If
+// the runtime interrupts a goroutine, it writes these to the goroutine's stack, and the system to the handler's.
 func copied(bytes []byte) []byte {
 	it := make([]byte, len(bytes))
 	subtle.ConstantTimeCopy(1, it, bytes)
 	return it
 }
 
-// Destroy overwrites the bytes with zeros, those of copies of this SecretKey, too. Calls that run in other goroutines
-// end under a copy of their own, which they then erase.
+// Destroy overwrites the bytes with zeros, for copies of this SecretKey, too. Calls that run in other goroutines end
+// under a copy of their own, which they then erase.
 func (secret *SecretKey) Destroy() {
-	if secret.held == nil {
-		return
+	if secret.held != nil {
+		secret.held.destroy()
 	}
-	secret.held.lock.Lock()
-	defer secret.held.lock.Unlock()
-	erase(secret.held.bytes)
-	secret.held.isDestroyed = true
 }
 
-var _ crypto.Signer = (*SecretKey)(nil)
+// destroy overwrites the bytes.
+func (it *held) destroy() {
+	it.lock.Lock()
+	defer it.lock.Unlock()
+	erase(it.key.bytes())
+	it.isDestroyed = true
+}
 
 // NewSecretKey returns the secret key of these bytes. Call Check once on one that comes from elsewhere. It is refused
 // as NoSuchSet, and as BadLength unless there are 4n.
@@ -217,13 +160,13 @@ func NewSecretKey(set Set, bytes []byte) (*SecretKey, error) {
 		return nil, err
 	}
 	if len(bytes) != lengths.SecretKey {
-		return nil, BadLength
+		return nil, wrongLength(BadLength, "a secret key of "+set.String(), lengths.SecretKey, len(bytes))
 	}
-	return &SecretKey{set, lengths, &held{bytes: copied(bytes)}}, nil
+	return newSecret(set, copied(bytes))
 }
 
-// Generate makes a key (Algorithm 21). Its seeds come from the source, or from crypto/rand where that is nil. It is
-// refused as NoSuchSet. Where the source fails, the error is no Refusal, and wraps the source's.
+// Generate makes a key (Algorithm 21). Its seeds come from the source, or from crypto/rand if that is nil. It is
+// refused as NoSuchSet. If the source fails, the error is no Refusal, and wraps the source's.
 func Generate(source io.Reader, set Set) (*SecretKey, error) {
 	lengths, err := set.Lengths()
 	if err != nil {
@@ -245,6 +188,11 @@ func Keygen(set Set, skSeed, skPrf, pkSeed []byte) (*SecretKey, error) {
 	if err != nil {
 		return nil, err
 	}
+	for _, seed := range [][]byte{skSeed, skPrf, pkSeed} {
+		if len(seed) != lengths.N {
+			return nil, wrongLength(BadSeedLength, "a seed of "+set.String(), lengths.N, len(seed))
+		}
+	}
 	bytes := make([]byte, lengths.SecretKey)
 	err = done(uninterrupted(func() C.uint32_t {
 		return C.slh_keygen(C.uint32_t(set), at(skSeed), size(skSeed), at(skPrf), size(skPrf), at(pkSeed), size(pkSeed),
@@ -253,7 +201,7 @@ func Keygen(set Set, skSeed, skPrf, pkSeed []byte) (*SecretKey, error) {
 	if err != nil {
 		return nil, err
 	}
-	return &SecretKey{set, lengths, &held{bytes: bytes}}, nil
+	return newSecret(set, bytes)
 }
 
 // Set returns the parameter set.
@@ -284,11 +232,6 @@ func (secret *SecretKey) Equal(other crypto.PrivateKey) bool {
 	return err == nil && otherErr == nil && subtle.ConstantTimeCompare(one, another) == 1
 }
 
-// Format writes the set for each verb of package fmt, and not the bytes. It is that of values and of pointers.
-func (secret SecretKey) Format(state fmt.State, verb rune) {
-	fmt.Fprintf(state, "SecretKey(%s)", secret.set)
-}
-
 // Public returns the *PublicKey, for crypto.Signer. It panics with ErrDestroyed.
 func (secret *SecretKey) Public() crypto.PublicKey {
 	return secret.PublicKey()
@@ -296,19 +239,19 @@ func (secret *SecretKey) Public() crypto.PublicKey {
 
 // PublicKey returns the public key, the last 2n bytes. It panics with ErrDestroyed.
 func (secret *SecretKey) PublicKey() *PublicKey {
-	public := &PublicKey{secret.set, make([]byte, secret.lengths.PublicKey)}
+	public := make([]byte, secret.lengths.PublicKey)
 	err := secret.use(func(key []byte) error {
 		return done(uninterrupted(func() C.uint32_t {
-			return C.slh_public(C.uint32_t(secret.set), at(key), size(key), at(public.bytes), size(public.bytes))
+			return C.slh_public(C.uint32_t(secret.set), at(key), size(key), at(public), size(public))
 		}))
 	})
 	if err != nil {
 		panic(err) // All lengths are those of the set.
 	}
-	return public
+	return &PublicKey{secret.set, hide(public)}
 }
 
-// Check returns nil where PK.root is the root that the seeds give, and else ErrInvalid. This takes as long as Keygen.
+// Check returns nil if PK.root is the root that the seeds give, and else ErrInvalid. This takes as long as Keygen.
 func (secret *SecretKey) Check() error {
 	return secret.use(func(key []byte) error {
 		return done(uninterrupted(func() C.uint32_t {
@@ -317,68 +260,33 @@ func (secret *SecretKey) Check() error {
 	})
 }
 
-// Sign signs a message in the pure form (Algorithm 22) where opts are nil or opts.HashFunc() is 0. Else the message is
-// a digest under that hash function, and is signed in the pre-hash form, as HashSignDigest does. The options are those
-// of Options or *Options, or the default where opts are of another type. The randomizer comes from the source, or from
-// crypto/rand where that is nil. It is refused as ContextTooLong where the context has over 255 bytes, as
-// NoSuchFunction and as BadDigestLength, and by Workers above 1 or Twice as AnswersDisagree under a key that Check
-// finds invalid. Where the source fails, the error is no Refusal, and wraps the source's.
+// Sign signs a message in the pure form (Algorithm 22) if opts are nil or opts.HashFunc() is 0. Else the message is a
+// digest under that hash function, and is signed in the pre-hash form, as by HashSignDigest. The options are those of
+// Options or *Options, or the default if opts are of another type. The randomizer comes from the source, or from
+// crypto/rand if that is nil. It is refused as ContextTooLong if the context has over 255 bytes, as NoSuchFunction and
+// as BadDigestLength, and by Workers above 1 as AnswersDisagree under a key that Check finds invalid. Twice and Verify
+// return ErrFault. If the source fails, the error is no Refusal, and wraps the source's.
 func (secret *SecretKey) Sign(source io.Reader, message []byte, opts crypto.SignerOpts) ([]byte, error) {
 	options := optionsOf(opts)
-	if options.Hash != 0 {
-		return secret.HashSignDigest(source, functions[options.Hash], message, &options)
-	}
-	context, set := options.Context, C.uint32_t(secret.set)
-	return secret.sign(source, options, func(key, randomizer, out []byte) C.uint32_t {
-		if options.byJobs() {
-			return C.slh_sign_start(set, at(key), size(key), at(message), size(message), at(context), size(context),
-				at(randomizer), size(randomizer), at(out), size(out))
-		}
-		return C.slh_sign(set, at(key), size(key), at(message), size(message), at(context), size(context),
-			at(randomizer), size(randomizer), at(out), size(out))
-	})
+	return secret.sign(source, options, pureOrDigest(secret.set, options, message))
 }
 
-// HashSign signs a message in the pre-hash form (Algorithm 23), with a digest that this computes. A function that is
-// weaker than the set makes a weaker signature. It is refused as ContextTooLong and as NoSuchFunction, and by Workers
-// above 1 or Twice as AnswersDisagree under a key that Check finds invalid. Where the source fails, the error is that
-// of Sign.
+// HashSign signs a message in the pre-hash form (Algorithm 23), with a digest that the library computes. A hash function
+// that is weaker than the set makes a weaker signature. It is refused as Sign is.
 func (secret *SecretKey) HashSign(
-	source io.Reader, function Function, message []byte, options *Options,
+	source io.Reader, hash crypto.Hash, message []byte, options *Options,
 ) ([]byte, error) {
 	chosen := options.value()
-	context, set, by := chosen.Context, C.uint32_t(secret.set), C.uint32_t(function)
-	return secret.sign(source, chosen, func(key, randomizer, out []byte) C.uint32_t {
-		if chosen.byJobs() {
-			return C.slh_hash_sign_start(set, by, at(key), size(key), at(message), size(message), at(context),
-				size(context), at(randomizer), size(randomizer), at(out), size(out))
-		}
-		return C.slh_hash_sign(set, by, at(key), size(key), at(message), size(message), at(context), size(context),
-			at(randomizer), size(randomizer), at(out), size(out))
-	})
+	return secret.sign(source, chosen, &form{preHash, C.uint32_t(secret.set), hash, message, chosen.Context})
 }
 
 // HashSignDigest signs a message in the pre-hash form (Algorithm 23) by its digest, for messages that are read in
-// pieces. It is refused as ContextTooLong, as NoSuchFunction, and as BadDigestLength where the digest has another
-// length than the function's. Where the source fails, the error is that of Sign.
+// pieces. It is refused as Sign is.
 func (secret *SecretKey) HashSignDigest(
-	source io.Reader, function Function, digest []byte, options *Options,
+	source io.Reader, hash crypto.Hash, digest []byte, options *Options,
 ) ([]byte, error) {
 	chosen := options.value()
-	randomizer, err := chosen.randomizer(source, secret.lengths.N)
-	if err != nil {
-		return nil, err
-	}
-	context, set, by := chosen.Context, C.uint32_t(secret.set), C.uint32_t(function)
-	var signature []byte
-	err = secret.use(func(key []byte) (err error) {
-		signature, err = secret.writtenAs(chosen, func(sig []byte) C.uint32_t {
-			return C.slh_hash_sign_digest(set, by, at(key), size(key), at(digest), size(digest), at(context),
-				size(context), at(randomizer), size(randomizer), at(sig), size(sig))
-		})
-		return err
-	})
-	return signature, err
+	return secret.sign(source, chosen, &form{byDigest, C.uint32_t(secret.set), hash, digest, chosen.Context})
 }
 
 // use runs a call over a copy of the bytes, which is erased afterwards.
@@ -391,25 +299,54 @@ func (secret *SecretKey) use(call func(key []byte) error) error {
 	return call(key)
 }
 
-// sign returns a signature under a randomizer of the source. The call writes it, or where jobs make it, its start.
-func (secret *SecretKey) sign(
-	source io.Reader, options Options, call func(key, randomizer, out []byte) C.uint32_t,
-) ([]byte, error) {
+// sign returns a signature under a randomizer of the source.
+func (secret *SecretKey) sign(source io.Reader, options Options, it *form) ([]byte, error) {
 	randomizer, err := options.randomizer(source, secret.lengths.N)
 	if err != nil {
 		return nil, err
 	}
 	var signature []byte
 	err = secret.use(func(key []byte) (err error) {
-		write := func(out []byte) C.uint32_t { return call(key, randomizer, out) }
-		if options.byJobs() {
-			signature, err = secret.signJobs(key, options, write)
-		} else {
-			signature, err = secret.written(write)
+		signature, err = makeSignature(secret, options, it, key, randomizer)
+		if err == nil && options.Verify {
+			err = secret.verified(it, key, signature)
 		}
 		return err
 	})
-	return signature, err
+	if err != nil {
+		return nil, it.explained(err)
+	}
+	return signature, nil
+}
+
+// makeSignature is made. A test puts one with faults in its place.
+var makeSignature = (*SecretKey).made
+
+// made returns a signature by jobs, by two computations, or by one.
+func (secret *SecretKey) made(options Options, it *form, key, randomizer []byte) ([]byte, error) {
+	if options.Workers > 1 && it.kind != byDigest {
+		begin := func(start []byte) C.uint32_t { return it.start(key, randomizer, start) }
+		return secret.signJobs(key, options, begin)
+	}
+	if !options.Twice {
+		return secret.written(func(sig []byte) C.uint32_t { return it.sign(key, randomizer, sig) })
+	}
+	scratch := newScratch(2 * secret.lengths.Signature)
+	return secret.written(func(sig []byte) C.uint32_t { return it.signTwice(key, randomizer, scratch, sig) })
+}
+
+// newScratch returns the room for two signatures. A test puts memory that fails in its place.
+var newScratch = func(count int) []byte { return make([]byte, count) }
+
+// verified returns nil if a signature is valid under the key's own public key. Else it overwrites the signature, which
+// may help to forge others, and returns ErrFault.
+func (secret *SecretKey) verified(it *form, key, signature []byte) error {
+	public := key[len(key)-secret.lengths.PublicKey:]
+	if it.verify(public, signature) == C.SLH_DONE {
+		return nil
+	}
+	erase(signature)
+	return ErrFault
 }
 
 // A writing is a call that writes a signature or a start.
@@ -423,24 +360,3 @@ func (secret *SecretKey) written(call writing) ([]byte, error) {
 	}
 	return sig, nil
 }
-
-// writtenAs returns it once, or where the options ask for two runs, the signature that both of them write.
-func (secret *SecretKey) writtenAs(options Options, call writing) ([]byte, error) {
-	signature, err := writeOnce(secret, call)
-	if err != nil || !options.Twice {
-		return signature, err
-	}
-	again, err := writeOnce(secret, call)
-	if err == nil && subtle.ConstantTimeCompare(signature, again) != 1 {
-		err = ErrFault
-	}
-	if err != nil {
-		erase(signature)
-		erase(again)
-		return nil, err
-	}
-	return signature, nil
-}
-
-// writeOnce is written. A test puts one with faults in its place.
-var writeOnce = (*SecretKey).written

@@ -1,21 +1,24 @@
 // Package slh is SLH-DSA (FIPS 205) with SHA-2: keys, signing and verifying, over the library libslh.
 //
-//	secret, err := slh.Generate(nil, slh.SLH_DSA_SHA2_128F)
+//	secret, err := slh.Generate(nil, slh.SHA2_128f)
 //	public := secret.PublicKey()
 //	err = secret.Check()
 //	signature, err := secret.Sign(nil, message, nil)
 //	err = public.Verify(message, signature, nil)
 //
-// The first argument of Generate and Sign is the source of random bytes, where nil stands for crypto/rand. The last one
-// of Sign and Verify are Options, where nil stands for Options{}.
+// The first argument of Generate and Sign is the source of random bytes, and nil stands for crypto/rand. The last one of
+// Sign and Verify are Options, and nil stands for Options{}.
 //
-// The names are those of libslh: docs/LIBRARY.md of its repository says what each call does and what is proved of it.
-// A call that is refused returns a Refusal, with libslh's number and name. Verify and Check return nil where the
-// signature or the key is valid, and ErrInvalid where it is not.
+// docs/LIBRARY.md of libslh's repository says what each call computes and what is proved of it. A call that is refused
+// returns a Refusal, with libslh's number and name, or an error that wraps one. Verify and Check return nil if the
+// signature or the key is valid, and ErrInvalid if it is not.
 //
-// Each signature has a fresh randomizer, from crypto/rand unless another source is given, or Options.Deterministic asks
-// for none. SecretKey.Destroy overwrites a secret key. What this package makes of it for a call is overwritten when the
-// call returns. Slices that a caller hands in, and those of SecretKey.Bytes, are the caller's.
+// Each signature has a fresh randomizer, from crypto/rand unless another source is given or Options.Deterministic asks
+// for none. SecretKey.Destroy overwrites a secret key. A call overwrites its own copies of it before it returns. Slices
+// that a caller hands in, and those of SecretKey.Bytes and MarshalKeyFile, are the caller's.
+//
+// A secret key is printed as its set, a public key as its set and a fingerprint. Encoders get ErrMarshal for a secret
+// key. Other packages find no key by reflection, in a struct that holds one, either.
 //
 // The compiler and the linker have to find libslh.a: CGO_CFLAGS=-IPREFIX/include and CGO_LDFLAGS=-LPREFIX/lib, where
 // PREFIX is the absolute path of the folder that tools/library.sh has installed into. With the tag portable the compiler
@@ -26,7 +29,6 @@ package slh
 import "C"
 
 import (
-	"crypto"
 	"errors"
 	"fmt"
 	"runtime"
@@ -38,21 +40,31 @@ type Set uint32
 
 // The parameter sets.
 const (
-	SLH_DSA_SHA2_128S Set = C.SLH_DSA_SHA2_128S
-	SLH_DSA_SHA2_128F Set = C.SLH_DSA_SHA2_128F
-	SLH_DSA_SHA2_192S Set = C.SLH_DSA_SHA2_192S
-	SLH_DSA_SHA2_192F Set = C.SLH_DSA_SHA2_192F
-	SLH_DSA_SHA2_256S Set = C.SLH_DSA_SHA2_256S
-	SLH_DSA_SHA2_256F Set = C.SLH_DSA_SHA2_256F
+	SHA2_128s Set = C.SLH_DSA_SHA2_128S
+	SHA2_128f Set = C.SLH_DSA_SHA2_128F
+	SHA2_192s Set = C.SLH_DSA_SHA2_192S
+	SHA2_192f Set = C.SLH_DSA_SHA2_192F
+	SHA2_256s Set = C.SLH_DSA_SHA2_256S
+	SHA2_256f Set = C.SLH_DSA_SHA2_256F
 )
 
 var setNames = map[Set]string{
-	SLH_DSA_SHA2_128S: "SLH-DSA-SHA2-128s",
-	SLH_DSA_SHA2_128F: "SLH-DSA-SHA2-128f",
-	SLH_DSA_SHA2_192S: "SLH-DSA-SHA2-192s",
-	SLH_DSA_SHA2_192F: "SLH-DSA-SHA2-192f",
-	SLH_DSA_SHA2_256S: "SLH-DSA-SHA2-256s",
-	SLH_DSA_SHA2_256F: "SLH-DSA-SHA2-256f",
+	SHA2_128s: "SLH-DSA-SHA2-128s",
+	SHA2_128f: "SLH-DSA-SHA2-128f",
+	SHA2_192s: "SLH-DSA-SHA2-192s",
+	SHA2_192f: "SLH-DSA-SHA2-192f",
+	SHA2_256s: "SLH-DSA-SHA2-256s",
+	SHA2_256f: "SLH-DSA-SHA2-256f",
+}
+
+// ParseSet returns the set of a name, as SLH-DSA-SHA2-128f. It is refused as UnknownSet.
+func ParseSet(name string) (Set, error) {
+	for set, known := range setNames {
+		if known == name {
+			return set, nil
+		}
+	}
+	return 0, fmt.Errorf("%w: %q", UnknownSet, name)
 }
 
 // String returns the name of the set, as SLH-DSA-SHA2-128f.
@@ -77,40 +89,18 @@ func (set Set) Lengths() (Lengths, error) {
 	return Lengths{int(pk), int(sk), int(sig), int(n)}, nil
 }
 
-// A Function is a pre-hash function (FIPS 205, section 10.2.2), by libslh's number.
-type Function uint32
-
-// The pre-hash functions.
-const (
-	SLH_SHA2_224     Function = C.SLH_SHA2_224
-	SLH_SHA2_256     Function = C.SLH_SHA2_256
-	SLH_SHA2_384     Function = C.SLH_SHA2_384
-	SLH_SHA2_512     Function = C.SLH_SHA2_512
-	SLH_SHA2_512_224 Function = C.SLH_SHA2_512_224
-	SLH_SHA2_512_256 Function = C.SLH_SHA2_512_256
-)
-
-// functions has the pre-hash function for each of package crypto's hash functions that is one.
-var functions = map[crypto.Hash]Function{
-	crypto.SHA224:     SLH_SHA2_224,
-	crypto.SHA256:     SLH_SHA2_256,
-	crypto.SHA384:     SLH_SHA2_384,
-	crypto.SHA512:     SLH_SHA2_512,
-	crypto.SHA512_224: SLH_SHA2_512_224,
-	crypto.SHA512_256: SLH_SHA2_512_256,
-}
-
 // ErrInvalid says that a signature is not valid, or that the root of a secret key is not the one that its seeds give.
 var ErrInvalid = errors.New("slh: invalid")
 
 // ErrDestroyed says that a secret key was destroyed.
 var ErrDestroyed = errors.New("slh: the secret key was destroyed")
 
-// ErrFault says that two runs of the same work gave different bytes, as by bad memory or a bad processor, where
-// Options.Twice asked for two. Nothing was signed.
-var ErrFault = errors.New("slh: two runs of the same work differ")
+// ErrFault says that memory or the processor failed: two computations differ (Options.Twice), or a signature that was
+// made is not valid (Options.Verify). It was overwritten.
+var ErrFault = errors.New("slh: fault: two computations differ, or the signature is not valid")
 
-// A Refusal is the number of the reason why a call was refused, libslh's: errors.Is(err, slh.ContextTooLong).
+// A Refusal is the number of the reason why a call was refused (docs/FORMATS.md, "Refusals"): use
+// errors.Is(err, slh.ContextTooLong). Errors of lengths wrap it, and say which length was expected and which was given.
 type Refusal uint32
 
 // The refusals that calls of this package return.
@@ -120,12 +110,29 @@ const (
 	NoSuchSet       Refusal = C.SLH_NO_SUCH_SET
 	NoSuchFunction  Refusal = C.SLH_NO_SUCH_FUNCTION
 	BadSeedLength   Refusal = C.SLH_BAD_SEED_LENGTH
+	NotAKeyFile     Refusal = 11 // also a key file of the other kind
+	UnknownSet      Refusal = 12
+	BadHex          Refusal = 13
+	BadKeyLength    Refusal = 14
+	TrailingBytes   Refusal = 15
 	BadDigestLength Refusal = C.SLH_BAD_DIGEST_LENGTH
 	AnswersDisagree Refusal = C.SLH_ANSWERS_DISAGREE
 )
 
+// fileRefusals are the names that libslh does not have, which reads no files.
+var fileRefusals = map[Refusal]string{
+	NotAKeyFile:   "NotAKeyFile",
+	UnknownSet:    "UnknownSet",
+	BadHex:        "BadHex",
+	BadKeyLength:  "BadKeyLength",
+	TrailingBytes: "TrailingBytes",
+}
+
 // Name returns the name, as ContextTooLong.
 func (refusal Refusal) Name() string {
+	if name, ok := fileRefusals[refusal]; ok {
+		return name
+	}
 	var name [C.SLH_MAX_NAME]C.char
 	if C.slh_refusal_name(C.uint32_t(refusal), &name[0], C.SLH_MAX_NAME) != C.SLH_DONE {
 		return "NoSuchRefusal"
@@ -138,18 +145,25 @@ func (refusal Refusal) Error() string {
 	return fmt.Sprintf("slh: %d %s", uint32(refusal), refusal.Name())
 }
 
+// wrongLength returns a refusal of something's length, with the expected and the given one.
+func wrongLength(refusal Refusal, what string, expected, given int) error {
+	return fmt.Errorf("%w: %s has %d bytes, not %d", refusal, what, expected, given)
+}
+
 // Version returns the version of libslh: 1,000,000 times its first number, 1,000 times its second, and its third.
 func Version() uint32 {
 	return uint32(C.slh_version())
 }
 
-// done returns what a call returned as an error, which is nil where the call is done.
+// done returns what a call returned as an error, which is nil if the call is done.
 func done(result C.uint32_t) error {
 	switch result {
 	case C.SLH_DONE:
 		return nil
 	case C.SLH_INVALID:
 		return ErrInvalid
+	case C.SLH_FAULT:
+		return ErrFault
 	default:
 		return Refusal(result)
 	}
@@ -166,7 +180,7 @@ func uninterrupted(call func() C.uint32_t) C.uint32_t {
 	return call()
 }
 
-// at returns where bytes begin, and nil where there are none.
+// at returns where bytes begin, and nil if there are none.
 func at(bytes []byte) *C.uint8_t {
 	if len(bytes) == 0 {
 		return nil

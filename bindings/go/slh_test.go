@@ -6,20 +6,29 @@ import (
 	"crypto/rand"
 	"crypto/sha256"
 	_ "crypto/sha512"
+	"encoding/base64"
+	"encoding/gob"
 	"encoding/hex"
 	"encoding/json"
+	"encoding/xml"
 	"errors"
 	"fmt"
+	"io"
 	"math"
 	"os"
 	"path/filepath"
+	"reflect"
+	"runtime"
 	"strings"
 	"sync"
+	"sync/atomic"
 	"testing"
 	"testing/iotest"
+	"time"
+	"unsafe"
 )
 
-const fast = SLH_DSA_SHA2_128F
+const fast = SHA2_128f
 
 // hexBytes are bytes that stand as hexadecimal digits in JSON.
 type hexBytes []byte
@@ -142,8 +151,9 @@ func signatures(t *testing.T, test vector) map[string][]byte {
 	if err != nil {
 		t.Fatal(err)
 	}
-	one := &Options{Context: test.Context, Deterministic: len(test.Random) == 0, Workers: 1}
+	one := &Options{Context: test.Context, Deterministic: len(test.Random) == 0, Workers: 1, Verify: true}
 	two := &Options{Context: test.Context, Deterministic: len(test.Random) == 0, Workers: 2}
+	twice := &Options{Context: test.Context, Deterministic: len(test.Random) == 0, Twice: true, Verify: true}
 	made := map[string][]byte{}
 	keep := func(call string, signature []byte, err error) {
 		if err != nil {
@@ -158,15 +168,21 @@ func signatures(t *testing.T, test vector) map[string][]byte {
 		keep("Sign", signature, err)
 		signature, err = secret.Sign(random(), test.Message, two)
 		keep("Sign by workers", signature, err)
+		signature, err = secret.Sign(random(), test.Message, twice)
+		keep("Sign twice", signature, err)
 		return made
 	}
-	function, hashed := functions[hash], digest(hash, test.Message)
-	signature, err := secret.HashSign(random(), function, test.Message, one)
+	hashed := digest(hash, test.Message)
+	signature, err := secret.HashSign(random(), hash, test.Message, one)
 	keep("HashSign", signature, err)
-	signature, err = secret.HashSign(random(), function, test.Message, two)
+	signature, err = secret.HashSign(random(), hash, test.Message, two)
 	keep("HashSign by workers", signature, err)
-	signature, err = secret.HashSignDigest(random(), function, hashed, one)
+	signature, err = secret.HashSign(random(), hash, test.Message, twice)
+	keep("HashSign twice", signature, err)
+	signature, err = secret.HashSignDigest(random(), hash, hashed, one)
 	keep("HashSignDigest", signature, err)
+	signature, err = secret.HashSignDigest(random(), hash, hashed, twice)
+	keep("HashSignDigest twice", signature, err)
 	one.Hash = hash
 	signature, err = crypto.Signer(secret).Sign(random(), hashed, one)
 	keep("Sign of a digest", signature, err)
@@ -185,9 +201,9 @@ func TestVerifyVectors(t *testing.T) {
 		if hash := test.hash(t); hash == 0 {
 			verdicts = append(verdicts, public.Verify(test.Message, test.Signature, options))
 		} else {
-			function, hashed := functions[hash], digest(hash, test.Message)
-			verdicts = append(verdicts, public.HashVerify(function, test.Message, test.Signature, options),
-				public.HashVerifyDigest(function, hashed, test.Signature, options),
+			hashed := digest(hash, test.Message)
+			verdicts = append(verdicts, public.HashVerify(hash, test.Message, test.Signature, options),
+				public.HashVerifyDigest(hash, hashed, test.Signature, options),
 				public.Verify(hashed, test.Signature, &Options{Context: test.Context, Hash: hash}))
 		}
 		for _, verdict := range verdicts {
@@ -239,7 +255,8 @@ func expectRefusal(t *testing.T, err error, refusal Refusal, number uint32, name
 	if !errors.As(err, &found) || found != refusal || uint32(found) != number || found.Name() != name {
 		t.Errorf("%v, and not %d %s", err, number, name)
 	}
-	if wanted := fmt.Sprintf("slh: %d %s", number, name); err == nil || err.Error() != wanted {
+	wanted := fmt.Sprintf("slh: %d %s", number, name)
+	if !errors.Is(err, refusal) || err.Error() != wanted && !strings.HasPrefix(err.Error(), wanted+": ") {
 		t.Errorf("%v, and not %s", err, wanted)
 	}
 }
@@ -296,9 +313,9 @@ func TestContexts(t *testing.T) {
 		options := &Options{Context: longer, Workers: workers}
 		_, err := secret.Sign(nil, []byte("letter"), options)
 		expectRefusal(t, err, ContextTooLong, 2, "ContextTooLong")
-		_, err = secret.HashSign(nil, SLH_SHA2_256, []byte("letter"), options)
+		_, err = secret.HashSign(nil, crypto.SHA256, []byte("letter"), options)
 		expectRefusal(t, err, ContextTooLong, 2, "ContextTooLong")
-		_, err = secret.HashSignDigest(nil, SLH_SHA2_256, make([]byte, 32), options)
+		_, err = secret.HashSignDigest(nil, crypto.SHA256, make([]byte, 32), options)
 		expectRefusal(t, err, ContextTooLong, 2, "ContextTooLong")
 	}
 }
@@ -323,7 +340,7 @@ func TestDamageIsInvalid(t *testing.T) {
 	expectInvalid("one byte less", public.Verify([]byte("letter"), signature[1:], nil))
 	expectInvalid("one byte more", public.Verify([]byte("letter"), append(signature, 0), nil))
 	expectInvalid("another message", public.Verify([]byte("Letter"), signature, nil))
-	expectInvalid("another form", public.HashVerify(SLH_SHA2_256, []byte("letter"), signature, nil))
+	expectInvalid("another form", public.HashVerify(crypto.SHA256, []byte("letter"), signature, nil))
 	expectInvalid("another root", wrongRoot(t, secret).Check())
 }
 
@@ -337,21 +354,63 @@ func TestRefusals(t *testing.T) {
 	_, err = Keygen(fast, make([]byte, 16), make([]byte, 16), make([]byte, 15))
 	expectRefusal(t, err, BadSeedLength, 10, "BadSeedLength")
 	secret := generate(t)
-	_, err = secret.HashSign(nil, 7, nil, nil)
-	expectRefusal(t, err, NoSuchFunction, 9, "NoSuchFunction")
+	for _, hash := range []crypto.Hash{0, crypto.MD5, crypto.SHA3_256, 99} {
+		_, err = secret.HashSign(nil, hash, nil, nil)
+		expectRefusal(t, err, NoSuchFunction, 9, "NoSuchFunction")
+		_, err = secret.HashSignDigest(nil, hash, nil, &Options{Twice: true})
+		expectRefusal(t, err, NoSuchFunction, 9, "NoSuchFunction")
+	}
 	_, err = secret.Sign(nil, make([]byte, 32), crypto.SHA3_256)
 	expectRefusal(t, err, NoSuchFunction, 9, "NoSuchFunction")
 	_, err = secret.Sign(nil, make([]byte, 31), crypto.SHA256)
 	expectRefusal(t, err, BadDigestLength, 16, "BadDigestLength")
-	err = secret.PublicKey().HashVerifyDigest(SLH_SHA2_256, make([]byte, 31), nil, nil)
+	err = secret.PublicKey().HashVerifyDigest(crypto.SHA256, make([]byte, 31), nil, nil)
 	expectRefusal(t, err, BadDigestLength, 16, "BadDigestLength")
+}
+
+// TestLengthsAreTold has each error of a length say which one was expected and which was given.
+func TestLengthsAreTold(t *testing.T) {
+	secret := generate(t)
+	context := &Options{Context: make([]byte, 256)}
+	_, public := NewPublicKey(SHA2_256s, make([]byte, 63))
+	_, private := NewSecretKey(SHA2_192f, make([]byte, 64))
+	_, seed := Keygen(fast, make([]byte, 16), make([]byte, 17), nil)
+	_, digest := secret.HashSignDigest(nil, crypto.SHA512_256, make([]byte, 64), nil)
+	_, signed := secret.Sign(nil, nil, context)
+	_, twice := secret.HashSign(nil, crypto.SHA256, nil, &Options{Context: make([]byte, 300), Twice: true})
+	_, both := secret.HashSignDigest(nil, crypto.SHA256, nil, context)
+	for wanted, err := range map[string]error{
+		"slh: 3 BadLength: a public key of SLH-DSA-SHA2-256s has 64 bytes, not 63": public,
+		"slh: 3 BadLength: a secret key of SLH-DSA-SHA2-192f has 96 bytes, not 64": private,
+		"slh: 10 BadSeedLength: a seed of SLH-DSA-SHA2-128f has 16 bytes, not 17":  seed,
+		"slh: 16 BadDigestLength: a digest of SHA-512/256 has 32 bytes, not 64":    digest,
+		"slh: 2 ContextTooLong: a context has at most 255 bytes, not 256":          signed,
+		"slh: 2 ContextTooLong: a context has at most 255 bytes, not 300":          twice,
+		"slh: 16 BadDigestLength: a digest of SHA-256 has 32 bytes, not 0":         both,
+	} {
+		if err == nil || err.Error() != wanted {
+			t.Error(err, "and not", wanted)
+		}
+	}
+}
+
+func TestSetsHaveNames(t *testing.T) {
+	for set, name := range setNames {
+		if found, err := ParseSet(name); found != set || err != nil || set.String() != name {
+			t.Error(found, err)
+		}
+	}
+	for _, name := range []string{"", "128f", "SLH-DSA-SHA2-128F", "SLH-DSA-SHA2-128f "} {
+		_, err := ParseSet(name)
+		expectRefusal(t, err, UnknownSet, 12, "UnknownSet")
+	}
 }
 
 func TestAWrongRootSignsNothingValid(t *testing.T) {
 	wrong := wrongRoot(t, generate(t))
 	_, err := wrong.Sign(nil, []byte("letter"), &Options{Workers: 2})
 	expectRefusal(t, err, AnswersDisagree, 25, "AnswersDisagree")
-	_, err = wrong.HashSign(nil, SLH_SHA2_256, []byte("letter"), &Options{Workers: 2})
+	_, err = wrong.HashSign(nil, crypto.SHA256, []byte("letter"), &Options{Workers: 2})
 	expectRefusal(t, err, AnswersDisagree, 25, "AnswersDisagree")
 	signature := sign(t, wrong, "letter", nil)
 	if err := wrong.PublicKey().Verify([]byte("letter"), signature, nil); !errors.Is(err, ErrInvalid) {
@@ -378,7 +437,9 @@ func TestADestroyedKeyDoesNothing(t *testing.T) {
 	if err != nil || !secret.Equal(kept) {
 		t.Fatal("another key", err)
 	}
-	shared, held := *secret, secret.held.bytes
+	var shared SecretKey
+	reflect.ValueOf(&shared).Elem().Set(reflect.ValueOf(secret).Elem())
+	held := secret.held.key.bytes()
 	secret.Destroy()
 	secret.Destroy()
 	if !isZeros(held) || !bytes.Equal(given, kept.Bytes()) {
@@ -389,8 +450,8 @@ func TestADestroyedKeyDoesNothing(t *testing.T) {
 		for _, options := range []*Options{nil, {Workers: 2}, {Twice: true}, {Hash: crypto.SHA256}} {
 			message := make([]byte, 32)
 			_, signed := it.Sign(nil, message, options)
-			_, hashed := it.HashSign(nil, SLH_SHA2_256, message, options)
-			_, digested := it.HashSignDigest(nil, SLH_SHA2_256, message, options)
+			_, hashed := it.HashSign(nil, crypto.SHA256, message, options)
+			_, digested := it.HashSignDigest(nil, crypto.SHA256, message, options)
 			errs = append(errs, signed, hashed, digested)
 		}
 		for number, err := range errs {
@@ -407,7 +468,7 @@ func TestADestroyedKeyDoesNothing(t *testing.T) {
 		if it.Equal(it) || it.Equal(kept) || kept.Equal(it) {
 			t.Error("a destroyed key is equal to one")
 		}
-		if text := fmt.Sprint(it, *it); text != "SecretKey(SLH-DSA-SHA2-128f) SecretKey(SLH-DSA-SHA2-128f)" {
+		if text := fmt.Sprint(it); text != "SecretKey(SLH-DSA-SHA2-128f)" {
 			t.Error(text)
 		}
 	}
@@ -475,7 +536,7 @@ func expectErased(t *testing.T, seen *signing, rooms int) {
 
 func TestBuffersOfSecretsAreErased(t *testing.T) {
 	secret, failed := generate(t), errors.New("a job that fails")
-	options := map[*Options]int{{Workers: 2}: 1, {Twice: true}: 2, {Workers: 3, Twice: true}: 2}
+	options := map[*Options]int{{Workers: 2}: 1, {Workers: 2, Twice: true}: 2, {Workers: 3, Twice: true}: 2}
 	for options, rooms := range options {
 		expectErased(t, watched(func() { sign(t, secret, "letter", options) }, nil), rooms)
 		fail := func(next task) error {
@@ -513,7 +574,7 @@ func TestFaultsAreFound(t *testing.T) {
 	for _, job := range []uint32{0, 21, 22, 54} {
 		for _, at := range []int{0, 16, 32, -1} {
 			for number := 0; number < 4; number++ {
-				wrongRun, workers, runs := number%2, number/2*3, 0
+				wrongRun, workers, runs := number%2, 2+number/2, 0
 				options := &Options{Workers: workers, Twice: true}
 				flip := func(next task) error {
 					if next.job != job {
@@ -536,24 +597,88 @@ func TestFaultsAreFound(t *testing.T) {
 	}
 }
 
-// TestFaultsInDigestsAreFound flips one bit of one of the two signatures of a digest.
-func TestFaultsInDigestsAreFound(t *testing.T) {
-	secret, options := generate(t), &Options{Twice: true}
-	defer func() { writeOnce = (*SecretKey).written }()
-	for run := 0; run < 2; run++ {
-		var made [][]byte
-		writeOnce = func(secret *SecretKey, call writing) ([]byte, error) {
-			signature, err := secret.written(call)
-			if len(made) == run {
-				signature[len(signature)-1] ^= 1
+// callsOf returns a call of each form, under these options.
+func callsOf(secret *SecretKey, options *Options) map[string]func() ([]byte, error) {
+	letter := []byte("letter")
+	hashed := digest(crypto.SHA256, letter)
+	return map[string]func() ([]byte, error){
+		"pure":     func() ([]byte, error) { return secret.Sign(nil, letter, options) },
+		"pre-hash": func() ([]byte, error) { return secret.HashSign(nil, crypto.SHA256, letter, options) },
+		"digest":   func() ([]byte, error) { return secret.HashSignDigest(nil, crypto.SHA256, hashed, options) },
+	}
+}
+
+// TestFaultsOfMemoryAreFound flips one bit of a signature in memory while its second computation runs.
+func TestFaultsOfMemoryAreFound(t *testing.T) {
+	defer func(before func(int) []byte) { newScratch = before }(newScratch)
+	for name, call := range callsOf(generate(t), &Options{Twice: true}) {
+		for _, at := range []int{0, 8000, 17080} {
+			var scratch []byte
+			newScratch = func(count int) []byte {
+				scratch = make([]byte, count)
+				go flipOnce(scratch, count/2-8, at)
+				return scratch
 			}
-			made = append(made, signature)
-			return signature, err
+			signature, err := call()
+			if !errors.Is(err, ErrFault) || signature != nil || len(scratch) != 2*17088 || !isZeros(scratch) {
+				t.Error(name, at, err, len(scratch), isZeros(scratch))
+			}
 		}
-		signature, err := secret.HashSignDigest(nil, SLH_SHA2_256, make([]byte, 32), options)
-		if err != ErrFault || signature != nil || len(made) != 2 || !isZeros(made[0]) || !isZeros(made[1]) {
-			t.Error(run, err, len(made))
+	}
+}
+
+// flipOnce flips one bit of a place once the 8 bytes of another place are no longer zeros.
+func flipOnce(memory []byte, watched, place int) {
+	for atomic.LoadUint64((*uint64)(unsafe.Pointer(&memory[watched]))) == 0 {
+		runtime.Gosched()
+	}
+	memory[place] ^= 1
+}
+
+// TestVerifyFindsFaults flips one bit of a signature after it was made.
+func TestVerifyFindsFaults(t *testing.T) {
+	secret := generate(t)
+	defer func() { makeSignature = (*SecretKey).made }()
+	for _, options := range []*Options{{Verify: true}, {Verify: true, Twice: true}, {Verify: true, Workers: 2}} {
+		for name, call := range callsOf(secret, options) {
+			for _, at := range []int{0, 17087} {
+				var seen []byte
+				makeSignature = func(secret *SecretKey, options Options, it *form, key, random []byte) ([]byte, error) {
+					signature, err := secret.made(options, it, key, random)
+					signature[at] ^= 1
+					seen = signature
+					return signature, err
+				}
+				if signature, err := call(); !errors.Is(err, ErrFault) || signature != nil || !isZeros(seen) {
+					t.Error(name, at, err)
+				}
+			}
 		}
+	}
+}
+
+// TestVerifyRefusesAWrongRoot signs under a key whose signatures are not valid.
+func TestVerifyRefusesAWrongRoot(t *testing.T) {
+	wrong := wrongRoot(t, generate(t))
+	for _, options := range []*Options{{Verify: true}, {Verify: true, Twice: true}} {
+		for name, call := range callsOf(wrong, options) {
+			if signature, err := call(); err != ErrFault || signature != nil {
+				t.Error(name, err)
+			}
+		}
+	}
+}
+
+// TestForgottenKeysAreErased has the garbage collector find a key that nobody destroyed.
+func TestForgottenKeysAreErased(t *testing.T) {
+	kept := generate(t)
+	forgotten := func() []byte { return generate(t).held.key.bytes() }()
+	for tries := 0; tries < 100 && !isZeros(forgotten); tries++ {
+		runtime.GC()
+		time.Sleep(10 * time.Millisecond)
+	}
+	if !isZeros(forgotten) || isZeros(kept.Bytes()) {
+		t.Error("a key is not erased, or one that is in use is")
 	}
 }
 
@@ -564,8 +689,8 @@ func TestTwiceSignsTheSame(t *testing.T) {
 		if !bytes.Equal(sign(t, secret, "letter", once), sign(t, secret, "letter", twice)) {
 			t.Error(workers, "sign otherwise")
 		}
-		one, err := secret.HashSign(nil, SLH_SHA2_256, []byte("letter"), twice)
-		other, otherErr := secret.HashSignDigest(nil, SLH_SHA2_256, hashed, twice)
+		one, err := secret.HashSign(nil, crypto.SHA256, []byte("letter"), twice)
+		other, otherErr := secret.HashSignDigest(nil, crypto.SHA256, hashed, twice)
 		if err != nil || otherErr != nil || !bytes.Equal(one, other) {
 			t.Error(workers, err, otherErr)
 		}
@@ -615,17 +740,42 @@ func TestAFailedSourceIsNoRefusal(t *testing.T) {
 	}
 }
 
-func TestSecretsAreNotPrinted(t *testing.T) {
+func TestKeysArePrinted(t *testing.T) {
 	secret := generate(t)
+	public := secret.PublicKey()
+	sum := sha256.Sum256(public.Bytes())
+	wanted := map[any]string{
+		secret: "SecretKey(SLH-DSA-SHA2-128f)",
+		reflect.ValueOf(secret).Elem().Interface(): "SecretKey(SLH-DSA-SHA2-128f)",
+		public: "PublicKey(SLH-DSA-SHA2-128f SHA256:" + base64.RawStdEncoding.EncodeToString(sum[:]) + ")",
+	}
 	for _, verb := range []string{"%v", "%+v", "%#v", "%s", "%x", "%d", "%q"} {
-		for _, it := range []interface{}{secret, *secret} {
-			if text := fmt.Sprintf(verb, it); text != "SecretKey(SLH-DSA-SHA2-128f)" {
-				t.Error(verb, text)
+		for it, text := range wanted {
+			if found := fmt.Sprintf(verb, it); found != text || fmt.Sprint(it.(fmt.Stringer).String()) != text {
+				t.Error(verb, found)
+			}
+		}
+		if found := fmt.Sprintf(verb, *public); found != wanted[public] {
+			t.Error(verb, found)
+		}
+	}
+}
+
+// TestNoEncoderTakesASecretKey gives a secret key to encoders, in fields, too.
+func TestNoEncoderTakesASecretKey(t *testing.T) {
+	secret := generate(t)
+	type holder struct{ Key *SecretKey }
+	for _, it := range []any{secret, reflect.ValueOf(secret).Elem().Interface(), holder{secret}, []*SecretKey{secret}} {
+		_, asJSON := json.Marshal(it)
+		_, asXML := xml.Marshal(it)
+		for _, err := range []error{asJSON, asXML, gob.NewEncoder(io.Discard).Encode(it)} {
+			if !errors.Is(err, ErrMarshal) {
+				t.Errorf("%T: %v", it, err)
 			}
 		}
 	}
-	if text, err := json.Marshal(secret); string(text) != "{}" || err != nil {
-		t.Error(string(text), err)
+	if _, err := secret.MarshalBinary(); err != ErrMarshal {
+		t.Error(err)
 	}
 }
 
@@ -645,7 +795,7 @@ func TestVersion(t *testing.T) {
 
 func Example() {
 	message := []byte("Dear reader,")
-	secret, err := Generate(rand.Reader, SLH_DSA_SHA2_128F)
+	secret, err := Generate(rand.Reader, SHA2_128f)
 	if err != nil {
 		panic(err)
 	}
@@ -663,7 +813,7 @@ func Example() {
 	if err != nil {
 		panic(err)
 	}
-	fmt.Println(public.HashVerify(SLH_SHA2_256, message, signature, nil))
+	fmt.Println(public.HashVerify(crypto.SHA256, message, signature, nil))
 	// Output:
 	// <nil>
 	// slh: invalid

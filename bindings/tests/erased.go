@@ -20,10 +20,12 @@ import "C"
 
 import (
 	"bufio"
+	"crypto"
 	"crypto/subtle"
 	"fmt"
 	"io"
 	"os"
+	"path/filepath"
 	"syscall"
 	"time"
 	"unsafe"
@@ -34,16 +36,17 @@ import (
 func main() {
 	go sendSignals()
 	message, in := []byte("letter"), bufio.NewReader(os.Stdin)
-	secret, err := slh.Generate(nil, slh.SLH_DSA_SHA2_128F)
+	secret, err := slh.Generate(nil, slh.SHA2_128f)
 	expect(err)
 	key := secret.Bytes()
 	expectNoneInVectors(key)
-	again, err := slh.NewSecretKey(slh.SLH_DSA_SHA2_128F, key)
+	again, err := slh.NewSecretKey(slh.SHA2_128f, key)
 	expectNoneInVectors(key)
 	expect(err)
 	again.Destroy()
 	expect(secret.Check())
 	expectNoneInVectors(key)
+	throughFile(secret, key)
 	for at := range key {
 		fmt.Printf("%02x", key[at]^0x5a)
 		key[at] = 0
@@ -52,11 +55,11 @@ func main() {
 	_, err = in.ReadString('\n')
 	expect(err)
 	public := secret.PublicKey()
-	for _, options := range []slh.Options{{}, {Workers: 3}, {Twice: true}, {Workers: 3, Twice: true}} {
-		options.Deterministic = true
-		_, err = secret.HashSign(nil, slh.SLH_SHA2_256, message, &options)
+	for number := 0; number < 8; number++ {
+		options := slh.Options{Deterministic: true, Twice: number&1 != 0, Verify: number&2 != 0, Workers: number & 4}
+		_, err = secret.HashSign(nil, crypto.SHA256, message, &options)
 		expect(err)
-		_, err = secret.HashSignDigest(nil, slh.SLH_SHA2_256, make([]byte, 32), &options)
+		_, err = secret.HashSignDigest(nil, crypto.SHA256, make([]byte, 32), &options)
 		expect(err)
 		signature, err := secret.Sign(nil, message, options)
 		expect(err)
@@ -65,6 +68,23 @@ func main() {
 	secret.Destroy()
 	fmt.Println("erased")
 	io.Copy(io.Discard, in)
+}
+
+// throughFile writes a key into a file, reads it, and destroys what it read.
+func throughFile(secret *slh.SecretKey, key []byte) {
+	folder, err := os.MkdirTemp("", "")
+	expect(err)
+	defer os.RemoveAll(folder)
+	path := filepath.Join(folder, "secret.key")
+	expect(secret.WriteFile(path))
+	expectNoneInVectors(key)
+	again, err := slh.ReadSecretKeyFile(path)
+	expectNoneInVectors(key)
+	expect(err)
+	if !secret.Equal(again) {
+		panic("the file has another key")
+	}
+	again.Destroy()
 }
 
 // sendSignals sends this process a signal each 50 microseconds.

@@ -1,0 +1,202 @@
+package slh
+
+import (
+	"encoding/hex"
+	"fmt"
+	"io"
+	"os"
+)
+
+// The first words of key files (docs/FORMATS.md, "Key file").
+const (
+	secretFile = "slh-dsa-secret"
+	publicFile = "slh-dsa-public"
+)
+
+// mostRead is how many bytes of a file are read, of which a key file has at most 292.
+const mostRead = 1 << 16
+
+// ParseSecretKey returns the secret key of a key file's text, of either version, with the file's set. Call Check once on
+// a key that comes from elsewhere. The text is the caller's to overwrite. It is refused as NotAKeyFile, UnknownSet,
+// BadHex, BadKeyLength or TrailingBytes, by its first fault.
+func ParseSecretKey(text []byte) (*SecretKey, error) {
+	set, key, err := parse(secretFile, text)
+	if err != nil {
+		return nil, err
+	}
+	return newSecret(set, key)
+}
+
+// ParsePublicKey returns the public key of a key file's text, of either version, with the file's set. It is refused as
+// ParseSecretKey refuses. The text of a secret key is refused as NotAKeyFile.
+func ParsePublicKey(text []byte) (*PublicKey, error) {
+	set, key, err := parse(publicFile, text)
+	if err != nil {
+		return nil, err
+	}
+	return NewPublicKey(set, key)
+}
+
+// ReadSecretKeyFile returns the secret key of a key file, as ParseSecretKey does, and overwrites what it read of it. Of
+// a longer file it judges the first 65,536 bytes.
+func ReadSecretKeyFile(path string) (*SecretKey, error) {
+	return readFile(path, ParseSecretKey)
+}
+
+// ReadPublicKeyFile returns the public key of a key file, as ParsePublicKey does. Of a longer file it judges the first
+// 65,536 bytes.
+func ReadPublicKeyFile(path string) (*PublicKey, error) {
+	return readFile(path, ParsePublicKey)
+}
+
+// MarshalKeyFile returns the text of a key file of version 2, which is the caller's to overwrite. It returns
+// ErrDestroyed.
+func (secret *SecretKey) MarshalKeyFile() ([]byte, error) {
+	var text []byte
+	err := secret.use(func(key []byte) error {
+		text = keyFile(secretFile, secret.set, key)
+		return nil
+	})
+	return text, err
+}
+
+// MarshalKeyFile returns the text of a key file of version 2.
+func (public *PublicKey) MarshalKeyFile() ([]byte, error) {
+	if _, err := public.set.Lengths(); err != nil {
+		return nil, err
+	}
+	return keyFile(publicFile, public.set, public.key.bytes()), nil
+}
+
+// WriteFile writes a new key file of version 2, which its owner alone may read (mode 0600). A file that exists is
+// refused, with an error that is fs.ErrExist. If writing fails, the new file is removed. It returns ErrDestroyed.
+func (secret *SecretKey) WriteFile(path string) error {
+	text, err := secret.MarshalKeyFile()
+	if err != nil {
+		return err
+	}
+	defer erase(text)
+	return writeNew(path, text, 0o600)
+}
+
+// WriteFile writes a new key file of version 2, which all may read (mode 0644). A file that exists is refused, with an
+// error that is fs.ErrExist. If writing fails, the new file is removed.
+func (public *PublicKey) WriteFile(path string) error {
+	text, err := public.MarshalKeyFile()
+	if err != nil {
+		return err
+	}
+	return writeNew(path, text, 0o644)
+}
+
+// keyFile returns the text of a key file of version 2. Its digits are encoded byte by byte, and so leave no part of the
+// key in vector registers.
+func keyFile(kind string, set Set, key []byte) []byte {
+	head := kind + " 2\n" + set.String() + "\n"
+	text := make([]byte, len(head)+2*len(key)+1)
+	digits := text[copy(text, head):]
+	hex.Encode(digits, key)
+	digits[2*len(key)] = '\n'
+	return text
+}
+
+// parse returns the set and the key of a key file's text. Package bytes searches by vector registers, so it reads the
+// first two lines alone, by their lengths.
+func parse(kind string, text []byte) (Set, []byte, error) {
+	rest, ok := cut(text, kind+" 2\n")
+	if !ok {
+		rest, ok = cut(text, kind+" 1\n")
+	}
+	if !ok {
+		return 0, nil, NotAKeyFile
+	}
+	for set, name := range setNames {
+		if digits, ok := cut(rest, name+"\n"); ok {
+			key, err := parseDigits(kind, set, digits)
+			return set, key, err
+		}
+	}
+	return 0, nil, UnknownSet
+}
+
+// cut returns what follows a line, if the text begins with it.
+func cut(text []byte, line string) ([]byte, bool) {
+	if len(text) < len(line) || string(text[:len(line)]) != line {
+		return nil, false
+	}
+	return text[len(line):], true
+}
+
+// parseDigits returns the key of a third line, and refuses what follows it.
+func parseDigits(kind string, set Set, text []byte) ([]byte, error) {
+	end := 0
+	for end < len(text) && text[end] != '\n' {
+		if !isDigit(text[end]) {
+			return nil, BadHex
+		}
+		end++
+	}
+	lengths, err := set.Lengths()
+	if err != nil {
+		return nil, err
+	}
+	length := lengths.PublicKey
+	if kind == secretFile {
+		length = lengths.SecretKey
+	}
+	if end != 2*length {
+		return nil, fmt.Errorf("%w: a key file %s of %s has %d digits, not %d", BadKeyLength, kind, set, 2*length, end)
+	}
+	if end+1 < len(text) {
+		return nil, TrailingBytes
+	}
+	key := make([]byte, length)
+	_, err = hex.Decode(key, text[:end])
+	return key, err
+}
+
+// isDigit tells whether a byte is a hexadecimal digit.
+func isDigit(it byte) bool {
+	return '0' <= it && it <= '9' || 'a' <= it && it <= 'f' || 'A' <= it && it <= 'F'
+}
+
+// readFile returns what a call makes of a file's text, which is then overwritten. It is read into one buffer: one that
+// grows would leave copies.
+func readFile[Key any](path string, call func(text []byte) (Key, error)) (key Key, err error) {
+	file, err := os.Open(path)
+	if err != nil {
+		return key, err
+	}
+	defer file.Close()
+	text := make([]byte, mostRead)
+	defer erase(text)
+	count, err := io.ReadFull(file, text)
+	if err != nil && err != io.EOF && err != io.ErrUnexpectedEOF {
+		return key, err
+	}
+	key, err = call(text[:count])
+	if err != nil {
+		return key, fmt.Errorf("%s: %w", path, err)
+	}
+	return key, nil
+}
+
+// writeNew writes a new file. It removes it again if that fails.
+func writeNew(path string, text []byte, mode os.FileMode) (err error) {
+	file, err := os.OpenFile(path, os.O_WRONLY|os.O_CREATE|os.O_EXCL, mode)
+	if err != nil {
+		return err
+	}
+	defer func() {
+		if closed := file.Close(); err == nil {
+			err = closed
+		}
+		if err != nil {
+			os.Remove(path)
+		}
+	}()
+	if _, err := file.Write(text); err != nil {
+		return err
+	}
+	return file.Sync()
+}
