@@ -6,9 +6,9 @@ import (
 )
 
 // hidden has a key's bytes in the variable of a closure. Package fmt calls no method on an unexported field, and reads
-// through pointers and slices by reflection. Of a closure reflection gives the address of its code alone. The garbage
-// collector frees the memory, so that no copy of a key can use it after that, and moves nothing, so that erasing it
-// leaves no other copy.
+// through pointers and slices by reflection. Reflection reads nothing of a closure but the address of its code. C's
+// memory behind a number would hide the bytes as well, but has to be freed, while copies of a key may still use it. The
+// garbage collector moves no memory of the heap, so erasing the bytes leaves no other copy.
 type hidden func() []byte
 
 // hide returns bytes, which are not copied, behind a closure.

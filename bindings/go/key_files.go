@@ -7,17 +7,17 @@ import (
 	"os"
 )
 
-// The first words of key files (docs/FORMATS.md, "Key file").
+// The kinds of key files (docs/FORMATS.md, "Key file").
 const (
-	secretFile = "slh-dsa-secret"
-	publicFile = "slh-dsa-public"
+	secretFile = "secret"
+	publicFile = "public"
 )
 
 // mostRead is how many bytes of a file are read, of which a key file has at most 292.
 const mostRead = 1 << 16
 
-// ParseSecretKey returns the secret key of a key file's text, of either version, with the file's set. Call Check once on
-// a key that comes from elsewhere. The text is the caller's to overwrite. It is refused as NotAKeyFile, UnknownSet,
+// ParseSecretKey returns the secret key of a key file's text, of either version, with the file's set. Call Check once
+// on a key that comes from elsewhere. The text is the caller's to overwrite. It is refused as NotAKeyFile, UnknownSet,
 // BadHex, BadKeyLength or TrailingBytes, by its first fault.
 func ParseSecretKey(text []byte) (*SecretKey, error) {
 	set, key, err := parse(secretFile, text)
@@ -92,7 +92,7 @@ func (public *PublicKey) WriteFile(path string) error {
 // keyFile returns the text of a key file of version 2. Its digits are encoded byte by byte, and so leave no part of the
 // key in vector registers.
 func keyFile(kind string, set Set, key []byte) []byte {
-	head := kind + " 2\n" + set.String() + "\n"
+	head := "slh-dsa-" + kind + " 2\n" + set.String() + "\n"
 	text := make([]byte, len(head)+2*len(key)+1)
 	digits := text[copy(text, head):]
 	hex.Encode(digits, key)
@@ -103,9 +103,9 @@ func keyFile(kind string, set Set, key []byte) []byte {
 // parse returns the set and the key of a key file's text. Package bytes searches by vector registers, so it reads the
 // first two lines alone, by their lengths.
 func parse(kind string, text []byte) (Set, []byte, error) {
-	rest, ok := cut(text, kind+" 2\n")
+	rest, ok := cut(text, "slh-dsa-"+kind+" 2\n")
 	if !ok {
-		rest, ok = cut(text, kind+" 1\n")
+		rest, ok = cut(text, "slh-dsa-"+kind+" 1\n")
 	}
 	if !ok {
 		return 0, nil, NotAKeyFile
@@ -145,7 +145,7 @@ func parseDigits(kind string, set Set, text []byte) ([]byte, error) {
 		length = lengths.SecretKey
 	}
 	if end != 2*length {
-		return nil, fmt.Errorf("%w: a key file %s of %s has %d digits, not %d", BadKeyLength, kind, set, 2*length, end)
+		return nil, fmt.Errorf("%w: a %s key of %s has %d digits, not %d", BadKeyLength, kind, set, 2*length, end)
 	}
 	if end+1 < len(text) {
 		return nil, TrailingBytes
@@ -155,7 +155,7 @@ func parseDigits(kind string, set Set, text []byte) ([]byte, error) {
 	return key, err
 }
 
-// isDigit tells whether a byte is a hexadecimal digit.
+// isDigit reports whether a byte is a hexadecimal digit.
 func isDigit(it byte) bool {
 	return '0' <= it && it <= '9' || 'a' <= it && it <= 'f' || 'A' <= it && it <= 'F'
 }

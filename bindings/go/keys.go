@@ -42,7 +42,7 @@ func (public *PublicKey) Bytes() []byte {
 	return copied(public.key.bytes())
 }
 
-// Equal tells whether other is the same *PublicKey.
+// Equal reports whether other is the same *PublicKey.
 func (public *PublicKey) Equal(other crypto.PublicKey) bool {
 	it, ok := other.(*PublicKey)
 	return ok && public.set == it.set && subtle.ConstantTimeCompare(public.key.bytes(), it.key.bytes()) == 1
@@ -218,7 +218,7 @@ func (secret *SecretKey) Bytes() []byte {
 	return key
 }
 
-// Equal tells whether other is the same *SecretKey. One that was destroyed is none. The time that this takes does not
+// Equal reports whether other is the same *SecretKey. One that was destroyed is none. The time that this takes does not
 // depend on the bytes.
 func (secret *SecretKey) Equal(other crypto.PrivateKey) bool {
 	it, ok := other.(*SecretKey)
@@ -271,8 +271,8 @@ func (secret *SecretKey) Sign(source io.Reader, message []byte, opts crypto.Sign
 	return secret.sign(source, options, pureOrDigest(secret.set, options, message))
 }
 
-// HashSign signs a message in the pre-hash form (Algorithm 23), with a digest that the library computes. A hash function
-// that is weaker than the set makes a weaker signature. It is refused as Sign is.
+// HashSign signs a message in the pre-hash form (Algorithm 23), with a digest that the library computes. A hash
+// function that is weaker than the set makes a weaker signature. It is refused as Sign is.
 func (secret *SecretKey) HashSign(
 	source io.Reader, hash crypto.Hash, message []byte, options *Options,
 ) ([]byte, error) {

@@ -175,8 +175,8 @@ func streamed(write func(to io.Writer) error) (output string) {
 	return encoded(to.Bytes(), err)
 }
 
-// walk collects all bytes and texts that reflection reads, in fields that are not exported, too, as printers and copiers
-// of other modules do.
+// walk collects all bytes and texts that reflection reads, in fields that are not exported, too, as printers of other
+// modules do.
 func walk(it reflect.Value, seen map[unsafe.Pointer]bool, found *[]byte) {
 	switch it.Kind() {
 	case reflect.Pointer:

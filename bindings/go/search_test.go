@@ -16,7 +16,7 @@ import (
 // window is how many consecutive bytes of a secret are a leak.
 const window = 8
 
-// leakIn returns the encoding by which an output has 8 consecutive bytes of a secret, and the empty text if it has none.
+// leakIn returns the encoding by which an output has 8 consecutive bytes of a secret, and else the empty text.
 func leakIn(output string, secrets ...[]byte) string {
 	all, texts := windows(secrets), []string{output}
 	if text := html.UnescapeString(output); text != output {
@@ -37,7 +37,7 @@ func leakIn(output string, secrets ...[]byte) string {
 	return ""
 }
 
-// hasAny tells whether a text has any of these bytes.
+// hasAny reports whether a text has any of these bytes.
 func hasAny(text string, all [][]byte) bool {
 	for _, wanted := range all {
 		if strings.Contains(text, string(wanted)) {
@@ -132,7 +132,7 @@ func numbers(text string, base int) string {
 	return string(found)
 }
 
-// hasBase64 tells whether a text has these bytes at any place of base64. The first and the last characters also have
+// hasBase64 reports whether a text has these bytes at any place of base64. The first and the last characters also have
 // bits of other bytes, and are left out.
 func hasBase64(text string, wanted []byte) bool {
 	for before := 0; before < 3; before++ {
@@ -153,7 +153,7 @@ func TestTheSearchFinds(t *testing.T) {
 	type exported struct{ Key []byte }
 	secret := []byte("\x00\x07\\\"A\xe9\xff\n\x80z0\xc3\xa9'<&")
 	outputs := map[string]string{"hex": hex.EncodeToString(secret), "cut": fmt.Sprintf("%x", secret[5:13])}
-	for _, verb := range []string{"v", "+v", "#v", "s", "q", "+q", "x", "X", "# x", "% X", "d", "c", "U", "o", "O", "b", "e", "t"} {
+	for _, verb := range strings.Split("v,+v,#v,s,q,+q,x,X,# x,% X,d,c,U,o,O,b,e,t", ",") {
 		outputs[verb] = fmt.Sprintf("%"+verb, holder{secret})
 	}
 	for name, encode := range map[string]func(any) ([]byte, error){"json": json.Marshal, "xml": xml.Marshal} {

@@ -6,12 +6,12 @@
 //	signature, err := secret.Sign(nil, message, nil)
 //	err = public.Verify(message, signature, nil)
 //
-// The first argument of Generate and Sign is the source of random bytes, and nil stands for crypto/rand. The last one of
-// Sign and Verify are Options, and nil stands for Options{}.
+// The first argument of Generate and Sign is the source of random bytes, and nil stands for crypto/rand. The last one
+// of Sign and Verify are Options, and nil stands for Options{}.
 //
-// docs/LIBRARY.md of libslh's repository says what each call computes and what is proved of it. A call that is refused
-// returns a Refusal, with libslh's number and name, or an error that wraps one. Verify and Check return nil if the
-// signature or the key is valid, and ErrInvalid if it is not.
+// docs/LIBRARY.md of libslh's repository describes each call and its proof. A call that is refused returns a Refusal,
+// with libslh's number and name, or an error that wraps one. Verify and Check return nil if the signature or the key is
+// valid, and ErrInvalid if it is not.
 //
 // Each signature has a fresh randomizer, from crypto/rand unless another source is given or Options.Deterministic asks
 // for none. SecretKey.Destroy overwrites a secret key. A call overwrites its own copies of it before it returns. Slices
@@ -21,8 +21,8 @@
 // key. Other packages find no key by reflection, in a struct that holds one, either.
 //
 // The compiler and the linker have to find libslh.a: CGO_CFLAGS=-IPREFIX/include and CGO_LDFLAGS=-LPREFIX/lib, where
-// PREFIX is the absolute path of the folder that tools/library.sh has installed into. With the tag portable the compiler
-// takes the portable C of tools/library.sh --target portable: CGO_CFLAGS="-IPREFIX/include -IPREFIX/src".
+// PREFIX is the absolute path of the folder that tools/library.sh has installed into. With the tag portable the
+// compiler takes the portable C of tools/library.sh --target portable: CGO_CFLAGS="-IPREFIX/include -IPREFIX/src".
 package slh
 
 // #include "library.h"

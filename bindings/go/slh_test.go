@@ -418,7 +418,7 @@ func TestAWrongRootSignsNothingValid(t *testing.T) {
 	}
 }
 
-// isZeros tells whether there are bytes, and all are 0.
+// isZeros reports whether there are bytes, and all are 0.
 func isZeros(text []byte) bool {
 	return len(text) > 0 && bytes.Equal(text, make([]byte, len(text)))
 }

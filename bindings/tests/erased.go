@@ -1,6 +1,6 @@
-// A program for tests/packages_memory.py, which says what it does. Where a signal interrupts a thread the system saves the
-// registers. So this sends itself many signals, by which Go's runtime interrupts goroutines. And on x86-64 it looks
-// whether a call leaves SK.seed or SK.prf in xmm0 to xmm15.
+// A program for tests/packages_memory.py, which describes it. If a signal interrupts a thread, the system saves the
+// registers. So this sends itself many signals, by which Go's runtime interrupts goroutines. And on x86-64 it looks for
+// SK.seed and SK.prf in xmm0 to xmm15 after calls.
 package main
 
 /*
@@ -94,8 +94,7 @@ func sendSignals() {
 	}
 }
 
-// expectNoneInVectors panics on x86-64 where SK.seed or SK.prf stands in a register for vectors, and elsewhere it does
-// nothing. It compares byte by byte, and so leaves none there.
+// expectNoneInVectors panics on x86-64 if SK.seed or SK.prf is in a vector register, and does nothing elsewhere. It compares byte by byte, and so leaves none there.
 func expectNoneInVectors(key []byte) {
 	var to [256]C.uint8_t
 	C.copy_vectors(&to[0])
