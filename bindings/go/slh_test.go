@@ -610,29 +610,44 @@ func callsOf(secret *SecretKey, options *Options) map[string]func() ([]byte, err
 
 // TestFaultsOfMemoryAreFound flips one bit of a signature in memory while its second computation runs.
 func TestFaultsOfMemoryAreFound(t *testing.T) {
-	defer func(before func(int) []byte) { newScratch = before }(newScratch)
 	for name, call := range callsOf(generate(t), &Options{Twice: true}) {
 		for _, at := range []int{0, 8000, 17080} {
-			var scratch []byte
-			newScratch = func(count int) []byte {
-				scratch = make([]byte, count)
-				go flipOnce(scratch, count/2-8, at)
-				return scratch
+			var signature, scratch []byte
+			var err error
+			for tries := 0; tries < 50 && err == nil; tries++ { // the other thread may come too late
+				signature, scratch, err = withFlip(call, at)
 			}
-			signature, err := call()
-			if !errors.Is(err, ErrFault) || signature != nil || len(scratch) != 2*17088 || !isZeros(scratch) {
+			if err != ErrFault || signature != nil || len(scratch) != 2*17088 || !isZeros(scratch) {
 				t.Error(name, at, err, len(scratch), isZeros(scratch))
 			}
 		}
 	}
 }
 
-// flipOnce flips one bit of a place once the 8 bytes of another place are no longer zeros.
-func flipOnce(memory []byte, watched, place int) {
-	for atomic.LoadUint64((*uint64)(unsafe.Pointer(&memory[watched]))) == 0 {
-		runtime.Gosched()
+// withFlip makes a call, and flips one bit of the first signature in its scratch once that has its last 8 bytes.
+func withFlip(call func() ([]byte, error), place int) (signature, scratch []byte, err error) {
+	var ended atomic.Bool
+	var flipping sync.WaitGroup
+	defer func(before func(int) []byte) { newScratch = before }(newScratch)
+	newScratch = func(count int) []byte {
+		scratch = make([]byte, count)
+		flipping.Add(1)
+		go func() {
+			defer flipping.Done()
+			last := (*uint64)(unsafe.Pointer(&scratch[count/2-8]))
+			for atomic.LoadUint64(last) == 0 && !ended.Load() {
+				runtime.Gosched()
+			}
+			if !ended.Load() {
+				scratch[place] ^= 1
+			}
+		}()
+		return scratch
 	}
-	memory[place] ^= 1
+	signature, err = call()
+	ended.Store(true)
+	flipping.Wait()
+	return signature, scratch, err
 }
 
 // TestVerifyFindsFaults flips one bit of a signature after it was made.

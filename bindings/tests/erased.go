@@ -94,7 +94,8 @@ func sendSignals() {
 	}
 }
 
-// expectNoneInVectors panics on x86-64 if SK.seed or SK.prf is in a vector register, and does nothing elsewhere. It compares byte by byte, and so leaves none there.
+// expectNoneInVectors panics on x86-64 if SK.seed or SK.prf is in a vector register, and does nothing elsewhere. It
+// compares byte by byte, and so leaves none there.
 func expectNoneInVectors(key []byte) {
 	var to [256]C.uint8_t
 	C.copy_vectors(&to[0])
