@@ -75,7 +75,6 @@ func (secret *SecretKey) WriteFile(path string) error {
 	if err != nil {
 		return err
 	}
-	defer erase(text)
 	return writeNew(path, text, 0o600)
 }
 
@@ -181,8 +180,9 @@ func readFile[Key any](path string, call func(text []byte) (Key, error)) (key Ke
 	return key, nil
 }
 
-// writeNew writes a new file. It removes it again if that fails.
+// writeNew writes a new file, and removes it again if that fails. Then it overwrites the text.
 func writeNew(path string, text []byte, mode os.FileMode) (err error) {
+	defer erase(text)
 	file, err := os.OpenFile(path, os.O_WRONLY|os.O_CREATE|os.O_EXCL, mode)
 	if err != nil {
 		return err

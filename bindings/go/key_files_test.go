@@ -176,11 +176,11 @@ func TestKeyFilesHaveTheirSet(t *testing.T) {
 	for _, set := range sets {
 		lengths, err := set.Lengths()
 		expect(t, err)
-		bytes := make([]byte, lengths.SecretKey)
-		for at := range bytes {
-			bytes[at] = byte(7 * at)
+		key := make([]byte, lengths.SecretKey)
+		for at := range key {
+			key[at] = byte(7 * at)
 		}
-		secret, err := slh.NewSecretKey(set, bytes)
+		secret, err := slh.NewSecretKey(set, key)
 		expect(t, err)
 		folder := t.TempDir()
 		path, publicPath := filepath.Join(folder, "secret.key"), filepath.Join(folder, "public.key")

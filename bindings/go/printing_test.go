@@ -208,7 +208,7 @@ func walk(it reflect.Value, seen map[unsafe.Pointer]bool, found *[]byte) {
 
 func init() {
 	for _, verb := range strings.Split("v s q x X d c U o O b t e E f g G p T w z", " ") {
-		for _, flags := range []string{"", "+", "#", "-", " ", "0", "+#", "# ", "20", ".3"} {
+		for _, flags := range []string{"", "+", "#", "# ", "20"} {
 			format := "%" + flags + verb
 			writers[format] = func(it any) string { return fmt.Sprintf(format, it) }
 		}

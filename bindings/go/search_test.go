@@ -95,11 +95,11 @@ func characters(runes []rune, first, step int) string {
 func unescaped(text string) string {
 	var found []byte
 	for text != "" {
-		if rune, _, rest, err := strconv.UnquoteChar(text, '"'); err == nil && text[0] == '\\' {
-			if text[1] == 'x' || rune < 128 {
-				found = append(found, byte(rune))
+		if value, _, rest, err := strconv.UnquoteChar(text, '"'); err == nil && text[0] == '\\' {
+			if text[1] == 'x' || value < 128 {
+				found = append(found, byte(value))
 			} else {
-				found = append(found, string(rune)...)
+				found = append(found, string(value)...)
 			}
 			text = rest
 		} else {

@@ -684,6 +684,33 @@ func TestVerifyRefusesAWrongRoot(t *testing.T) {
 	}
 }
 
+// TestTextsOfFilesAreErased looks at the buffers that a key file is written from and read into.
+func TestTextsOfFilesAreErased(t *testing.T) {
+	secret, path := generate(t), filepath.Join(t.TempDir(), "key")
+	for number, wanted := range []error{nil, os.ErrExist} {
+		text, err := secret.MarshalKeyFile()
+		if err != nil || len(text) != 164 {
+			t.Fatal(err, len(text))
+		}
+		if err := writeNew(path, text, 0o600); !errors.Is(err, wanted) || !isZeros(text) {
+			t.Error(number, err)
+		}
+	}
+	for number, wanted := range []error{nil, BadHex} {
+		var seen []byte
+		_, err := readFile(path, func(text []byte) (*SecretKey, error) {
+			seen = text
+			if wanted != nil {
+				return nil, wanted
+			}
+			return ParseSecretKey(text)
+		})
+		if !errors.Is(err, wanted) || len(seen) != 164 || !isZeros(seen[:cap(seen)]) {
+			t.Error(number, err, len(seen))
+		}
+	}
+}
+
 // TestForgottenKeysAreErased has the garbage collector find a key that nobody destroyed.
 func TestForgottenKeysAreErased(t *testing.T) {
 	kept := generate(t)
