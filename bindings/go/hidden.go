@@ -43,13 +43,13 @@ type redacted struct {
 }
 
 // String returns the set, and not the bytes, as SecretKey(SLH-DSA-SHA2-128f).
-func (it redacted) String() string {
-	return fmt.Sprintf("SecretKey(%s)", it.set)
+func (secret redacted) String() string {
+	return fmt.Sprintf("SecretKey(%s)", secret.set)
 }
 
 // Format writes String for each verb of package fmt.
-func (it redacted) Format(state fmt.State, verb rune) {
-	fmt.Fprint(state, it.String())
+func (secret redacted) Format(state fmt.State, verb rune) {
+	fmt.Fprint(state, secret.String())
 }
 
 // MarshalText returns ErrMarshal.

@@ -21,6 +21,7 @@ type PublicKey struct {
 }
 
 // NewPublicKey returns the public key of these bytes. It is refused as NoSuchSet, and as BadLength unless there are 2n.
+// It cannot tell a secret key of a 128 set from a public key of a 256 set, which has as many bytes. Key files can.
 func NewPublicKey(set Set, bytes []byte) (*PublicKey, error) {
 	lengths, err := set.Lengths()
 	if err != nil {

@@ -18,7 +18,7 @@
 // that a caller hands in, and those of SecretKey.Bytes and MarshalKeyFile, are the caller's.
 //
 // A secret key is printed as its set, a public key as its set and a fingerprint. Encoders get ErrMarshal for a secret
-// key. Other packages find no key by reflection, in a struct that holds one, either.
+// key. Reflection finds the bytes of neither, not even in a struct that holds the key.
 //
 // The compiler and the linker have to find libslh.a: CGO_CFLAGS=-IPREFIX/include and CGO_LDFLAGS=-LPREFIX/lib, where
 // PREFIX is the absolute path of the folder that tools/library.sh has installed into. With the tag portable the
@@ -95,9 +95,9 @@ var ErrInvalid = errors.New("slh: invalid")
 // ErrDestroyed says that a secret key was destroyed.
 var ErrDestroyed = errors.New("slh: the secret key was destroyed")
 
-// ErrFault says that memory or the processor failed: two computations differ (Options.Twice), or a signature that was
-// made is not valid (Options.Verify). It was overwritten.
-var ErrFault = errors.New("slh: fault: two computations differ, or the signature is not valid")
+// ErrFault says that two computations of a signature differ (Options.Twice), or that the signature is not valid
+// (Options.Verify). It was overwritten. Memory or the processor failed, or Check finds the key invalid.
+var ErrFault = errors.New("slh: 38 Fault: two computations differ, or the signature is not valid")
 
 // A Refusal is the number of the reason why a call was refused (docs/FORMATS.md, "Refusals"): use
 // errors.Is(err, slh.ContextTooLong). Errors of lengths wrap it, and say which length was expected and which was given.
