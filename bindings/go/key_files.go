@@ -15,7 +15,7 @@ const (
 	publicFile = "public"
 )
 
-// mostRead is how many bytes of a file are read, of which a key file has at most 292.
+// mostRead is the most bytes that are read of a file. No longer file is a key file.
 const mostRead = 1 << 16
 
 // ParseSecretKey returns the secret key of a key file's text, of either version, with the file's set. Call Check once
@@ -39,14 +39,13 @@ func ParsePublicKey(text []byte) (*PublicKey, error) {
 	return NewPublicKey(set, key)
 }
 
-// ReadSecretKeyFile returns the secret key of a key file, as ParseSecretKey does, and overwrites what it read of it. Of
-// a longer file it judges the first 65,536 bytes.
+// ReadSecretKeyFile returns the secret key of a key file, as ParseSecretKey does, and overwrites the text in memory. It
+// reads 65,536 bytes at most; a key file has 292 at most.
 func ReadSecretKeyFile(path string) (*SecretKey, error) {
 	return readFile(path, ParseSecretKey)
 }
 
-// ReadPublicKeyFile returns the public key of a key file, as ParsePublicKey does. Of a longer file it judges the first
-// 65,536 bytes.
+// ReadPublicKeyFile returns the public key of a key file, as ParsePublicKey does. It reads 65,536 bytes at most.
 func ReadPublicKeyFile(path string) (*PublicKey, error) {
 	return readFile(path, ParsePublicKey)
 }
@@ -101,8 +100,8 @@ func keyFile(kind string, set Set, key []byte) []byte {
 	return text
 }
 
-// parse returns the set and the key of a key file's text. Package bytes searches by vector registers, so it reads the
-// first two lines alone, by their lengths.
+// parse returns the set and the key of a key file's text. It looks for no line feed by package bytes, which would leave
+// digits of the key in vector registers.
 func parse(kind string, text []byte) (Set, []byte, error) {
 	rest, ok := cut(text, "slh-dsa-"+kind+" 2\n")
 	if !ok {
@@ -120,7 +119,7 @@ func parse(kind string, text []byte) (Set, []byte, error) {
 	return 0, nil, UnknownSet
 }
 
-// cut returns what follows a line, if the text begins with it.
+// cut returns the text after a line, if the text begins with it.
 func cut(text []byte, line string) ([]byte, bool) {
 	if len(text) < len(line) || string(text[:len(line)]) != line {
 		return nil, false
@@ -128,7 +127,7 @@ func cut(text []byte, line string) ([]byte, bool) {
 	return text[len(line):], true
 }
 
-// parseDigits returns the key of a third line, and refuses what follows it.
+// parseDigits returns the key of a third line, after which the text has to end.
 func parseDigits(kind string, set Set, text []byte) ([]byte, error) {
 	end := 0
 	for end < len(text) && text[end] != '\n' {
@@ -161,8 +160,8 @@ func isDigit(it byte) bool {
 	return '0' <= it && it <= '9' || 'a' <= it && it <= 'f' || 'A' <= it && it <= 'F'
 }
 
-// readFile returns what a call makes of a file's text, which is then overwritten. It is read into one buffer: one that
-// grows would leave copies.
+// readFile returns the result of a call over a file's text, and overwrites the text. It reads into one buffer of a
+// fixed length, since a buffer that grows leaves copies.
 func readFile[Key any](path string, call func(text []byte) (Key, error)) (key Key, err error) {
 	file, err := os.Open(path)
 	if err != nil {

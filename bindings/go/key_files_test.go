@@ -92,7 +92,7 @@ func (it row) isSecret(text []byte) bool {
 	}
 }
 
-// load returns what a key file's text is as a file of version 2 again, or the refusal.
+// load reads a key file's text, and returns the text of a file of version 2 with that key, or the refusal.
 func load(text []byte, isSecret bool) (string, error) {
 	var again []byte
 	secret, err := slh.ParseSecretKey(text)
@@ -234,7 +234,7 @@ func TestFilesAreNew(t *testing.T) {
 	}
 }
 
-// TestFilesThatAreNoKeys reads what is there in place of a key file.
+// TestFilesThatAreNoKeys reads folders, missing, long and damaged files.
 func TestFilesThatAreNoKeys(t *testing.T) {
 	folder := t.TempDir()
 	if _, err := slh.ReadSecretKeyFile(folder); err == nil || errors.As(err, new(slh.Refusal)) {
@@ -284,7 +284,7 @@ func program(t *testing.T, input string, words ...string) string {
 	return string(output)
 }
 
-// TestKeyFilesAndTheProgram has the program read what the package writes, and the other way round.
+// TestKeyFilesAndTheProgram has the program read files of the package, and the other way round.
 func TestKeyFilesAndTheProgram(t *testing.T) {
 	if runtime.GOOS != "linux" || runtime.GOARCH != "amd64" {
 		t.Skip("the program is for Linux on x86-64")

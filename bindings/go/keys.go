@@ -336,7 +336,7 @@ func (secret *SecretKey) made(options Options, it *form, key, randomizer []byte)
 	return secret.written(func(sig []byte) C.uint32_t { return it.signTwice(key, randomizer, scratch, sig) })
 }
 
-// newScratch returns the room for two signatures. A test puts memory that fails in its place.
+// newScratch returns memory for two signatures. A test puts memory that fails in its place.
 var newScratch = func(count int) []byte { return make([]byte, count) }
 
 // verified returns nil if a signature is valid under the key's own public key. Else it overwrites the signature, which
@@ -353,7 +353,7 @@ func (secret *SecretKey) verified(it *form, key, signature []byte) error {
 // A writing is a call that writes a signature or a start.
 type writing func(out []byte) C.uint32_t
 
-// written returns what a call writes into the room for a signature.
+// written returns the signature that a call writes.
 func (secret *SecretKey) written(call writing) ([]byte, error) {
 	sig := make([]byte, secret.lengths.Signature)
 	if err := done(uninterrupted(func() C.uint32_t { return call(sig) })); err != nil {

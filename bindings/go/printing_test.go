@@ -105,7 +105,7 @@ func publicHolders(public *slh.PublicKey) map[string]any {
 	return all
 }
 
-// writers are the ways of writing something, by name. Each returns what it wrote and the text of its error.
+// writers are the ways of writing something, by name. Each returns its output and the text of its error.
 var writers = map[string]func(it any) string{
 	"Sprint":   func(it any) string { return fmt.Sprint(it, it) },
 	"Sprintln": func(it any) string { return fmt.Sprintln(it) },
@@ -163,7 +163,7 @@ func encoded(output []byte, err error) string {
 	return string(output) + fmt.Sprint(err)
 }
 
-// streamed returns what a call writes and the text of its error. A call that panics has its value printed.
+// streamed returns the output of a call and the text of its error, or the value that it panics with.
 func streamed(write func(to io.Writer) error) (output string) {
 	var to bytes.Buffer
 	defer func() {
@@ -275,7 +275,7 @@ func TestNoPanicWritesAKey(t *testing.T) {
 	}
 }
 
-// panicked returns what a process writes that panics with a holder of a key.
+// panicked returns the output of a process that panics with a holder of a key.
 func panicked(t *testing.T, holder string, key []byte) string {
 	t.Helper()
 	command := exec.Command(os.Args[0], "-test.run=^TestPanics$")

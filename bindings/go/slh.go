@@ -155,7 +155,7 @@ func Version() uint32 {
 	return uint32(C.slh_version())
 }
 
-// done returns what a call returned as an error, which is nil if the call is done.
+// done returns the result of a call as an error, which is nil if the call is done.
 func done(result C.uint32_t) error {
 	switch result {
 	case C.SLH_DONE:

@@ -144,49 +144,42 @@ func TestSignVectors(t *testing.T) {
 	}
 }
 
-// signatures returns what each call makes that signs in the test's form.
+// signatures returns the signatures of each call that signs in the test's form, by one goroutine, by two, and twice.
 func signatures(t *testing.T, test vector) map[string][]byte {
 	t.Helper()
 	secret, err := NewSecretKey(test.set(t), test.Sk)
 	if err != nil {
 		t.Fatal(err)
 	}
-	one := &Options{Context: test.Context, Deterministic: len(test.Random) == 0, Workers: 1, Verify: true}
-	two := &Options{Context: test.Context, Deterministic: len(test.Random) == 0, Workers: 2}
-	twice := &Options{Context: test.Context, Deterministic: len(test.Random) == 0, Twice: true, Verify: true}
 	made := map[string][]byte{}
-	keep := func(call string, signature []byte, err error) {
-		if err != nil {
-			t.Error(test.Set, test.Form, call, err)
+	for _, options := range []Options{{Workers: 1, Verify: true}, {Workers: 2}, {Twice: true, Verify: true}} {
+		options.Context, options.Deterministic = test.Context, len(test.Random) == 0
+		for name, call := range test.calls(t, secret, options) {
+			name = fmt.Sprintf("%s, %d workers, twice %v", name, options.Workers, options.Twice)
+			if made[name], err = call(); err != nil {
+				t.Error(test.Set, test.Form, name, err)
+			}
 		}
-		made[call] = signature
 	}
-	random := func() *bytes.Reader { return bytes.NewReader(test.Random) }
-	hash := test.hash(t)
-	if hash == 0 {
-		signature, err := secret.Sign(random(), test.Message, one)
-		keep("Sign", signature, err)
-		signature, err = secret.Sign(random(), test.Message, two)
-		keep("Sign by workers", signature, err)
-		signature, err = secret.Sign(random(), test.Message, twice)
-		keep("Sign twice", signature, err)
-		return made
-	}
-	hashed := digest(hash, test.Message)
-	signature, err := secret.HashSign(random(), hash, test.Message, one)
-	keep("HashSign", signature, err)
-	signature, err = secret.HashSign(random(), hash, test.Message, two)
-	keep("HashSign by workers", signature, err)
-	signature, err = secret.HashSign(random(), hash, test.Message, twice)
-	keep("HashSign twice", signature, err)
-	signature, err = secret.HashSignDigest(random(), hash, hashed, one)
-	keep("HashSignDigest", signature, err)
-	signature, err = secret.HashSignDigest(random(), hash, hashed, twice)
-	keep("HashSignDigest twice", signature, err)
-	one.Hash = hash
-	signature, err = crypto.Signer(secret).Sign(random(), hashed, one)
-	keep("Sign of a digest", signature, err)
 	return made
+}
+
+// calls returns each call that signs in the test's form.
+func (test vector) calls(t *testing.T, secret *SecretKey, options Options) map[string]func() ([]byte, error) {
+	t.Helper()
+	hash, random := test.hash(t), func() io.Reader { return bytes.NewReader(test.Random) }
+	if hash == 0 {
+		return map[string]func() ([]byte, error){
+			"Sign": func() ([]byte, error) { return secret.Sign(random(), test.Message, options) },
+		}
+	}
+	hashed, ofDigest := digest(hash, test.Message), options
+	ofDigest.Hash = hash
+	return map[string]func() ([]byte, error){
+		"HashSign":         func() ([]byte, error) { return secret.HashSign(random(), hash, test.Message, &options) },
+		"HashSignDigest":   func() ([]byte, error) { return secret.HashSignDigest(random(), hash, hashed, &options) },
+		"Sign of a digest": func() ([]byte, error) { return crypto.Signer(secret).Sign(random(), hashed, &ofDigest) },
+	}
 }
 
 func TestVerifyVectors(t *testing.T) {
@@ -430,6 +423,19 @@ func panicOf(call func()) (found interface{}) {
 	return nil
 }
 
+// errorsOf returns the errors of each call that needs a key's bytes.
+func errorsOf(it *SecretKey) []error {
+	_, text := it.MarshalKeyFile()
+	errs, message := []error{it.Check(), text}, make([]byte, 32)
+	for _, options := range []*Options{nil, {Workers: 2}, {Twice: true}, {Verify: true}, {Hash: crypto.SHA256}} {
+		_, signed := it.Sign(nil, message, options)
+		_, hashed := it.HashSign(nil, crypto.SHA256, message, options)
+		_, digested := it.HashSignDigest(nil, crypto.SHA256, message, options)
+		errs = append(errs, signed, hashed, digested)
+	}
+	return errs
+}
+
 func TestADestroyedKeyDoesNothing(t *testing.T) {
 	kept := generate(t)
 	given := kept.Bytes()
@@ -446,15 +452,7 @@ func TestADestroyedKeyDoesNothing(t *testing.T) {
 		t.Error("the key's bytes are not zeros, or the caller's are")
 	}
 	for _, it := range []*SecretKey{secret, &shared} {
-		errs := []error{it.Check()}
-		for _, options := range []*Options{nil, {Workers: 2}, {Twice: true}, {Hash: crypto.SHA256}} {
-			message := make([]byte, 32)
-			_, signed := it.Sign(nil, message, options)
-			_, hashed := it.HashSign(nil, crypto.SHA256, message, options)
-			_, digested := it.HashSignDigest(nil, crypto.SHA256, message, options)
-			errs = append(errs, signed, hashed, digested)
-		}
-		for number, err := range errs {
+		for number, err := range errorsOf(it) {
 			var refusal Refusal
 			if err != ErrDestroyed || errors.As(err, &refusal) || errors.Is(err, ErrInvalid) {
 				t.Error(number, err)

@@ -37,7 +37,7 @@ func asUser(t *testing.T, command, program string) (string, error) {
 	return string(output), err
 }
 
-// before is what README.md says in words: the imports, and the names that its calls take.
+// before has the imports, and the names that README.md's calls take.
 const before = `package main
 
 import (

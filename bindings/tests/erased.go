@@ -70,7 +70,7 @@ func main() {
 	io.Copy(io.Discard, in)
 }
 
-// throughFile writes a key into a file, reads it, and destroys what it read.
+// throughFile writes a key into a file, reads it again, and destroys that key.
 func throughFile(secret *slh.SecretKey, key []byte) {
 	folder, err := os.MkdirTemp("", "")
 	expect(err)
