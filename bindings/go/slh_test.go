@@ -21,11 +21,9 @@ import (
 	"runtime"
 	"strings"
 	"sync"
-	"sync/atomic"
 	"testing"
 	"testing/iotest"
 	"time"
-	"unsafe"
 )
 
 const fast = SHA2_128f
@@ -604,48 +602,6 @@ func callsOf(secret *SecretKey, options *Options) map[string]func() ([]byte, err
 		"pre-hash": func() ([]byte, error) { return secret.HashSign(nil, crypto.SHA256, letter, options) },
 		"digest":   func() ([]byte, error) { return secret.HashSignDigest(nil, crypto.SHA256, hashed, options) },
 	}
-}
-
-// TestFaultsOfMemoryAreFound flips one bit of a signature in memory while its second computation runs.
-func TestFaultsOfMemoryAreFound(t *testing.T) {
-	for name, call := range callsOf(generate(t), &Options{Twice: true}) {
-		for _, at := range []int{0, 8000, 17080} {
-			var signature, scratch []byte
-			var err error
-			for tries := 0; tries < 50 && err == nil; tries++ { // the other thread may come too late
-				signature, scratch, err = withFlip(call, at)
-			}
-			if err != ErrFault || signature != nil || len(scratch) != 2*17088 || !isZeros(scratch) {
-				t.Error(name, at, err, len(scratch), isZeros(scratch))
-			}
-		}
-	}
-}
-
-// withFlip makes a call, and flips one bit of the first signature in its scratch once that has its last 8 bytes.
-func withFlip(call func() ([]byte, error), place int) (signature, scratch []byte, err error) {
-	var ended atomic.Bool
-	var flipping sync.WaitGroup
-	defer func(before func(int) []byte) { newScratch = before }(newScratch)
-	newScratch = func(count int) []byte {
-		scratch = make([]byte, count)
-		flipping.Add(1)
-		go func() {
-			defer flipping.Done()
-			last := (*uint64)(unsafe.Pointer(&scratch[count/2-8]))
-			for atomic.LoadUint64(last) == 0 && !ended.Load() {
-				runtime.Gosched()
-			}
-			if !ended.Load() {
-				scratch[place] ^= 1
-			}
-		}()
-		return scratch
-	}
-	signature, err = call()
-	ended.Store(true)
-	flipping.Wait()
-	return signature, scratch, err
 }
 
 // TestVerifyFindsFaults flips one bit of a signature after it was made.
