@@ -272,11 +272,11 @@ func TestFilesThatAreNoKeys(t *testing.T) {
 	}
 }
 
-// program runs ./slh of the repository, and returns its output.
+// program runs ./slh of the repository, and returns its output. It finds no rt, by which it might build itself first.
 func program(t *testing.T, input string, words ...string) string {
 	t.Helper()
 	command := exec.Command("../../slh", words...)
-	command.Stdin = strings.NewReader(input)
+	command.Stdin, command.Env = strings.NewReader(input), append(os.Environ(), "PATH=/usr/bin:/bin")
 	output, err := command.Output()
 	if err != nil {
 		t.Fatalf("slh %v: %v: %s", words, err, output)
