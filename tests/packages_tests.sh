@@ -224,14 +224,12 @@ with_go() {
     local package=$here/bindings/go page=$work/gopage
     one "go: layout" is_laid_out "$package"
     one "go: vet" in_go "$package" go vet ./...
-    one "go: the package passes its tests" in_go "$package" go test -count=1 ./...
-    mkdir -p "$page"
-    page_in_go >"$page/main.go"
+    one "go: the package passes its tests, and the calls of its README run" in_go "$package" go test -count=1 ./...
+    mkdir -p "$page/erased"
+    printf 'package main\n\nimport _ "pipitscreen/slh"\n\nfunc main() {}\n' >"$page/main.go"
     one "go: a program takes the package" in_go "$page" go mod init page
     one "go: it names the clone" in_go "$page" go mod edit -require "pipitscreen/slh@v$(cat "$here/VERSION")" \
         -replace pipitscreen/slh="$package"
-    one "go: the calls of docs/PACKAGES.md" says done 0 in_go "$page" go run .
-    mkdir -p "$page/erased"
     cp "$here/bindings/tests/erased.go" "$page/erased/main.go"
     one "go: layout of the program that erases" is_laid_out "$page/erased"
     one "go: the program that erases is built" in_go "$page" go build -o "$work/erased_in_go" ./erased
@@ -253,15 +251,6 @@ END
         in_go "$page" env -u CGO_CFLAGS -u CGO_LDFLAGS go build -o "$work/none" .
     one "go: without cgo the build says so" misses_library set_CGO_ENABLED_to_1_and_install_a_C_compiler \
         in_go "$page" env CGO_ENABLED=0 go build -o "$work/none" .
-}
-
-page_in_go() {
-    printf 'package main\nimport "bytes"\nimport "fmt"\n'
-    imports_of 2
-    echo 'func main() {'
-    echo 'message, context, random, digest := []byte("letter"), []byte("letters"), make([]byte, 16), make([]byte, 32)'
-    calls_of 2 | sed '/err/s/$/; if err != nil { panic(err) }/'
-    echo 'fmt.Println("done") }'
 }
 
 is_laid_out() {
