@@ -1,11 +1,16 @@
 //! Finds `libslh.a`: in `$SLH_PREFIX/lib`, where `SLH_PREFIX` is the absolute path of the folder that `tools/library.sh`
 //! has installed into, or by pkg-config. With the feature `portable` it makes one of `$SLH_PREFIX/src/slh.c`, which
 //! `tools/library.sh --target portable` installs.
+//!
+//! Documentation and `cargo check` need no library. So if none is named this ends with a warning, and it is the linker
+//! that fails.
 use std::{
     env,
     path::{Path, PathBuf},
     process::Command,
 };
+
+const MISSING: &str = "libslh is not found: set SLH_PREFIX to the absolute path of the folder of tools/library.sh";
 
 /// The folder of the library that pkg-config knows.
 fn by_pkg_config() -> Option<PathBuf> {
@@ -33,24 +38,28 @@ fn compiled(prefix: &Path) -> PathBuf {
     folder
 }
 
-fn main() {
-    for name in ["SLH_PREFIX", "PKG_CONFIG_PATH", "CC", "AR"] {
-        println!("cargo:rerun-if-env-changed={name}");
-    }
+/// The folder of the archive, if one is named. One that is named has to be there.
+fn found(prefix: Option<&Path>) -> Option<PathBuf> {
     if env::var_os("CARGO_FEATURE_PORTABLE").is_some() {
-        let prefix =
-            env::var_os("SLH_PREFIX").expect("set SLH_PREFIX to the absolute path of the folder of tools/library.sh");
-        println!("cargo:rustc-link-search=native={}", compiled(Path::new(&prefix)).display());
-        println!("cargo:rustc-link-lib=static=slh");
-        return;
+        return prefix.map(compiled);
     }
-    let by_prefix = env::var_os("SLH_PREFIX").map(|prefix| PathBuf::from(prefix).join("lib"));
-    let folder = by_prefix
-        .or_else(by_pkg_config)
-        .expect("libslh is not found: set SLH_PREFIX to the absolute path of the folder of tools/library.sh");
+    let folder = prefix.map(|it| it.join("lib")).or_else(by_pkg_config)?;
     let archive = folder.join("libslh.a");
     assert!(archive.is_file(), "there is no {}: SLH_PREFIX has to be an absolute path", archive.display());
     println!("cargo:rerun-if-changed={}", archive.display());
-    println!("cargo:rustc-link-search=native={}", folder.display());
+    Some(folder)
+}
+
+fn main() {
+    for name in ["SLH_PREFIX", "PKG_CONFIG_PATH", "CC", "AR", "DOCS_RS"] {
+        println!("cargo:rerun-if-env-changed={name}");
+    }
+    if env::var_os("DOCS_RS").is_some() {
+        return;
+    }
     println!("cargo:rustc-link-lib=static=slh");
+    match found(env::var_os("SLH_PREFIX").map(PathBuf::from).as_deref()) {
+        Some(folder) => println!("cargo:rustc-link-search=native={}", folder.display()),
+        None => println!("cargo:warning={MISSING}"),
+    }
 }

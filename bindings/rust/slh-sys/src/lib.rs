@@ -1,14 +1,14 @@
-//! Declarations of libslh, SLH-DSA (FIPS 205) with SHA-2. The crate `slh` stands over them.
+//! Declarations of libslh, SLH-DSA (FIPS 205) with SHA-2. Programs call the crate `slh`, which is built on this one.
 //!
-//! `slh.h` and `slh_verify.h`, which `tools/library.sh` installs with the library, say of each call what it does, which
-//! lengths it takes and what it returns.
+//! `tools/library.sh` installs `slh.h` and `slh_verify.h` with the library. They describe each call: its work, the
+//! lengths that it takes, and its results.
 //!
 //! # Safety
 //!
 //! Of every call here: each pointer to bytes is followed by their number. It points to that many bytes, which may be
-//! read, and for an output also written, until the call returns. Where the number is 0 the pointer may be null. No
+//! read, and for an output also written, until the call returns. If the number is 0 the pointer may be null. No
 //! number is above `isize::MAX`. A pointer to one number is not null, and aligned. An output overlaps no other
-//! argument, and nothing else writes to an argument while the call runs. All else is tested by the calls.
+//! argument, and nothing else writes to an argument while the call runs. The calls test all else.
 #![no_std]
 
 use core::ffi::{c_char, c_void};
@@ -78,6 +78,8 @@ pub const SLH_BAD_START: u32 = 28;
 pub const SLH_INVALID: u32 = 30;
 /// The portable C alone returns it: it got no memory for the call.
 pub const SLH_NO_MEMORY: u32 = 37;
+/// The two computations of one signature differ: the calls whose names end in `_twice` return it.
+pub const SLH_FAULT: u32 = 38;
 
 /// The most bytes of a refusal's name with the zero byte after it.
 pub const SLH_MAX_NAME: usize = 20;
@@ -154,8 +156,64 @@ extern "C" {
         sig: *mut u8,
         sig_len: usize,
     ) -> u32;
+    /// Signs in the pure form two times, and compares (Algorithm 22). `scratch` has room for two signatures.
+    #[must_use]
+    pub fn slh_sign_twice(
+        set: u32,
+        sk: *const u8,
+        sk_len: usize,
+        msg: *const u8,
+        msg_len: usize,
+        ctx: *const u8,
+        ctx_len: usize,
+        randomizer: *const u8,
+        randomizer_len: usize,
+        scratch: *mut u8,
+        scratch_len: usize,
+        sig: *mut u8,
+        sig_len: usize,
+    ) -> u32;
+    /// Signs in the pre-hash form two times, with the digest of the message, and compares.
+    #[must_use]
+    pub fn slh_hash_sign_digest_twice(
+        set: u32,
+        function: u32,
+        sk: *const u8,
+        sk_len: usize,
+        digest: *const u8,
+        digest_len: usize,
+        ctx: *const u8,
+        ctx_len: usize,
+        randomizer: *const u8,
+        randomizer_len: usize,
+        scratch: *mut u8,
+        scratch_len: usize,
+        sig: *mut u8,
+        sig_len: usize,
+    ) -> u32;
+    /// Signs in the pre-hash form two times, with the message, and compares (Algorithm 23).
+    #[must_use]
+    pub fn slh_hash_sign_twice(
+        set: u32,
+        function: u32,
+        sk: *const u8,
+        sk_len: usize,
+        msg: *const u8,
+        msg_len: usize,
+        ctx: *const u8,
+        ctx_len: usize,
+        randomizer: *const u8,
+        randomizer_len: usize,
+        scratch: *mut u8,
+        scratch_len: usize,
+        sig: *mut u8,
+        sig_len: usize,
+    ) -> u32;
     /// Writes the name of a refusal, and zero bytes to the end of `name`.
     pub fn slh_refusal_name(refusal: u32, name: *mut c_char, name_len: usize) -> u32;
+    /// A sentence in English for a result's number. The bytes are constant, and a zero byte ends them.
+    #[must_use]
+    pub fn slh_refusal_text(result: u32) -> *const c_char;
     /// Writes zeros over bytes that are no longer needed, also where the compiler sees that nobody reads them again.
     pub fn slh_erase(bytes: *mut c_void, n: usize);
     /// Writes how many jobs a signature has, and the lengths of its start and of all answers.

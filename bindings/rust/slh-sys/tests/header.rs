@@ -39,18 +39,21 @@ fn numbers_are_those_of_the_header() {
     assert!(numbers.len() > 25, "{} numbers", numbers.len());
 }
 
+/// The types of results: as they stand in C before a call, and in Rust behind it.
+const RESULTS: [(&str, &str); 3] =
+    [("\nuint32_t ", " -> u32;"), ("\nvoid ", ";"), ("\nconst char *", " -> *const c_char;")];
+
 #[test]
 fn calls_are_those_of_the_headers() {
-    let after = |kind: &str| HEADERS.iter().flat_map(move |header| header.split(kind).skip(1)).collect::<Vec<_>>();
-    let (numbers, nothing) = (after("\nuint32_t "), after("\nvoid "));
-    let calls: Vec<_> = numbers.iter().map(|it| (*it, true)).chain(nothing.iter().map(|it| (*it, false))).collect();
-    for (call, is_number) in &calls {
+    let after = |kind| HEADERS.iter().flat_map(move |header| header.split(kind).skip(1));
+    let calls: Vec<_> = RESULTS.iter().flat_map(|(kind, result)| after(*kind).map(move |it| (it, *result))).collect();
+    for (call, result) in &calls {
         let name = call.split('(').next().expect("a name");
         let found = DECLARATIONS.split(&format!("pub fn {name}(")).nth(1).expect(name);
         let declared = parameters(&format!("({found}"));
         assert_eq!(declared, parameters(call).iter().map(|it| in_rust(it)).collect::<Vec<_>>(), "{name}");
-        let ends = found.split_once(')').is_some_and(|(_, rest)| rest.starts_with(" -> u32;"));
-        assert_eq!(ends, *is_number, "{name} returns a number");
+        let rest = found.split_once(')').expect("a bracket").1;
+        assert!(rest.starts_with(result), "{name} returns{result}");
     }
     let is_listed = |name: &str| calls.iter().any(|(call, _)| call.split('(').next() == Some(name));
     let declared = DECLARATIONS.split("pub fn ").skip(1).filter_map(|it| it.split('(').next());

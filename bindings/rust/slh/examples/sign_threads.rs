@@ -3,16 +3,15 @@
 //! So it verifies by: slh verify --key FILE.pub --message FILE --signature FILE.sig
 use std::{env, error::Error, fs, process::ExitCode};
 
-use slh::{ParameterSet, SecretKey, Signer, SlhDsaSha2_128f, Verifier};
+use slh::{SecretKey, Signer, SlhDsaSha2_128f, Verifier};
 
 fn sign(threads: usize, path: &str, message: &[u8]) -> Result<(), Box<dyn Error>> {
     let secret = SecretKey::<SlhDsaSha2_128f>::generate()?;
     let public = secret.public();
     let signature = secret.workers(threads).sign(message)?;
     public.verify(message, &signature)?;
-    let digits: String = public.as_bytes().iter().map(|byte| format!("{byte:02x}")).collect();
     fs::write(format!("{path}.sig"), &signature)?;
-    fs::write(format!("{path}.pub"), format!("slh-dsa-public 2\n{}\n{digits}\n", SlhDsaSha2_128f::NAME))?;
+    public.write_to(fs::File::create(format!("{path}.pub"))?)?;
     println!("valid");
     Ok(())
 }

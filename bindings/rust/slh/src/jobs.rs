@@ -1,17 +1,18 @@
 use std::{mem, sync::Mutex, thread};
 
 use crate::{
-    error::{done, Error},
-    keys::{erase, slice, Options, SecretKey, Signature, Signer},
-    sets::{Function, ParameterSet},
+    call::{call, done},
+    options::{slice, Content},
+    secrets::{are_same, Secrets},
+    Error, Function, Options, ParameterSet, SecretKey, Signature, Signer,
 };
 
 /// FORS trees are not cut: each is one job.
 const FORS_LEVELS: u32 = 0;
 
-/// What computes each signature under a key by several threads. [`SecretKey::workers`] makes one.
+/// Several threads that compute each signature under a key. [`SecretKey::workers`] makes them.
 ///
-/// A signature is cut into jobs (docs/JOBS.md, "Signing with threads of your own"), which the threads do; they end
+/// A signature is divided into jobs (docs/JOBS.md, "Signing with threads of your own"), which the threads do; they end
 /// before the call returns. No more threads start than there are jobs. With the same randomizer, or with none, the
 /// signature is byte for byte that of [`SecretKey`] in one thread. A key that [`check`](SecretKey::check) finds invalid
 /// is refused as `AnswersDisagree`.
@@ -27,42 +28,50 @@ impl<'a, P: ParameterSet> Workers<'a, P> {
         Workers { secret, count, is_twice: false }
     }
 
-    /// The same workers, which do each job two times and compare the answers. Where these differ nothing is signed:
-    /// [`Error::Fault`]. This is for who fears faults, by bad memory or a bad processor (docs/JOBS.md, "Faults").
+    /// The same workers, which sign each message with [`Options::twice`]: they do each job two times, and compare the
+    /// answers.
     pub fn twice(self) -> Self {
         Workers { is_twice: true, ..self }
     }
 
-    /// The signature of the start that a call writes.
-    fn signed(&self, begin: impl FnOnce(&mut [u8]) -> u32) -> Result<Signature<P>, Error> {
-        self.signed_by(begin, |start, job, answer| sign_job(self.secret, start, job, answer))
+    fn signed(&self, content: Content<'_>, options: Options<'_>) -> Result<Signature<P>, Error> {
+        let run = |start: &[u8], job, answer: &mut [u8]| sign_job(self.secret, start, job, answer);
+        let signature = self.signed_by(content, options, run)?;
+        self.secret.released(signature, content, options)
     }
 
-    /// The same by jobs that `run` does.
-    fn signed_by(&self, begin: impl FnOnce(&mut [u8]) -> u32, run: impl Run) -> Result<Signature<P>, Error> {
-        let plan = Plan::of::<P>()?;
-        let (mut start, mut first) = (vec![0; plan.start_len], Answers::of(&plan));
-        let mut second = self.is_twice.then(|| Answers::of(&plan));
-        done(begin(&mut start))?;
-        let mut tasks = shares::<P>(plan.jobs, &mut first.0)?;
+    /// The signature by jobs that `run` does, before it is verified.
+    fn signed_by(&self, content: Content<'_>, options: Options<'_>, run: impl Run) -> Result<Signature<P>, Error> {
+        let (plan, randomizer) = (Plan::of::<P>()?, options.randomizer.drawn::<P>()?);
+        let (mut start, mut first) = (vec![0; plan.start_len], Secrets::zeros(plan.answers_len));
+        let mut second = (self.is_twice || options.twice).then(|| Secrets::zeros(plan.answers_len));
+        done(self.write_start(content, options.context, slice(&randomizer), &mut start))
+            .map_err(|error| content.with_lengths(options.context, error))?;
+        let mut tasks = shares::<P>(plan.jobs, first.bytes_mut())?;
         if let Some(second) = &mut second {
-            tasks.extend(shares::<P>(plan.jobs, &mut second.0)?);
+            tasks.extend(shares::<P>(plan.jobs, second.bytes_mut())?);
         }
         let count = self.count.min(plan.jobs as usize);
         answer(count, tasks, |job, answer| run(&start, job, answer))?;
-        if second.is_some_and(|second| !are_same(&second.0, &first.0)) {
+        if second.is_some_and(|second| !are_same(second.bytes(), first.bytes())) {
             return Err(Error::Fault);
         }
-        join(self.secret, &start, &first.0)
+        join(self.secret, &start, first.bytes())
+    }
+
+    fn write_start(&self, content: Content<'_>, context: &[u8], random: &[u8], start: &mut [u8]) -> u32 {
+        let (set, sk) = (P::NUMBER, self.secret.slice());
+        match content {
+            Content::Pure(message) => call!(slh_sign_start(set; sk, message, context, random; start)),
+            Content::PreHash(function, message) => {
+                call!(slh_hash_sign_start(set, function as u32; sk, message, context, random; start))
+            }
+            Content::Digest(..) => unreachable!("workers sign no digests"),
+        }
     }
 }
 
-/// Whether both have the same bytes, after all of them were compared. Both have the same length.
-fn are_same(one: &[u8], other: &[u8]) -> bool {
-    one.iter().zip(other).fold(0, |all, (a, b)| all | (a ^ b)) == 0
-}
-
-/// What does a job of the signature of a start: it writes the answer.
+/// A function that does a job of the signature of a start: it writes the answer.
 trait Run: Fn(&[u8], u32, &mut [u8]) -> Result<(), Error> + Sync {}
 
 impl<F: Fn(&[u8], u32, &mut [u8]) -> Result<(), Error> + Sync> Run for F {}
@@ -89,61 +98,11 @@ fn answer(
 
 impl<P: ParameterSet> Signer<P> for Workers<'_, P> {
     fn sign_with(&self, message: &[u8], options: Options<'_>) -> Result<Signature<P>, Error> {
-        let randomizer = options.randomizer.drawn::<P>()?;
-        let (sk, context, random) = (self.secret.as_bytes().as_ref(), options.context, slice(&randomizer));
-        // SAFETY: each pointer is that of the slice whose length follows, and the output is the closure's alone.
-        self.signed(|start| unsafe {
-            slh_sys::slh_sign_start(
-                P::NUMBER,
-                sk.as_ptr(),
-                sk.len(),
-                message.as_ptr(),
-                message.len(),
-                context.as_ptr(),
-                context.len(),
-                random.as_ptr(),
-                random.len(),
-                start.as_mut_ptr(),
-                start.len(),
-            )
-        })
+        self.signed(Content::Pure(message), options)
     }
 
     fn hash_sign(&self, function: Function, message: &[u8], options: Options<'_>) -> Result<Signature<P>, Error> {
-        let randomizer = options.randomizer.drawn::<P>()?;
-        let (sk, context, random) = (self.secret.as_bytes().as_ref(), options.context, slice(&randomizer));
-        // SAFETY: as in `sign_with`.
-        self.signed(|start| unsafe {
-            slh_sys::slh_hash_sign_start(
-                P::NUMBER,
-                function as u32,
-                sk.as_ptr(),
-                sk.len(),
-                message.as_ptr(),
-                message.len(),
-                context.as_ptr(),
-                context.len(),
-                random.as_ptr(),
-                random.len(),
-                start.as_mut_ptr(),
-                start.len(),
-            )
-        })
-    }
-}
-
-/// The answers of all jobs, which are as secret as the key, and are overwritten when they are dropped.
-struct Answers(Vec<u8>);
-
-impl Answers {
-    fn of(plan: &Plan) -> Answers {
-        Answers(vec![0; plan.answers_len])
-    }
-}
-
-impl Drop for Answers {
-    fn drop(&mut self) {
-        erase(&mut self.0);
+        self.signed(Content::PreHash(function, message), options)
     }
 }
 
@@ -195,7 +154,7 @@ fn shares<P: ParameterSet>(jobs: u32, answers: &mut [u8]) -> Result<Vec<(u32, &m
 }
 
 fn sign_job<P: ParameterSet>(secret: &SecretKey<P>, start: &[u8], job: u32, answer: &mut [u8]) -> Result<(), Error> {
-    let sk = secret.as_bytes().as_ref();
+    let sk = secret.slice();
     // SAFETY: each pointer is that of the slice whose length follows, and the output is borrowed here alone.
     done(unsafe {
         slh_sys::slh_sign_job(
@@ -214,23 +173,8 @@ fn sign_job<P: ParameterSet>(secret: &SecretKey<P>, start: &[u8], job: u32, answ
 }
 
 fn join<P: ParameterSet>(secret: &SecretKey<P>, start: &[u8], answers: &[u8]) -> Result<Signature<P>, Error> {
-    let sk = secret.as_bytes().as_ref();
-    // SAFETY: each pointer is that of the slice whose length follows, and the output is borrowed by the closure alone.
-    Signature::written(|out| unsafe {
-        slh_sys::slh_sign_join(
-            P::NUMBER,
-            P::XMSS_LEVELS,
-            FORS_LEVELS,
-            sk.as_ptr(),
-            sk.len(),
-            start.as_ptr(),
-            start.len(),
-            answers.as_ptr(),
-            answers.len(),
-            out.as_mut_ptr(),
-            out.len(),
-        )
-    })
+    let (sk, levels) = (secret.slice(), P::XMSS_LEVELS);
+    Signature::written(|out| call!(slh_sign_join(P::NUMBER, levels, FORS_LEVELS; sk, start, answers; out)))
 }
 
 #[cfg(test)]
@@ -238,35 +182,20 @@ mod tests {
     use std::sync::atomic::{AtomicUsize, Ordering};
 
     use super::*;
-    use crate::sets::SlhDsaSha2_128f;
+    use crate::{Randomizer, SlhDsaSha2_128f};
 
     type Secret = SecretKey<SlhDsaSha2_128f>;
 
     const MESSAGE: &[u8] = b"letter";
 
-    /// The signature by jobs of the deterministic variant, where `act` is given each answer after its job.
+    /// The signature by jobs of the deterministic variant. `act` is given each answer after its job.
     fn signed(
         workers: &Workers<'_, SlhDsaSha2_128f>,
+        twice: bool,
         act: impl Fn(u32, &mut [u8]) + Sync,
     ) -> Result<Signature<SlhDsaSha2_128f>, Error> {
-        let sk = workers.secret.as_bytes();
-        // SAFETY: as in `sign_with`.
-        let begin = |start: &mut [u8]| unsafe {
-            slh_sys::slh_sign_start(
-                SlhDsaSha2_128f::NUMBER,
-                sk.as_ptr(),
-                sk.len(),
-                MESSAGE.as_ptr(),
-                MESSAGE.len(),
-                b"".as_ptr(),
-                0,
-                b"".as_ptr(),
-                0,
-                start.as_mut_ptr(),
-                start.len(),
-            )
-        };
-        workers.signed_by(begin, |start, job, answer| {
+        let options = Options { randomizer: Randomizer::Deterministic, twice, ..Options::default() };
+        workers.signed_by(Content::Pure(MESSAGE), options, |start, job, answer| {
             sign_job(workers.secret, start, job, answer)?;
             act(job, answer);
             Ok(())
@@ -285,7 +214,10 @@ mod tests {
                         answer[place.min(answer.len() - 1)] ^= 1;
                     }
                 };
-                let result = signed(&secret.workers(count).twice(), flip);
+                // The option and the method ask for the same.
+                let (workers, by_option) = (secret.workers(count), wrong_run == 0);
+                let workers = if by_option { workers } else { workers.twice() };
+                let result = signed(&workers, by_option, flip);
                 assert!(matches!(result, Err(Error::Fault)), "{job} {wrong_run} {place} {count}: {result:?}");
                 assert_eq!(runs.into_inner(), 2);
             }
@@ -299,9 +231,10 @@ mod tests {
             let workers = secret.workers(count);
             let jobs = AtomicUsize::new(0);
             let counted = |_, _: &mut [u8]| _ = jobs.fetch_add(1, Ordering::Relaxed);
-            let signatures = [signed(&workers, counted).unwrap(), signed(&workers.twice(), counted).unwrap()];
-            assert_eq!(signatures[0], signatures[1]);
-            assert_eq!(jobs.into_inner(), 3 * 55);
+            let once = signed(&workers, false, counted).unwrap();
+            assert_eq!(once, signed(&workers.twice(), false, counted).unwrap());
+            assert_eq!(once, signed(&workers, true, counted).unwrap());
+            assert_eq!(jobs.into_inner(), 5 * 55);
         }
     }
 }

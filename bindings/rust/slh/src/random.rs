@@ -1,14 +1,12 @@
 use std::io;
 
-use crate::Error;
-
 extern "C" {
     /// Of the C library: fills a buffer with random bytes of the system, and waits until its generator is ready.
     fn getrandom(buffer: *mut u8, len: usize, flags: u32) -> isize;
 }
 
 /// Fills a slice with fresh random bytes of the system.
-pub(crate) fn fill(bytes: &mut [u8]) -> Result<(), Error> {
+pub(crate) fn fill(bytes: &mut [u8]) -> io::Result<()> {
     let mut filled = 0;
     while filled < bytes.len() {
         let rest = &mut bytes[filled..];
@@ -19,7 +17,7 @@ pub(crate) fn fill(bytes: &mut [u8]) -> Result<(), Error> {
             Err(_) => {
                 let error = io::Error::last_os_error();
                 if error.kind() != io::ErrorKind::Interrupted {
-                    return Err(Error::RandomFailed(error));
+                    return Err(error);
                 }
             }
         }

@@ -19,7 +19,19 @@ pub enum Function {
     Sha2_512_256 = slh_sys::SLH_SHA2_512_256,
 }
 
-/// A parameter set (FIPS 205, section 11, Table 2). The six types that are one have no values: they stand as the type
+impl Function {
+    /// The length of a digest in bytes.
+    pub fn digest_len(self) -> usize {
+        match self {
+            Function::Sha2_224 | Function::Sha2_512_224 => 28,
+            Function::Sha2_256 | Function::Sha2_512_256 => 32,
+            Function::Sha2_384 => 48,
+            Function::Sha2_512 => 64,
+        }
+    }
+}
+
+/// A parameter set (FIPS 205, section 11, Table 2). Six types implement it. They have no values, and are the type
 /// parameter of keys and signatures.
 pub trait ParameterSet: private::Sealed + Copy + Debug + Eq + Send + Sync + 'static {
     /// libslh's number of the set.
@@ -34,7 +46,7 @@ pub trait ParameterSet: private::Sealed + Copy + Debug + Eq + Send + Sync + 'sta
     type PublicKeyBytes: Bytes;
     /// The bytes of a secret key, an array of 4n.
     type SecretKeyBytes: Bytes;
-    /// The levels of XMSS trees by which a signature is shared out: those of docs/BENCHMARKS.md for four workers.
+    /// The levels of XMSS trees by which workers divide a signature: those of docs/BENCHMARKS.md for four workers.
     #[doc(hidden)]
     const XMSS_LEVELS: u32;
 }
@@ -72,6 +84,16 @@ macro_rules! parameter_set {
         }
     };
 }
+
+/// The names of the six sets, and n.
+pub(crate) const NAMES: [(&str, usize); 6] = [
+    (SlhDsaSha2_128s::NAME, 16),
+    (SlhDsaSha2_128f::NAME, 16),
+    (SlhDsaSha2_192s::NAME, 24),
+    (SlhDsaSha2_192f::NAME, 24),
+    (SlhDsaSha2_256s::NAME, 32),
+    (SlhDsaSha2_256f::NAME, 32),
+];
 
 parameter_set!(SlhDsaSha2_128s, SLH_DSA_SHA2_128S, "SLH-DSA-SHA2-128s", 16, 7856, 4);
 parameter_set!(SlhDsaSha2_128f, SLH_DSA_SHA2_128F, "SLH-DSA-SHA2-128f", 16, 17088, 0);

@@ -1,21 +1,34 @@
 //! What calls refuse, and what they find invalid.
-use std::fs;
+use std::{
+    collections::HashMap,
+    fs,
+    io::{ErrorKind, Read},
+    slice,
+    sync::atomic::{AtomicBool, AtomicU64, Ordering},
+    thread,
+};
 
-use slh::{Error, Function, Options, PublicKey, Randomizer, SecretKey, Signature, Signer, SlhDsaSha2_128f, Verifier};
+use slh::{
+    Error, Function, Options, PublicKey, Randomizer, Refusal, SecretKey, Signature, Signer, SlhDsaSha2_128f, Verifier,
+};
 
 type Secret = SecretKey<SlhDsaSha2_128f>;
 
-const DETERMINISTIC: Options<'_> = Options { context: b"", randomizer: Randomizer::Deterministic };
+const DETERMINISTIC: Options<'_> =
+    Options { context: b"", randomizer: Randomizer::Deterministic, twice: false, verify: false };
 
 fn generated() -> Secret {
     Secret::generate().unwrap()
 }
 
-/// Whether a call was refused so. The refusal is shown as its number and name.
-fn is_refused<T>(result: Result<T, Error>, number: u32, name: &str) -> bool {
+/// Whether a call was refused so. The refusal is shown as its number and name, and the lengths if it is of a length.
+fn is_refused<T>(result: Result<T, Error>, number: u32, name: &str, lengths: &str) -> bool {
     let Err(error) = result else { return false };
     let Error::Refused(refusal) = error else { return false };
-    (refusal.number(), refusal.name().as_str()) == (number, name) && error.to_string() == format!("{number} {name}")
+    let shown = if lengths.is_empty() { format!("{number} {name}") } else { format!("{number} {name}: {lengths}") };
+    assert_eq!((error.to_string(), format!("{refusal:?}")), (shown.clone(), format!("Refusal({shown})")));
+    assert!(!refusal.text().is_empty());
+    (refusal.number(), refusal.name().as_str()) == (number, name)
 }
 
 /// The key with one bit changed in PK.root.
@@ -45,9 +58,11 @@ fn randomizers_are_drawn() {
     for signature in drawn.iter().chain(&same) {
         secret.public().verify(b"letter", signature).unwrap();
     }
-    for randomizer in [&[][..], &[0; 15]] {
+    for (randomizer, given) in [(&[][..], 0), (&[0; 15], 15)] {
         let options = Options { randomizer: Randomizer::Given(randomizer), ..Options::default() };
-        assert!(is_refused(secret.sign_with(b"letter", options), 17, "BadRandomizerLength"));
+        let lengths = format!("16 bytes expected, {given} given");
+        assert!(is_refused(secret.sign_with(b"letter", options), 17, "BadRandomizerLength", &lengths));
+        assert!(is_refused(secret.workers(2).sign_with(b"letter", options), 17, "BadRandomizerLength", &lengths));
     }
 }
 
@@ -63,11 +78,17 @@ fn contexts_have_at_most_255_bytes() {
     }
     let options = Options { context: &longer, ..Options::default() };
     let (function, workers) = (Function::Sha2_256, secret.workers(2));
-    assert!(is_refused(secret.sign_with(b"letter", options), 2, "ContextTooLong"));
-    assert!(is_refused(secret.hash_sign(function, b"letter", options), 2, "ContextTooLong"));
-    assert!(is_refused(secret.hash_sign_digest(function, &[0; 32], options), 2, "ContextTooLong"));
-    assert!(is_refused(workers.sign_with(b"letter", options), 2, "ContextTooLong"));
-    assert!(is_refused(workers.hash_sign(function, b"letter", options), 2, "ContextTooLong"));
+    for options in [options, Options { twice: true, ..options }, Options { verify: true, ..options }] {
+        for result in [
+            secret.sign_with(b"letter", options),
+            secret.hash_sign(function, b"letter", options),
+            secret.hash_sign_digest(function, &[0; 32], options),
+            workers.sign_with(b"letter", options),
+            workers.hash_sign(function, b"letter", options),
+        ] {
+            assert!(is_refused(result, 2, "ContextTooLong", "255 bytes at most expected, 256 given"));
+        }
+    }
 }
 
 #[test]
@@ -92,42 +113,151 @@ fn damage_is_invalid() {
 #[test]
 fn wrong_lengths_are_refused() {
     let secret = generated();
-    assert!(is_refused(Secret::try_from(&[0; 63][..]), 3, "BadLength"));
-    assert!(is_refused(PublicKey::<SlhDsaSha2_128f>::try_from(&[0; 33][..]), 3, "BadLength"));
+    assert!(is_refused(Secret::try_from(&[0; 63][..]), 3, "BadLength", "64 bytes expected, 63 given"));
+    let public = PublicKey::<SlhDsaSha2_128f>::try_from(&[0; 33][..]);
+    assert!(is_refused(public, 3, "BadLength", "32 bytes expected, 33 given"));
     let signature = secret.sign(b"letter").unwrap();
-    let signed = secret.hash_sign_digest(Function::Sha2_256, &[0; 31], Options::default());
-    assert!(is_refused(signed, 16, "BadDigestLength"));
-    let verdict = secret.public().hash_verify_digest(Function::Sha2_256, &[0; 31], b"", &signature);
-    assert!(is_refused(verdict, 16, "BadDigestLength"));
+    for (function, len) in [(Function::Sha2_256, 32), (Function::Sha2_512_224, 28), (Function::Sha2_384, 48)] {
+        let (digest, lengths) = (vec![0; len - 1], format!("{len} bytes expected, {} given", len - 1));
+        let verdict = secret.public().hash_verify_digest(function, &digest, b"", &signature);
+        assert!(is_refused(verdict, 16, "BadDigestLength", &lengths));
+        for twice in [false, true] {
+            let signed = secret.hash_sign_digest(function, &digest, Options { twice, ..Options::default() });
+            assert!(is_refused(signed, 16, "BadDigestLength", &lengths));
+        }
+    }
+}
+
+#[test]
+fn a_refusal_tells_its_lengths() {
+    let Err(Error::Refused(refusal)) = Secret::try_from(&[0; 63][..]) else { panic!("63 bytes are a key") };
+    assert_eq!((refusal.expected(), refusal.given()), (Some(64), Some(63)));
+    assert_eq!((Refusal::BAD_LENGTH.expected(), Refusal::BAD_LENGTH.given()), (None, None));
+    assert!(refusal == Refusal::BAD_LENGTH && refusal != Refusal::BAD_DIGEST_LENGTH);
 }
 
 #[test]
 fn a_wrong_root_signs_nothing_valid() {
     let wrong = with_a_wrong_root(&generated());
     for count in [0, 1, 2] {
-        assert!(is_refused(wrong.workers(count).sign(b"letter"), 25, "AnswersDisagree"));
+        assert!(is_refused(wrong.workers(count).sign(b"letter"), 25, "AnswersDisagree", ""));
     }
     let alone = wrong.sign(b"letter").unwrap();
     assert!(matches!(wrong.public().verify(b"letter", &alone), Err(Error::Invalid)));
 }
 
+/// `twice`, `verify`, and both.
+const CHECKED: [Options<'_>; 3] = [
+    Options { twice: true, ..DETERMINISTIC },
+    Options { verify: true, ..DETERMINISTIC },
+    Options { twice: true, verify: true, ..DETERMINISTIC },
+];
+
 #[test]
-fn any_number_of_workers_makes_the_same_signature() {
+fn workers_and_options_make_the_same_signature() {
     let secret = generated();
     let alone = secret.sign_with(b"letter", DETERMINISTIC).unwrap();
     for count in [0, 1, 3, usize::MAX] {
-        assert!(secret.workers(count).sign_with(b"letter", DETERMINISTIC).unwrap() == alone);
-        assert!(secret.workers(count).twice().sign_with(b"letter", DETERMINISTIC).unwrap() == alone);
+        let workers = secret.workers(count);
+        assert!(workers.sign_with(b"letter", DETERMINISTIC).unwrap() == alone);
+        assert!(workers.twice().sign_with(b"letter", DETERMINISTIC).unwrap() == alone);
+        for options in CHECKED {
+            assert!(workers.sign_with(b"letter", options).unwrap() == alone);
+        }
+    }
+    for options in CHECKED {
+        assert!(secret.sign_with(b"letter", options).unwrap() == alone);
     }
 }
 
 #[test]
-fn secrets_are_not_printed() {
-    let secret = generated();
-    assert_eq!(format!("{secret:?}"), "SecretKey(SLH-DSA-SHA2-128f)");
-    assert_eq!(format!("{secret:#?}"), "SecretKey(SLH-DSA-SHA2-128f)");
-    let workers = format!("{:?}", secret.workers(3));
-    assert_eq!(workers, "Workers { secret: SecretKey(SLH-DSA-SHA2-128f), count: 3, is_twice: false }");
+fn options_keep_the_forms_of_pre_hash() {
+    let (secret, function, digest) = (generated(), Function::Sha2_512, [7; 64]);
+    let by_message = secret.hash_sign(function, b"letter", DETERMINISTIC).unwrap();
+    let by_digest = secret.hash_sign_digest(function, &digest, DETERMINISTIC).unwrap();
+    for options in CHECKED {
+        assert!(secret.hash_sign(function, b"letter", options).unwrap() == by_message);
+        assert!(secret.workers(2).hash_sign(function, b"letter", options).unwrap() == by_message);
+        assert!(secret.hash_sign_digest(function, &digest, options).unwrap() == by_digest);
+    }
+}
+
+/// Under a wrong root each signature is not valid, as after a fault.
+#[test]
+fn an_invalid_signature_is_not_released() {
+    let (wrong, function) = (with_a_wrong_root(&generated()), Function::Sha2_256);
+    for twice in [false, true] {
+        let options = Options { verify: true, twice, ..Options::default() };
+        assert!(matches!(wrong.sign_with(b"letter", options), Err(Error::Fault)));
+        assert!(matches!(wrong.hash_sign(function, b"letter", options), Err(Error::Fault)));
+        assert!(matches!(wrong.hash_sign_digest(function, &[0; 32], options), Err(Error::Fault)));
+        assert!(wrong.sign_with(b"letter", Options { verify: false, ..options }).is_ok());
+    }
+}
+
+/// A message that another thread changes is another one in the second computation, as after a fault of memory.
+struct Changing(Vec<AtomicU64>);
+
+impl Changing {
+    fn bytes(&self) -> &[u8] {
+        // SAFETY: libslh alone reads the bytes, in C, while they change.
+        unsafe { slice::from_raw_parts(self.0.as_ptr().cast(), 8 * self.0.len()) }
+    }
+
+    /// Signs by a call while the message changes.
+    fn signed<T>(&self, sign: impl FnOnce(&[u8]) -> Result<T, Error>) -> Result<T, Error> {
+        let ended = AtomicBool::new(false);
+        thread::scope(|scope| {
+            scope.spawn(|| {
+                while !ended.load(Ordering::Relaxed) {
+                    self.0.iter().for_each(|it| _ = it.fetch_add(1, Ordering::Relaxed));
+                }
+            });
+            while self.0[0].load(Ordering::Relaxed) == 0 {}
+            let result = sign(self.bytes());
+            ended.store(true, Ordering::Relaxed);
+            result
+        })
+    }
+}
+
+/// Whether one of some signatures of a changing message is a fault: on a busy machine it may stay as it is for a time.
+fn are_faults<T>(sign: impl Fn(&[u8]) -> Result<T, Error>) -> bool {
+    (0..10).any(|_| {
+        let result = Changing((0..4).map(|_| AtomicU64::new(0)).collect()).signed(&sign);
+        assert!(matches!(result, Ok(_) | Err(Error::Fault)));
+        result.is_err()
+    })
+}
+
+#[test]
+fn two_computations_that_differ_are_a_fault() {
+    let (secret, function) = (generated(), Function::Sha2_256);
+    for twice in [false, true] {
+        let options = Options { twice, ..DETERMINISTIC };
+        assert_eq!(are_faults(|message| secret.sign_with(message, options)), twice);
+        assert_eq!(are_faults(|message| secret.hash_sign(function, message, options)), twice);
+        assert_eq!(are_faults(|digest| secret.hash_sign_digest(function, digest, options)), twice);
+    }
+}
+
+#[test]
+fn a_generator_is_handed_in() {
+    let bytes: Vec<u8> = (0..48).collect();
+    let mut rest = &bytes[..];
+    let secret = Secret::generate_from(|out| rest.read_exact(out)).unwrap();
+    assert_eq!(secret.as_bytes()[..48], bytes);
+    secret.check().unwrap();
+    let failed = Secret::generate_from(|out| rest.read_exact(out));
+    assert!(matches!(failed, Err(Error::RandomFailed(error)) if error.kind() == ErrorKind::UnexpectedEof));
+}
+
+#[test]
+fn public_keys_are_keys_of_maps() {
+    let (one, other) = (generated().public(), generated().public());
+    let names = HashMap::from([(one, "one"), (other, "other")]);
+    let again = PublicKey::from_bytes(*one.as_bytes());
+    assert_eq!((names.get(&again), names.get(&other), names.len()), (Some(&"one"), Some(&"other"), 2));
 }
 
 #[test]

@@ -2,8 +2,9 @@
 use std::{fs, path::Path};
 
 use slh::{
-    Error, Function, Options, ParameterSet, PublicKey, Randomizer, SecretKey, Signature, Signer, SlhDsaSha2_128f,
-    SlhDsaSha2_128s, SlhDsaSha2_192f, SlhDsaSha2_192s, SlhDsaSha2_256f, SlhDsaSha2_256s, Verifier,
+    AnyPublicKey, AnySecretKey, Error, Function, Options, ParameterSet, PublicKey, Randomizer, SecretKey, Signature,
+    Signer, SlhDsaSha2_128f, SlhDsaSha2_128s, SlhDsaSha2_192f, SlhDsaSha2_192s, SlhDsaSha2_256f, SlhDsaSha2_256s,
+    Verifier,
 };
 
 const FOLDER: &str = concat!(env!("CARGO_MANIFEST_DIR"), "/../../../vectors");
@@ -84,19 +85,26 @@ fn keys_are_those_of_their_seeds() {
     keygen_of::<SlhDsaSha2_256f>();
 }
 
-/// Signs as a test says, in one thread and in two.
+/// Signs as a test says, in one thread and in two, and again two times and verified.
 fn sign_as<P: ParameterSet>(test: &Test) {
     let secret = SecretKey::<P>::try_from(&test.bytes("sk")[..]).unwrap();
     let (message, context, random) = (test.bytes("message"), test.bytes("context"), test.bytes("random"));
     let randomizer = if random.is_empty() { Randomizer::Deterministic } else { Randomizer::Given(&random) };
-    let options = Options { context: &context, randomizer };
-    let signed = |signer: &dyn Signer<P>| match test.function() {
+    let options = Options { context: &context, randomizer, ..Options::default() };
+    let checked = Options { twice: true, verify: true, ..options };
+    let signed = |signer: &dyn Signer<P>, options| match test.function() {
         None => signer.sign_with(&message, options).unwrap(),
         Some(function) => signer.hash_sign(function, &message, options).unwrap(),
     };
-    for signature in [signed(&secret), signed(&secret.workers(2))] {
+    for signature in [signed(&secret, options), signed(&secret, checked), signed(&secret.workers(2), options)] {
         assert!(signature.as_bytes() == test.bytes("signature"), "{} {}", P::NAME, test.text("form"));
     }
+    let any = AnySecretKey::from_bytes(P::NAME, &test.bytes("sk")).unwrap();
+    let bytes = match test.function() {
+        None => any.sign_with(&message, options).unwrap(),
+        Some(function) => any.hash_sign(function, &message, options).unwrap(),
+    };
+    assert!(bytes[..] == test.bytes("signature"));
 }
 
 fn sign_of<P: ParameterSet>() {
@@ -125,6 +133,12 @@ fn verify_of<P: ParameterSet>() {
                 None => public.verify_with(&message, &context, &signature),
                 Some(function) => public.hash_verify(function, &message, &context, &signature),
             });
+        let (any, sig) = (AnyPublicKey::from_bytes(P::NAME, &test.bytes("pk")).unwrap(), test.bytes("signature"));
+        let by_any = match test.function() {
+            None => any.verify_with(&message, &context, &sig),
+            Some(function) => any.hash_verify(function, &message, &context, &sig),
+        };
+        assert_eq!(by_any.is_ok(), test.is_valid());
         match verdict {
             Ok(()) => assert!(test.is_valid(), "valid: {}", test.0),
             Err(Error::Invalid) => assert!(!test.is_valid(), "invalid: {}", test.0),
