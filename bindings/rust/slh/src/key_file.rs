@@ -1,9 +1,9 @@
 //! Key files (docs/FORMATS.md, "Key file").
 use std::{
-    fs::{self, OpenOptions, Permissions},
+    fs::{self, OpenOptions},
     io::{self, Read, Write},
     ops::Range,
-    os::unix::fs::{OpenOptionsExt, PermissionsExt},
+    os::unix::fs::OpenOptionsExt,
     path::Path,
 };
 
@@ -160,10 +160,6 @@ pub(crate) fn write(mut writer: impl Write, kind: Kind, set: &str, key: &[u8]) -
 pub(crate) fn dump(path: &Path, kind: Kind, set: &str, key: &[u8]) -> Result<(), Error> {
     let mut file = created(path, kind).map_err(Error::WriteFailed)?;
     whole_or_removed(path, || {
-        if kind == Kind::Secret {
-            // Also under a umask that takes rights from the owner.
-            file.set_permissions(Permissions::from_mode(0o600)).map_err(Error::WriteFailed)?;
-        }
         write(&mut file, kind, set, key)?;
         file.sync_all().map_err(Error::WriteFailed)
     })

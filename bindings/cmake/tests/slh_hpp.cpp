@@ -1,0 +1,291 @@
+// Tests include/slh.hpp: tests of a vector file from standard input, and the types by themselves. tests.sh of this
+// folder compiles and runs it. The last line has the counts, and the status is 0 if nothing failed.
+#include <slh.hpp>
+
+#include <malloc.h>
+
+#include <algorithm>
+#include <array>
+#include <atomic>
+#include <cstdlib>
+#include <iostream>
+#include <map>
+#include <new>
+#include <sstream>
+#include <thread>
+#if __cplusplus >= 202002L
+#include <span>
+#endif
+
+namespace {
+
+int passed = 0, failed = 0;
+
+void expect(bool holds, const std::string &name) {
+    ++(holds ? passed : failed);
+    if (!holds) std::cout << "failed: " << name << '\n';
+}
+
+// Whether a call throws this refusal, and says so: its number, and a part of its text.
+template <class F> bool refuses(F call, std::uint32_t number, const std::string &said) {
+    try {
+        call();
+    } catch (const slh::Error &error) {
+        return error.number == number && std::string(error.what()).find(said) != std::string::npos &&
+               std::string(error.text()).size() > 3;
+    }
+    return false;
+}
+
+slh::Bytes from_digits(const std::string &digits) {
+    slh::Bytes bytes;
+    for (std::size_t at = 0; at + 1 < digits.size(); at += 2)
+        bytes.push_back(static_cast<std::uint8_t>(std::stoul(digits.substr(at, 2), nullptr, 16)));
+    return bytes;
+}
+
+// A test of a vector file: a line of words `name=value`.
+using Test = std::map<std::string, std::string>;
+
+Test read_test(const std::string &line) {
+    Test test;
+    std::istringstream words(line);
+    for (std::string word; words >> word;) {
+        const std::size_t at = word.find('=');
+        test[word.substr(0, at)] = word.substr(at + 1);
+    }
+    return test;
+}
+
+constexpr slh_set set = SLH_DSA_SHA2_128F;
+const std::map<std::string, slh_function> functions = {
+    {"SHA2-224", SLH_SHA2_224}, {"SHA2-256", SLH_SHA2_256},         {"SHA2-384", SLH_SHA2_384},
+    {"SHA2-512", SLH_SHA2_512}, {"SHA2-512/224", SLH_SHA2_512_224}, {"SHA2-512/256", SLH_SHA2_512_256},
+};
+
+slh::Bytes bytes_of(const Test &test, const std::string &name) { return from_digits(test.at(name)); }
+
+void keygen(const Test &test) {
+    const auto sk = slh::SecretKey::keygen(set, bytes_of(test, "skSeed"), bytes_of(test, "skPrf"),
+                                           bytes_of(test, "pkSeed"));
+    const slh::View bytes = sk.bytes();
+    expect(slh::Bytes(bytes.data, bytes.data + bytes.size) == bytes_of(test, "sk"), "the secret key of seeds");
+    expect(sk.public_key().bytes() == bytes_of(test, "pk") && sk.check(), "the public key of seeds");
+}
+
+void sign(const Test &test) {
+    const auto sk = slh::SecretKey::from_bytes(set, bytes_of(test, "sk"));
+    const slh::Bytes message = bytes_of(test, "message"), context = bytes_of(test, "context");
+    const slh::Bytes random = bytes_of(test, "random");
+    slh::Options options;
+    options.context = context, options.randomizer = random, options.deterministic = random.empty();
+    for (const int checks : {0, 1, 2, 3}) {
+        options.twice = checks & 1, options.verify = checks & 2;
+        const bool is_pure = test.at("form") == "pure";
+        const slh::Bytes made =
+            is_pure ? sk.sign(message, options) : sk.hash_sign(functions.at(test.at("form")), message, options);
+        expect(made == bytes_of(test, "signature"), "a signature of " + test.at("form"));
+    }
+}
+
+void verify(const Test &test) {
+    const slh::PublicKey pk(set, bytes_of(test, "pk"));
+    const slh::Bytes message = bytes_of(test, "message"), context = bytes_of(test, "context");
+    const slh::Bytes signature = bytes_of(test, "signature");
+    const bool is_valid = test.at("form") == "pure"
+                              ? pk.verify(message, signature, context)
+                              : pk.hash_verify(functions.at(test.at("form")), message, signature, context);
+    expect(is_valid == (test.at("valid") == "True"), "a verdict of " + test.at("form"));
+}
+
+void run_vectors() {
+    std::map<std::string, int> kinds;
+    for (std::string line; std::getline(std::cin, line);) {
+        const Test test = read_test(line);
+        const std::string kind = test.at("kind");
+        ++kinds[kind];
+        kind == "keygen" ? keygen(test) : kind == "sign" ? sign(test) : verify(test);
+    }
+    expect(kinds["keygen"] > 0 && kinds["sign"] > 1 && kinds["verify"] > 1, "tests of each kind");
+}
+
+template <class T, class = void> struct Streams : std::false_type {};
+template <class T>
+struct Streams<T, std::void_t<decltype(std::declval<std::ostream &>() << std::declval<const T &>())>>
+    : std::true_type {};
+template <class T, class = void> struct Compares : std::false_type {};
+template <class T>
+struct Compares<T, std::void_t<decltype(std::declval<const T &>() == std::declval<const T &>())>> : std::true_type {};
+
+// What a type can do, which none of them may do by accident.
+void test_traits() {
+    using Key = slh::SecretKey;
+    static_assert(!std::is_copy_constructible_v<Key> && !std::is_copy_assignable_v<Key>);
+    static_assert(std::is_nothrow_move_constructible_v<Key> && std::is_nothrow_move_assignable_v<Key>);
+    static_assert(!Streams<Key>::value && !Compares<Key>::value && !std::is_default_constructible_v<Key>);
+    static_assert(!std::is_convertible_v<Key, slh::View> && !std::is_convertible_v<Key, slh::PublicKey>);
+    static_assert(!std::is_trivially_copyable_v<Key> && !std::is_polymorphic_v<Key>);
+    static_assert(Compares<slh::PublicKey>::value && std::is_copy_constructible_v<slh::PublicKey>);
+    static_assert(Streams<int>::value && Compares<int>::value, "these find what is there");
+    auto first = Key::generate(set);
+    const slh::PublicKey public_key = first.public_key();
+    Key second = std::move(first);
+    expect(second.public_key() == public_key, "a key moves");
+    try {
+        (void)first.sign("letter"); // NOLINT: it was moved from
+        expect(false, "a key that was moved signs nothing");
+    } catch (const std::logic_error &) {
+        expect(true, "a key that was moved signs nothing");
+    }
+    expect(!(Key::generate(set).public_key() == public_key), "keys differ");
+}
+
+void test_views() {
+    const auto sk = slh::SecretKey::generate(set);
+    const slh::PublicKey pk = sk.public_key();
+    const std::string text = "letter";
+    const std::array<unsigned char, 6> array = {'l', 'e', 't', 't', 'e', 'r'};
+    slh::Options options;
+    options.deterministic = true;
+    const slh::Bytes signature = sk.sign("letter", options);
+    expect(signature == sk.sign(text, options) && signature == sk.sign(array, options), "views of one message");
+    expect(signature == sk.sign(std::string_view(text), options), "a view of a string_view");
+    expect(signature == sk.sign({text.data(), text.size()}, options), "a view of a pointer and a length");
+#if __cplusplus >= 202002L
+    expect(signature == sk.sign(std::span(array), options), "a view of a span");
+    expect(signature == sk.sign("letter", {.deterministic = true, .twice = true}), "options by name");
+#endif
+    expect(pk.verify(text, signature) && !pk.verify("Letter", signature), "verdicts");
+    expect(sk.sign("letter") != sk.sign("letter"), "randomizers are drawn");
+    const slh::Bytes digest(32);
+    const slh::Bytes by_digest = sk.hash_sign_digest(SLH_SHA2_256, digest);
+    expect(pk.hash_verify_digest(SLH_SHA2_256, digest, by_digest), "a signature by its digest");
+    expect(!pk.hash_verify_digest(SLH_SHA2_512_256, digest, by_digest), "a verdict of another function");
+}
+
+void test_refusals() {
+    const auto sk = slh::SecretKey::generate(set);
+    const slh::Bytes some(300);
+    slh::Options options;
+    options.context = some;
+    expect(refuses([&] { (void)sk.sign("letter", options); }, 2, "2 ContextTooLong"), "a long context");
+    options = {}, options.randomizer = slh::View(some.data(), 15);
+    expect(refuses([&] { (void)sk.sign("letter", options); }, 17,
+                   "17 BadRandomizerLength: 16 bytes expected, 15 given"), "a short randomizer");
+    options.randomizer = slh::View(some.data(), 16), options.deterministic = true;
+    expect(refuses([&] { (void)sk.sign("letter", options); }, 17, "0 bytes expected, 16 given"), "both randomizers");
+    expect(refuses([&] { slh::PublicKey(set, {some.data(), 33}); }, 3, "3 BadLength: 32 bytes expected, 33 given"),
+           "a long public key");
+    expect(refuses([&] { slh::SecretKey::from_bytes(set, {some.data(), 63}); }, 3,
+                   "3 BadLength: 64 bytes expected, 63 given"), "a short secret key");
+    expect(refuses([] { slh::SecretKey::generate(static_cast<slh_set>(7)); }, 8, "8 NoSuchSet"), "no set");
+    expect(refuses([&] { (void)sk.hash_sign_digest(SLH_SHA2_256, "short"); }, 16, "16 BadDigestLength"), "a digest");
+    expect(!sk.public_key().verify("letter", slh::View(some)), "a signature of another length is invalid");
+}
+
+// SK.seed, which is searched for in each block of memory that is freed.
+slh::Bytes *wanted = nullptr;
+int left = 0, freed = 0;
+
+// Whether blocks of a signature's length are counted that are freed, and of these the ones that have other bytes than 0.
+bool is_counting = false;
+int signatures = 0, kept_signatures = 0;
+
+void count_signature(const std::uint8_t *bytes, std::size_t size) {
+    if (!is_counting || size < SLH_DSA_SHA2_128F_SIGNATURE) return;
+    ++signatures;
+    kept_signatures += std::any_of(bytes, bytes + SLH_DSA_SHA2_128F_SIGNATURE, [](int byte) { return byte != 0; });
+}
+
+
+// Under a wrong root each signature is not valid, as after a fault.
+void test_faults() {
+    const auto right = slh::SecretKey::generate(set);
+    slh::Bytes bytes(right.bytes().data, right.bytes().data + right.bytes().size);
+    bytes.back() ^= 1;
+    const auto wrong = slh::SecretKey::from_bytes(set, bytes);
+    expect(!wrong.check() && right.check(), "check");
+    slh::Options options;
+    expect(!wrong.public_key().verify("letter", wrong.sign("letter", options)), "a wrong root signs nothing valid");
+    options.verify = is_counting = true;
+    expect(refuses([&] { (void)wrong.sign("letter", options); }, SLH_FAULT, "38 "), "verify finds it");
+    is_counting = false;
+    expect(signatures == 1 && kept_signatures == 0, "a signature that is not valid is erased");
+    expect(refuses([&] { (void)wrong.hash_sign(SLH_SHA2_256, "letter", options); }, SLH_FAULT, "38 "), "pre-hash");
+    expect(refuses([&] { (void)wrong.hash_sign_digest(SLH_SHA2_256, slh::Bytes(32), options); }, SLH_FAULT, "38 "),
+           "by the digest");
+}
+
+// Whether one of some signatures of a message that another thread changes is a fault.
+bool finds_changes(const slh::SecretKey &sk, bool twice) {
+    static std::array<std::atomic<std::uint64_t>, 4> message{};
+    slh::Options options;
+    options.deterministic = true, options.twice = twice;
+    std::atomic<bool> ended{false};
+    std::thread writer([&] { while (!ended) for (auto &it : message) ++it; });
+    bool found = false;
+    for (int count = 0; count < 10 && !found; ++count)
+        found = refuses([&] { (void)sk.sign({message.data(), sizeof message}, options); }, SLH_FAULT, "38 ");
+    ended = true;
+    writer.join();
+    return found;
+}
+
+} // namespace
+
+void operator delete(void *block) noexcept {
+    const auto *bytes = static_cast<const std::uint8_t *>(block);
+    const std::size_t size = block == nullptr ? 0 : malloc_usable_size(block);
+    count_signature(bytes, size);
+    if (wanted != nullptr && size >= 16) {
+        ++freed;
+        for (std::size_t at = 0; at + 16 <= size; ++at)
+            if (std::equal(wanted->begin(), wanted->begin() + 16, bytes + at)) ++left;
+    }
+    std::free(block);
+}
+void operator delete(void *block, std::size_t) noexcept { operator delete(block); }
+void *operator new(std::size_t size) {
+    if (void *block = std::malloc(size)) return block;
+    throw std::bad_alloc();
+}
+
+namespace {
+
+void fill_with_sevens(std::uint8_t *bytes, std::size_t size) {
+    for (std::size_t at = 0; at < size; ++at) bytes[at] = static_cast<std::uint8_t>(7 * at + 1);
+}
+
+void test_erased() {
+    static slh::Bytes seeds(48);
+    fill_with_sevens(seeds.data(), seeds.size());
+    wanted = &seeds;
+    {
+        auto sk = slh::SecretKey::generate(set, fill_with_sevens);
+        const auto again = slh::SecretKey::from_bytes(set, sk.bytes());
+        slh::Options options;
+        options.twice = options.verify = true;
+        const auto moved = std::move(sk);
+        expect(moved.public_key().verify("letter", again.sign("letter", options)), "a key of a source of one's own");
+    }
+    wanted = nullptr;
+    expect(freed > 3 && left == 0, std::to_string(left) + " of " + std::to_string(freed) + " blocks have SK.seed");
+}
+
+} // namespace
+
+int main() try {
+    run_vectors();
+    test_traits();
+    test_views();
+    test_refusals();
+    test_faults();
+    const auto sk = slh::SecretKey::generate(set);
+    expect(finds_changes(sk, true) && !finds_changes(sk, false), "twice finds two results that differ");
+    test_erased();
+    std::cout << passed << " passed, " << failed << " failed, 0 skipped\n";
+    return failed != 0;
+} catch (const std::exception &error) {
+    std::cout << "failed: " << error.what() << '\n';
+    return 1;
+}

@@ -1,0 +1,64 @@
+#!/usr/bin/env bash
+# Tests include/slh.hpp, the header of types for C++, over a library that tools/library.sh has installed: slh_hpp.cpp is
+# compiled as C++17 and as C++20 by each of GCC and clang that is there, and runs over vectors of the set 128f.
+#
+# usage: bindings/cmake/tests/slh_hpp.sh PREFIX
+#
+# The last line has the counts, and the status is 0 if nothing failed.
+set -u
+here=$(cd "$(dirname "${BASH_SOURCE[0]}")/../../.." && pwd)
+work=$(mktemp -d)
+trap 'rm -rf "$work"' EXIT
+source "$here/tests/counts.sh"
+source "$here/tests/library_parts.sh"
+[ $# = 1 ] && [ -f "$1/lib/libslh.a" ] || nothing_to_test "usage: slh_hpp.sh PREFIX, which has lib/libslh.a"
+prefix=$1
+
+# The tests of a vector file, but for those of the internal form: a line each, of words NAME=VALUE.
+write_vectors() {
+    python3 - "$here/vectors/slh-dsa-sha2-128f.json" <<'END'
+import json, sys
+for test in json.load(open(sys.argv[1])):
+    if test.get("form") != "internal":
+        print(*(f"{name}={value}" for name, value in test.items() if name != "comment"))
+END
+}
+
+# Compiles and runs the test program: COMPILER and STANDARD.
+test_types() {
+    one "$1 compiles slh.hpp as $2" "$1" -std="$2" -O1 "${strict[@]}" -I "$here/include" -I "$prefix/include" \
+        -o "$work/slh_hpp" "$here/bindings/cmake/tests/slh_hpp.cpp" "$prefix/lib/libslh.a" -pthread &&
+        count "$1, $2: types of slh.hpp" by_vectors "$work/slh_hpp"
+}
+
+by_vectors() {
+    "$1" <"$work/vectors"
+}
+
+# Whether a program that uses a secret key in a way that has to be refused does not compile: COMPILER and STATEMENT.
+is_refused() {
+    printf '#include <slh.hpp>\n#include <iostream>\nvoid it(slh::SecretKey key, slh::SecretKey other) { %s; }\n' "$2" \
+        >"$work/refused.cpp"
+    ! "$1" -std=c++17 -Werror -fsyntax-only -I "$here/include" -I "$prefix/include" "$work/refused.cpp" 2>"$work/why" &&
+        grep -q "refused.cpp.*error" "$work/why"
+}
+
+compiles() {
+    ! is_refused "$@"
+}
+
+one "slh.hpp has at most 150 lines" test "$(wc -l <"$here/include/slh.hpp")" -le 150
+if can_run "C++" python3; then
+    write_vectors >"$work/vectors"
+    for cxx in g++ clang++; do
+        if can_run "C++ by $cxx" "$cxx"; then
+            for standard in c++17 c++20; do test_types "$cxx" "$standard"; done
+            one "$cxx takes: other = std::move(key)" compiles "$cxx" 'other = std::move(key)'
+            for statement in 'slh::SecretKey copy = key' 'key = other' 'std::cout << key' 'bool same = key == other' \
+                'slh::View view = key' 'slh::PublicKey(SLH_DSA_SHA2_256F, key)' 'key.check()'; do
+                one "$cxx refuses: $statement" is_refused "$cxx" "$statement"
+            done
+        fi
+    done
+fi
+end_counts
