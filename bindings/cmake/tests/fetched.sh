@@ -1,0 +1,80 @@
+#!/usr/bin/env bash
+# Tests the CMakeLists.txt at the top of the repository: the project in fetched/ takes this clone by FetchContent, over
+# the release in dist/ and over an installed library. A damaged release is refused.
+#
+# usage: bindings/cmake/tests/fetched.sh PREFIX
+#
+# PREFIX is a folder that tools/library.sh has installed into. The last line has the counts, and the status is 0 if
+# nothing failed.
+set -u
+here=$(cd "$(dirname "${BASH_SOURCE[0]}")/../../.." && pwd)
+work=$(mktemp -d)
+trap 'rm -rf "$work"' EXIT
+source "$here/tests/counts.sh"
+source "$here/tests/library_parts.sh"
+[ $# = 1 ] && [ -f "$1/lib/libslh.a" ] || nothing_to_test "usage: fetched.sh PREFIX, which has lib/libslh.a"
+prefix=$(realpath "$1")
+
+# Configures the project over a CLONE in the folder BUILT, with further words.
+configure() {
+    local clone=$1 built=$2
+    shift 2
+    cmake -S "$here/bindings/cmake/tests/fetched" -B "$built" -DCLONE="$clone" -DSOURCES="$here" -DKEY="$work" "$@"
+}
+
+# Whether the programs of a folder BUILT give the vectors, and judge images: a NAME, and the libraries.
+runs() {
+    local name=$1 built=$2 library
+    shift 2
+    for library in "$@"; do
+        count "$name: vectors over slh::$library" "$here/tests/library_vectors.py" --few \
+            --through "$built/calls_$library"
+    done
+    one "$name: slh::verify judges images" judges_images "$built/verify_image"
+}
+
+# Whether a project stops and names this file of the release, in a copy where it is changed by a command: FILE, and the
+# command.
+stops_at() {
+    local file=$1
+    shift
+    rm -rf "$work/clone" && mkdir "$work/clone" && cp -r "$here/CMakeLists.txt" "$here/dist" "$work/clone/" &&
+        "$@" && ! configure "$work/clone" "$work/stopped" >"$work/why" 2>&1 && grep -qF "dist/$file" "$work/why"
+}
+
+damage() {
+    printf x >>"$work/clone/dist/$1"
+}
+
+with_release() {
+    local file
+    one "release: the project takes the clone" configure "$here" "$work/release"
+    one "release: programs are built" cmake --build "$work/release" --parallel 2
+    runs release "$work/release" slh shared portable
+    for file in x86-64/libslh.a x86-64/libslh.so.0 x86-64-v2/libslh_verify.a portable/slh.c include/slh.h; do
+        one "release: a damaged $file is refused" stops_at "$file" damage "$file"
+    done
+    one "release: a missing file is refused" stops_at x86-64/libslh.a rm "$work/clone/dist/x86-64/libslh.a"
+    one "release: a file without a hash is refused" stops_at x86-64/libslh.a sed -i '/x86-64\/libslh.a/d' \
+        "$work/clone/dist/SHA256SUMS"
+}
+
+with_prefix() {
+    one "prefix: the project takes the clone" configure "$here" "$work/installed" -DSLH_PREFIX="$prefix"
+    one "prefix: programs are built" cmake --build "$work/installed"
+    one "prefix: they have the installed library" grep -qF "$prefix/lib/libslh.a" \
+        "$work/installed/CMakeFiles/calls_slh.dir/link.txt"
+    runs prefix "$work/installed" slh shared
+    one "prefix: a folder without a library is refused" refuses_empty
+}
+
+refuses_empty() {
+    ! configure "$here" "$work/none" -DSLH_PREFIX="$work" >"$work/why" 2>&1 && grep -qF slh-config.cmake "$work/why"
+}
+
+make_image
+if can_run "CMake: FetchContent" cmake cc python3; then
+    with_release
+    with_prefix
+fi
+end_counts
