@@ -241,6 +241,17 @@ fn two_computations_that_differ_are_a_fault() {
     }
 }
 
+/// The signature of a message that changes is not valid for the message that is verified.
+#[test]
+fn workers_verify_before_release() {
+    let secret = generated();
+    for verify in [false, true] {
+        let options = Options { verify, ..DETERMINISTIC };
+        assert_eq!(are_faults(|message| secret.workers(2).sign_with(message, options)), verify);
+        assert_eq!(are_faults(|message| secret.workers(2).hash_sign(Function::Sha2_256, message, options)), verify);
+    }
+}
+
 #[test]
 fn a_generator_is_handed_in() {
     let bytes: Vec<u8> = (0..48).collect();
