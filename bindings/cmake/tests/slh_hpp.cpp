@@ -117,7 +117,7 @@ template <class T, class = void> struct Compares : std::false_type {};
 template <class T>
 struct Compares<T, std::void_t<decltype(std::declval<const T &>() == std::declval<const T &>())>> : std::true_type {};
 
-// What a type can do, which none of them may do by accident.
+// Operations that a secret key does not have, and that other types have.
 void test_traits() {
     using Key = slh::SecretKey;
     static_assert(!std::is_copy_constructible_v<Key> && !std::is_copy_assignable_v<Key>);

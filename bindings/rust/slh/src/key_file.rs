@@ -81,7 +81,7 @@ pub(crate) fn read(reader: impl Read, kind: Kind) -> Result<KeyFile, Error> {
     Ok(KeyFile { front, digits, set })
 }
 
-/// Reads a file as far as its key or its first fault depends on it: the bytes, and their number.
+/// Reads a file as far as its key or its first fault depends on it. Returns the bytes and their number.
 fn front(mut reader: impl Read) -> io::Result<(Secrets, usize)> {
     let (mut front, mut part, mut len) = (Secrets::zeros(MOST + 1), Secrets::zeros(MOST), 0);
     while len <= MOST {
@@ -96,7 +96,7 @@ fn front(mut reader: impl Read) -> io::Result<(Secrets, usize)> {
     Ok((front, len))
 }
 
-/// Writes the next bytes of a file into what is left of its front, and tells how many.
+/// Writes the next bytes of a file into the rest of its front, and returns their number.
 fn pushed(rest: &mut [u8], part: &[u8]) -> usize {
     let (near, far) = part.split_at(part.len().min(rest.len() - 1));
     rest[..near.len()].copy_from_slice(near);

@@ -15,8 +15,8 @@ pub struct Options<'a> {
     /// hardware faults: one wrong signature under a key can be enough to forge others (docs/JOBS.md, "Faults").
     pub twice: bool,
     /// Verifies the signature under the public key before it is returned. If it is not valid it is overwritten with
-    /// zeros: [`Error::Fault`]. This finds fewer faults than `twice`: a signature can be valid, and still show more
-    /// of the key than the right one. Both can be asked for.
+    /// zeros: [`Error::Fault`]. This finds fewer faults than `twice`: a wrong signature can be valid, and still let
+    /// others forge. Both can be asked for.
     pub verify: bool,
 }
 
@@ -62,7 +62,7 @@ pub(crate) fn slice<B: Bytes>(bytes: &Option<B>) -> &[u8] {
     bytes.as_ref().map_or(&[], |bytes| bytes.as_ref())
 }
 
-/// What a signature is of, in one of the forms.
+/// The message or the digest of a signature, with its form.
 #[derive(Clone, Copy)]
 pub(crate) enum Content<'a> {
     Pure(&'a [u8]),

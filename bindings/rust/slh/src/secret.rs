@@ -21,8 +21,8 @@ pub trait Signer<P: ParameterSet> {
     /// `BadRandomizerLength` for a given randomizer that does not have n bytes. `Error::RandomFailed` if the system
     /// gives no random bytes for a randomizer. `Error::Fault` as the options say.
     ///
-    /// Under a key that [`check`](SecretKey::check) finds invalid, a [`SecretKey`] makes a signature that is not valid,
-    /// and any number of [`Workers`] is refused as `AnswersDisagree`.
+    /// If [`check`](SecretKey::check) finds the key invalid, a [`SecretKey`] makes a signature that is not valid, and
+    /// [`Workers`] are refused as `AnswersDisagree`.
     fn sign_with(&self, message: &[u8], options: Options<'_>) -> Result<Signature<P>, Error>;
 
     /// Signs in the pre-hash form (Algorithm 23), with a digest that this computes. Errors are those of `sign_with`.

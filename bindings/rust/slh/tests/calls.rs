@@ -1,4 +1,4 @@
-//! What calls refuse, and what they find invalid.
+//! Refusals of calls, verdicts, options and generators.
 use std::{
     collections::HashMap,
     fs,

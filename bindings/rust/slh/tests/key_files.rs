@@ -92,7 +92,7 @@ fn damaged_files_are_refused_as_by_the_program() {
         };
         let text = String::from_utf8_lossy(&row.file);
         assert_eq!(any, row.refusal, "{text}");
-        // The types of one set judge the same, but that a key of another set is an error of its own.
+        // The types of one set refuse the same files.
         let typed = if row.is_secret {
             SecretKey::<SlhDsaSha2_128f>::read_from(&row.file[..]).map(drop)
         } else {

@@ -17,7 +17,7 @@ use slh::{
 
 type Secret = SecretKey<SlhDsaSha2_128f>;
 
-/// What one prints values by.
+/// A way to print values, by its name.
 type Way = (&'static str, fn(&dyn Debug) -> Vec<u8>);
 
 const WAYS: [Way; 11] = [
@@ -87,7 +87,7 @@ fn leak(output: &[u8], secret: &[u8]) -> Option<&'static str> {
     None
 }
 
-/// What is searched for: SK.seed and SK.prf.
+/// The bytes that no output may show: SK.seed and SK.prf.
 fn seeds(secret: &Secret) -> Vec<u8> {
     secret.as_bytes()[..32].to_vec()
 }
