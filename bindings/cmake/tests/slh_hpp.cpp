@@ -208,11 +208,11 @@ void test_faults() {
     slh::Options options;
     expect(!wrong.public_key().verify("letter", wrong.sign("letter", options)), "a wrong root signs nothing valid");
     options.verify = is_counting = true;
-    expect(refuses([&] { (void)wrong.sign("letter", options); }, SLH_FAULT, "38 "), "verify finds it");
+    expect(refuses([&] { (void)wrong.sign("letter", options); }, SLH_FAULT, "38 Fault"), "verify finds it");
     is_counting = false;
     expect(signatures == 1 && kept_signatures == 0, "a signature that is not valid is erased");
-    expect(refuses([&] { (void)wrong.hash_sign(SLH_SHA2_256, "letter", options); }, SLH_FAULT, "38 "), "pre-hash");
-    expect(refuses([&] { (void)wrong.hash_sign_digest(SLH_SHA2_256, slh::Bytes(32), options); }, SLH_FAULT, "38 "),
+    expect(refuses([&] { (void)wrong.hash_sign(SLH_SHA2_256, "letter", options); }, SLH_FAULT, "38 Fault"), "pre-hash");
+    expect(refuses([&] { (void)wrong.hash_sign_digest(SLH_SHA2_256, slh::Bytes(32), options); }, SLH_FAULT, "38 Fault"),
            "by the digest");
 }
 
@@ -225,7 +225,7 @@ bool finds_changes(const slh::SecretKey &sk, bool twice) {
     std::thread writer([&] { while (!ended) for (auto &it : message) ++it; });
     bool found = false;
     for (int count = 0; count < 10 && !found; ++count)
-        found = refuses([&] { (void)sk.sign({message.data(), sizeof message}, options); }, SLH_FAULT, "38 ");
+        found = refuses([&] { (void)sk.sign({message.data(), sizeof message}, options); }, SLH_FAULT, "38 Fault");
     ended = true;
     writer.join();
     return found;
