@@ -46,6 +46,10 @@ damage() {
     printf x >>"$work/clone/dist/$1"
 }
 
+add_header() {
+    echo '#include_next <string.h>' >"$work/clone/dist/include/string.h"
+}
+
 with_release() {
     local file
     one "release: the project takes the clone" configure "$here" "$work/release"
@@ -54,6 +58,7 @@ with_release() {
     for file in x86-64/libslh.a x86-64/libslh.so.0 x86-64-v2/libslh_verify.a portable/slh.c include/slh.h; do
         one "release: a damaged $file is refused" stops_at "$file" damage "$file"
     done
+    one "release: a header without a hash is refused" stops_at include/string.h add_header
     one "release: a missing file is refused" stops_at x86-64/libslh.a rm "$work/clone/dist/x86-64/libslh.a"
     one "release: a file without a hash is refused" stops_at x86-64/libslh.a sed -i '/x86-64\/libslh.a/d' \
         "$work/clone/dist/SHA256SUMS"
