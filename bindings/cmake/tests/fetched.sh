@@ -19,7 +19,8 @@ prefix=$(realpath "$1")
 configure() {
     local clone=$1 built=$2
     shift 2
-    cmake -S "$here/bindings/cmake/tests/fetched" -B "$built" -DCLONE="$clone" -DSOURCES="$here" -DKEY="$work" "$@"
+    cmake -S "$here/bindings/cmake/tests/fetched" -B "$built" -DCLONE="$clone" -DSOURCES="$here" -DKEY="$work" \
+        -DCMAKE_C_FLAGS=-O1 "$@"
 }
 
 # Whether the programs of a folder BUILT give the vectors, and judge images: a NAME, and the libraries.
