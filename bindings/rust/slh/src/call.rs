@@ -1,10 +1,10 @@
 //! How this crate calls libslh.
 use crate::{Error, Refusal};
 
-/// Calls libslh with numbers, then with slices that it reads, and last with slices that it writes. The value is the
-/// number that it returns.
+/// Calls libslh with numbers, then with slices that it reads, and last with slices that it writes, by their names. The
+/// value is the number that it returns.
 macro_rules! call {
-    ($name:ident($($number:expr),+; $($read:expr),*; $($write:expr),*)) => {
+    ($name:ident($($number:expr),+; $($read:expr),*; $($write:ident),*)) => {
         // SAFETY: each pointer is that of a slice, and its length follows. The slices that are written are borrowed
         // mutably, so they overlap no other.
         unsafe {

@@ -66,7 +66,8 @@ impl<P: ParameterSet> SecretKey<P> {
     pub fn keygen(sk_seed: &P::Seed, sk_prf: &P::Seed, pk_seed: &P::Seed) -> Self {
         let mut key = Self::zeros();
         let [first, second, third] = [sk_seed.as_ref(), sk_prf.as_ref(), pk_seed.as_ref()];
-        certainly_done(call!(slh_keygen(P::NUMBER; first, second, third; key.bytes_mut())));
+        let out = key.bytes_mut();
+        certainly_done(call!(slh_keygen(P::NUMBER; first, second, third; out)));
         key
     }
 
@@ -106,7 +107,8 @@ impl<P: ParameterSet> SecretKey<P> {
     /// The public key: the last 2n bytes.
     pub fn public(&self) -> PublicKey<P> {
         let mut bytes = P::PublicKeyBytes::ZEROS;
-        certainly_done(call!(slh_public(P::NUMBER; self.slice(); bytes.as_mut())));
+        let out = bytes.as_mut();
+        certainly_done(call!(slh_public(P::NUMBER; self.slice(); out)));
         PublicKey::from_bytes(bytes)
     }
 
