@@ -149,6 +149,20 @@ impl<P: ParameterSet> HasSet for PublicKey<P> {
 }
 
 impl AnySecretKey {
+    /// Makes a key of a set by its name, as `SLH-DSA-SHA2-128f`, from random bytes of the system. Refused:
+    /// `UnknownSet`. `Error::RandomFailed` if the system gives no random bytes.
+    pub fn generate(set: &str) -> Result<Self, Error> {
+        match set {
+            SlhDsaSha2_128s::NAME => SecretKey::generate().map(AnySecretKey::Sha2_128s),
+            SlhDsaSha2_128f::NAME => SecretKey::generate().map(AnySecretKey::Sha2_128f),
+            SlhDsaSha2_192s::NAME => SecretKey::generate().map(AnySecretKey::Sha2_192s),
+            SlhDsaSha2_192f::NAME => SecretKey::generate().map(AnySecretKey::Sha2_192f),
+            SlhDsaSha2_256s::NAME => SecretKey::generate().map(AnySecretKey::Sha2_256s),
+            SlhDsaSha2_256f::NAME => SecretKey::generate().map(AnySecretKey::Sha2_256f),
+            _ => Err(Refusal::UNKNOWN_SET.into()),
+        }
+    }
+
     /// The public key.
     pub fn public(&self) -> AnyPublicKey {
         any!(AnySecretKey, self, key => key.public().into())

@@ -141,6 +141,7 @@ fn kinds_and_sets_are_not_mixed_up() {
     let expected = ("SLH-DSA-SHA2-128s", "SLH-DSA-SHA2-128f");
     assert!(matches!(other, Error::OtherSet { expected: it, given } if (it, given) == expected));
     assert_eq!(refused(&AnyPublicKey::from_bytes("128f", &[0; 32])).unwrap(), "12 UnknownSet");
+    assert_eq!(refused(&AnySecretKey::generate("slh-dsa-sha2-128f")).unwrap(), "12 UnknownSet");
     let short = AnyPublicKey::from_bytes(SlhDsaSha2_128f::NAME, &[0; 33]).unwrap_err();
     assert_eq!(short.to_string(), "3 BadLength: 32 bytes expected, 33 given");
 }
@@ -213,7 +214,9 @@ fn interchange<P: ParameterSet>(folder: &Folder)
 where
     AnySecretKey: From<SecretKey<P>>,
 {
-    let secret = SecretKey::<P>::generate().unwrap();
+    let generated = AnySecretKey::generate(P::NAME).unwrap();
+    assert_eq!(generated.set(), P::NAME);
+    let secret = SecretKey::<P>::try_from(generated.as_bytes()).unwrap();
     let (sk, pk) = (folder.path(&format!("{}.sk", P::NAME)), folder.path(&format!("{}.pk", P::NAME)));
     secret.dump(&sk).unwrap();
     assert_eq!(slh(&["check", "--key"], &[&sk]), "consistent\n");
