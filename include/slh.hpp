@@ -102,7 +102,7 @@ public:
     static SecretKey generate(slh_set set, Fill fill = system_random) {
         const SecretKey seeds(set, 3 * Lengths(set).n);
         fill(seeds.bytes_->data(), seeds.bytes_->size());
-        const auto seed = [&](std::size_t at) { return View(seeds.bytes_->data() + at * Lengths(set).n, Lengths(set).n); };
+        const auto seed = [&, n = Lengths(set).n](std::size_t at) { return View(seeds.bytes_->data() + at * n, n); };
         return keygen(set, seed(0), seed(1), seed(2));
     }
     static SecretKey keygen(slh_set set, View sk_seed, View sk_prf, View pk_seed) {
