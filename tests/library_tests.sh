@@ -287,7 +287,7 @@ read -ra flags < <(PKG_CONFIG_PATH=$lib/pkgconfig pkg-config --cflags --libs slh
 one "the C example compiles over the shared object" "$cc" "$here/examples/sign_file.c" "${flags[@]}" -o "$work/shared"
 one "the C example over the shared object" example env LD_LIBRARY_PATH="$lib" "$work/shared"
 one "glibc loads the shared object that is installed, and no earlier one" is_loaded
-one "the C++ example compiles" "$cxx" -std=c++11 "${strict[@]}" "${sanitized[@]}" "$here/examples/sign_file.cpp" \
+one "the C++ example compiles" "$cxx" -std=c++17 "${strict[@]}" "${sanitized[@]}" "$here/examples/sign_file.cpp" \
     -I "$prefix/include" "$lib/libslh.a" -o "$work/of_cpp"
 one "the C++ example" example "$work/of_cpp"
 if [ $has_rust = yes ]; then

@@ -78,6 +78,7 @@ def main():
             sys.exit("it wrote no key")
         loaded = ctypes.CDLL(library)
         named = {"SK.seed": sk[:N], "SK.prf": sk[N : 2 * N]}
+        named |= {f"digits of {name}": part.hex().encode() for name, part in named.items()}
         before = places(child.pid, named)
         named |= {f"the tag of answer {job}": tag for job, tag in enumerate(tags(loaded, sk))}
         print("erase", file=child.stdin, flush=True)

@@ -60,6 +60,8 @@ with_cmake() {
     one "cmake: slh::shared is asked for by its name" asks_for_shared "$built/calls_shared"
     one "cmake: slh::slh is not" fails asks_for_shared "$built/calls_slh"
     one "cmake: slh::verify judges images" judges_images "$built/verify_image"
+    count "cmake: FetchContent" "$here/bindings/cmake/tests/fetched.sh" "$prefix"
+    count "C++: slh.hpp" "$here/bindings/cmake/tests/slh_hpp.sh" "$prefix"
 }
 
 # The best level that processor and system have, 2, 3 or 4, by /proc/cpuinfo.
@@ -166,7 +168,7 @@ with_rust() {
     local cargo=(env CARGO_TARGET_DIR="$work/cargo" RUSTFLAGS=-Dwarnings SLH_PREFIX="$prefix" cargo)
     local manifest=(--manifest-path "$here/bindings/rust/Cargo.toml")
     if can_run "rust: layout" rustfmt; then one "rust: layout" cargo fmt "${manifest[@]}" --all --check; fi
-    one "rust: the crates pass their tests" "${cargo[@]}" test --locked --offline "${manifest[@]}"
+    one "rust: the crates pass their tests, and the calls of their README run" "${cargo[@]}" test --locked --offline "${manifest[@]}"
     printf 'a letter\nof two lines' >"$work/letter"
     one "rust: the example signs by threads, over the library of pkg-config" says valid 0 env -u SLH_PREFIX \
         CARGO_TARGET_DIR="$work/cargo" PKG_CONFIG_PATH="$prefix/lib/pkgconfig" cargo run -q --locked --offline \
@@ -174,8 +176,6 @@ with_rust() {
     one "rust: its public key is a key file" is_key_file "$work/letter.pub"
     page_in_rust
     cargo=(env CARGO_TARGET_DIR="$work/cargo" SLH_PREFIX="$prefix" cargo)
-    one "rust: the calls of docs/PACKAGES.md" says done 0 "${cargo[@]}" run -q --offline \
-        --manifest-path "$work/page/Cargo.toml" --bin page
     one "rust: the program that erases is built" "${cargo[@]}" build -q --offline \
         --manifest-path "$work/page/Cargo.toml" --bin erased
     erases rust "$work/cargo/debug/erased"
@@ -183,6 +183,9 @@ with_rust() {
     one "rust: without a library the build says so" misses_library 'libslh is not found: set SLH_PREFIX' \
         env -u SLH_PREFIX -u PKG_CONFIG_PATH PKG_CONFIG_LIBDIR="$work/none" CARGO_TARGET_DIR="$work/cargo" \
         cargo build --locked --offline "${manifest[@]}"
+    one "rust: documentation without a library" env -u SLH_PREFIX -u PKG_CONFIG_PATH PKG_CONFIG_LIBDIR="$work/none" \
+        CARGO_TARGET_DIR="$work/docs" cargo doc --no-deps --locked --offline "${manifest[@]}"
+    count "rust: traits of other crates" "$here/bindings/rust/traits_tests.sh" "$prefix"
     one "rust: a relative path of the library is told" misses_library "SLH_PREFIX has to be an absolute path" \
         env SLH_PREFIX=prefix CARGO_TARGET_DIR="$work/cargo" cargo build --locked --offline "${manifest[@]}"
 }
@@ -203,14 +206,6 @@ fn main() { println!("{}", unsafe { slh_level() }) }
 END
     printf '%s\n' '[package]' 'name = "page"' 'edition = "2021"' '[dependencies]' \
         "slh = { path = \"$here/bindings/rust/slh\" }" >"$work/page/Cargo.toml"
-    {
-        imports_of 1
-        echo 'fn main() -> Result<(), Error> {'
-        echo 'let (message, context, random, digest) = (b"letter", b"letters", [0; 16], [0; 32]);'
-        calls_of 1 | sed 's/^drop(secret);$/assert!(secret.as_bytes() == sk \&\& public.as_bytes() == pk); &/'
-        echo 'assert!(signature.as_bytes() == sig);'
-        echo 'println!("done"); Ok(()) }'
-    } >"$work/page/src/main.rs"
 }
 
 # Whether a build fails, and says this.

@@ -127,9 +127,9 @@ make_libslh0() {
 }
 
 make_libslh_dev() {
-    local file level
+    local file level call
     begin libslh-dev
-    for file in slh.h slh_internal.h slh_verify.h; do
+    for file in slh.h slh.hpp slh_internal.h slh_verify.h; do
         put 644 include/$file usr/include/$file
     done
     put 644 x86-64/libslh.a $lib/libslh.a
@@ -138,6 +138,10 @@ make_libslh_dev() {
     done
     put 644 x86-64-v2/libslh_verify.a $lib/libslh_verify.a
     ln -s libslh.so.0 "$root/$lib/libslh.so"
+    gzip -9n <"$here/packages/slh.3" | write usr/share/man/man3/slh.3.gz
+    for call in $(sed -n 's/^\.SH \(slh_\)/\1/p' "$here/packages/slh.3"); do
+        ln -s slh.3.gz "$root/usr/share/man/man3/$call.3.gz"
+    done
     pkgconfig slh "SLH-DSA (FIPS 205) with SHA-2, proved by machine"
     pkgconfig slh_verify "Verifying signatures of SLH-DSA (FIPS 205) with SHA-2, proved by machine"
     write $lib/cmake/slh/slh-config.cmake <"$here/bindings/cmake/slh-config.cmake"

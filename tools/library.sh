@@ -3,6 +3,7 @@
 # file has the hash that is listed; else one that it builds.
 #
 #   PREFIX/include/slh.h            the header, which includes
+#   PREFIX/include/slh.hpp          types for C++17 over slh.h
 #   PREFIX/include/slh_verify.h     what verifies, the numbers and the lengths
 #   PREFIX/include/slh_internal.h   the calls for test vectors of the internal functions
 #   PREFIX/lib/libslh.a             all calls, with code for the levels x86-64-v2, -v3 and -v4: the best one runs
@@ -57,7 +58,7 @@ portable) files=(portable/{slh.c,slh_verify.c}) ;;
     exit 2
     ;;
 esac
-headers=(include/{slh.h,slh_internal.h,slh_verify.h})
+headers=(include/{slh.h,slh.hpp,slh_internal.h,slh_verify.h})
 if [ "$after_ci" = given ]; then
     has_release && are_whole BUILD "${files[@]}" "${headers[@]}" || exit 2
 fi

@@ -63,7 +63,7 @@ build() {
     for level in x86-64 x86-64-v2 x86-64-v3 x86-64-v4; do
         "$here/tools/program.sh" "$level" "$1/$level/slh"
     done
-    install -D -m 644 -t "$1/include" "$here"/include/*.h
+    install -D -m 644 -t "$1/include" "$here"/include/*.h "$here"/include/*.hpp
     {
         echo "version $(cat "$here/VERSION")"
         echo "sources $("$here/tools/sources.sh")"
