@@ -48,6 +48,15 @@ measures_on_aarch64() {
     count "what calls on aarch64 leave" "$qemu" "$work/arm_erase" ${some[@]+2 4 6}
     one "the search finds secrets where nothing is cleared" finds_what_is_left "$lib/libslh.a" "$qemu" "$cc" \
         -I "$prefix/include"
+    one "an objcopy that changes nothing is noticed" notices_no_change
+}
+
+# Whether an archive is refused that objcopy copied as it was, with status 0: another machine's objcopy does that.
+notices_no_change() {
+    printf '#!/bin/sh\nshift\ncp "$@"\n' >"$work/copies" && chmod +x "$work/copies" &&
+        printf '#!/bin/sh\n[ "$1" = -print-prog-name=nm ] && exec "%s" "$1"\necho "%s/copies"\n' "$cc" "$work" \
+            >"$work/other_cc" && chmod +x "$work/other_cc" || return
+    ! compiler=$work/other_cc with_weak "$lib/libslh.a" "$work/same.a" slh_clear && cmp "$lib/libslh.a" "$work/same.a"
 }
 
 wasm64() {
