@@ -115,7 +115,7 @@ def write(path, data):
 def sign(public, secret, message, path):
     """Signs a message with fresh random bytes, verifies, and writes the signature."""
     signature = secret.sign(message)
-    public.verify(message, signature)
+    public.verify(message=message, signature=signature)
     try:
         write(path, signature)
     except OSError as fault:
@@ -135,7 +135,7 @@ def judge(task, secret, name):
     if is_unsigned:
         return sign(task.public, secret, message, path + ".sig")
     try:
-        task.public.verify(message, signature)
+        task.public.verify(message=message, signature=signature)
     except slh.Invalid:
         return ("invalid",)
     return ("valid",)

@@ -88,7 +88,7 @@ if __name__ == "__main__":
         workers = len(client.nthreads())
         alone, seconds_alone = timed(sign_alone, secret, message)
         public = secret.public()
-    public.verify(message, by_jobs)
+    public.verify(message=message, signature=by_jobs)
     if by_jobs != alone:
         sys.exit("the signatures differ")
     pathlib.Path(FILE + ".sig").write_bytes(by_jobs)

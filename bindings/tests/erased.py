@@ -1,24 +1,47 @@
 """A program for tests/packages_memory.py, which says what it does."""
+import os
 import sys
+import tempfile
 
 import slh
 
 MESSAGE, FUNCTION, DIGEST = b"letter", slh.Function.SLH_SHA2_256, bytes(32)
 HOW = {"deterministic": True}
 
+
+def dump_and_load(key):
+    """Writes the key into a file, reads it from there and from bytes, and drops what it has read."""
+    with tempfile.TemporaryDirectory() as folder:
+        path = os.path.join(folder, "secret.key")
+        key.dump(path)
+        with slh.SecretKey.load(path) as again:
+            again.check()
+        assert slh.load(path) == key
+        with open(path, "r+b") as file:
+            file.write(bytes(os.path.getsize(path)))
+    text = key.dumps()
+    assert slh.SecretKey.loads(text) == key
+    text[:] = bytes(len(text))
+    data = key.to_bytes()
+    assert slh.SecretKey(key.set, data) == key
+    data[:] = bytes(len(data))
+
+
 with slh.SecretKey.generate(slh.Set.SLH_DSA_SHA2_128F) as secret:
-    print("".join(f"{byte ^ 0x5a:02x}" for byte in memoryview(secret._buffer).cast("B")), flush=True)
+    print("".join(f"{byte ^ 0x5a:02x}" for byte in secret._memory.view()), flush=True)
     sys.stdin.readline()
     secret.check()
     public = secret.public()
-    made = [secret.sign(MESSAGE, **HOW)]
-    secret.hash_sign(FUNCTION, MESSAGE)
-    secret.hash_sign_digest(FUNCTION, DIGEST)
+    made = [secret.sign(MESSAGE, **HOW), secret.sign(MESSAGE, twice=True, verify=True, **HOW)]
+    for twice in (False, True):
+        secret.hash_sign(FUNCTION, MESSAGE, twice=twice)
+        secret.hash_sign_digest(FUNCTION, DIGEST, twice=twice)
     for workers, twice in ((1, False), (3, False), (1, True), (3, True)):
-        with slh.Signer(workers, twice=twice) as signer:
+        with slh.Signer(workers, twice=twice, verify=twice) as signer:
             signer.hash_sign(secret, FUNCTION, MESSAGE)
             made.append(signer.sign(secret, MESSAGE, **HOW))
     for signature in made:
-        public.verify(MESSAGE, signature)
+        public.verify(message=MESSAGE, signature=signature)
+    dump_and_load(secret)
 print("erased", flush=True)
 sys.stdin.read()

@@ -1,58 +1,67 @@
 """SLH-DSA (FIPS 205) with SHA-2: keys, signing and verifying, over the library libslh.
 
-    secret = slh.SecretKey.generate(slh.Set.SLH_DSA_SHA2_128F)
+    secret = slh.SecretKey.generate("SLH-DSA-SHA2-128f")
     public = secret.public()
     secret.check()
     signature = secret.sign(message)
-    public.verify(message, signature)
+    public.verify(message=message, signature=signature)
 
 Messages, contexts, keys and signatures are bytes. The names are those of libslh: docs/LIBRARY.md of its repository says
-what each call does and what is proved of it.
+for each call which value it computes, and for which calls that is proved.
 
-There are two exceptions, neither of which is a kind of the other. `verify` and `check` return None, and raise Invalid
-where the answer is no: the signature or the key is not valid. Refusal, a ValueError with libslh's `number` and `name`,
-says that a call was wrong. An argument of another type is a TypeError.
+`verify` and `check` return None, and raise Invalid if the signature or the key is not valid. A wrong call raises
+Refusal, a ValueError with the `number` and `name` of docs/FORMATS.md. An argument of another type is a TypeError.
+Neither Invalid nor Refusal is a kind of the other.
 
 Each signature has a fresh randomizer from the system, unless one is given or `deterministic=True` asks for none. So two
-signatures of one message differ, and both are valid.
-Calls release the interpreter lock while they compute, so that threads compute at the same time.
+signatures of one message differ, and both are valid. Calls release the interpreter lock while they compute, so that
+threads compute at the same time.
 
-`erase` clears a secret key, and so does the end of `with slh.SecretKey.generate(set) as secret:`. What this module
-makes of it for a call is cleared when the call returns. Bytes that a caller hands in, and those of `to_bytes`, are the
-caller's: hand in a bytearray, and clear that. Nothing can clear a Python `bytes`.
+`erase` clears a secret key, and so does the end of `with slh.SecretKey.generate(set) as secret:`, or of the object. A
+secret key is printed as its set, and refuses to be copied and pickled. Only `to_bytes`, `dumps` and `dump` give its
+bytes out. Each call clears the copies of secrets that this module makes for it. The caller clears the bytes that it
+hands in, and those of `to_bytes` and `dumps`, which are bytearrays. Nothing can clear a Python `bytes`.
 """
 
 from __future__ import annotations
 
+import base64
 import concurrent.futures
 import contextlib
 import ctypes
 import enum
-import errno
+import hashlib
 import hmac
 import os
-import pathlib
 import types
 import typing
 
-__all__ = """Erased Fault Function Invalid Lengths PublicKey Refusal SecretKey Set Signer version""".split()
+from slh import _calls, _key_files
+from slh._calls import Bytes, Erased, Fault, Invalid, Refusal
+from slh._calls import Length as _Length
+from slh._calls import Memory as _Memory
+from slh._calls import library as _library
 
-_DONE = 0
+__all__ = """Erased Fault Function Invalid Lengths PublicKey Refusal SecretKey Set Signer load loads version""".split()
+
+for _it in (Erased, Fault, Invalid, Refusal):
+    _it.__module__ = __name__
+
+_CONTEXT_TOO_LONG = 2
 _BAD_LENGTH = 3
+_NO_SUCH_SET = 8
+_BAD_SEED_LENGTH = 10
+_BAD_DIGEST_LENGTH = 16
 _BAD_RANDOMIZER_LENGTH = 17
-_INVALID = 30
-_MAX_NAME = 20
+_MOST_CONTEXT = 255
 
-_NAMES = """slh_version slh_lengths slh_refusal_name slh_keygen slh_public slh_check slh_sign slh_verify slh_hash_sign
-slh_hash_verify slh_hash_sign_digest slh_hash_verify_digest slh_sign_jobs slh_answer_place slh_sign_start
-slh_hash_sign_start slh_sign_job slh_sign_join""".split()
-
-#: What may stand for a message, a context, a key or a signature.
-Bytes = typing.Union[bytes, bytearray, memoryview]
+#: What a set is given by: one of Set, its number, or its name.
+AnySet = typing.Union[int, str]
+Path = typing.Union[str, "os.PathLike[str]"]
 
 
 class Set(enum.IntEnum):
-    """The parameter sets (FIPS 205, section 11, Table 2), by libslh's numbers."""
+    """The parameter sets (FIPS 205, section 11, Table 2), by libslh's numbers. `Set("SLH-DSA-SHA2-128f")` is one."""
 
     SLH_DSA_SHA2_128S = 1
     SLH_DSA_SHA2_128F = 2
@@ -62,9 +71,18 @@ class Set(enum.IntEnum):
     SLH_DSA_SHA2_256F = 6
 
     @property
+    def label(self) -> str:
+        """The name in FIPS 205, as "SLH-DSA-SHA2-128f"."""
+        return self.name[:-1].replace("_", "-") + self.name[-1].lower()
+
+    @property
     def lengths(self) -> Lengths:
         """The lengths of this set's keys and signatures in bytes, and n."""
         return _lengths(self)
+
+    @classmethod
+    def _missing_(cls, value: object) -> Set | None:
+        return next((it for it in cls if it.label == value), None)
 
 
 class Function(enum.IntEnum):
@@ -77,6 +95,11 @@ class Function(enum.IntEnum):
     SLH_SHA2_512_224 = 5
     SLH_SHA2_512_256 = 6
 
+    @property
+    def digest_length(self) -> int:
+        """The length of a digest in bytes."""
+        return int(self.name.rpartition("_")[2]) // 8
+
 
 class Lengths(typing.NamedTuple):
     """Lengths in bytes. n is that of a seed and of a randomizer."""
@@ -87,272 +110,250 @@ class Lengths(typing.NamedTuple):
     n: int
 
 
-class Refusal(ValueError):
-    """A call was refused: `number` and `name` are libslh's, as 2 and "ContextTooLong"."""
-
-    def __init__(self, number: int) -> None:
-        super().__init__(number)
-        self.number = number
-        self.name = _refusal_name(number)
-
-    def __str__(self) -> str:
-        return f"{self.number} {self.name}"
+def version() -> int:
+    """The version of libslh: 1,000,000 times its first number, 1,000 times its second, and its third."""
+    return _calls.call("slh_version")
 
 
-class Invalid(Exception):
-    """The signature is not valid, or the root of the secret key is not the one that its seeds give."""
+__version__ = f"{version() // 1000000}.{version() // 1000 % 1000}.{version() % 1000}"
 
 
-class Erased(Exception):
-    """The secret key was erased."""
-
-    def __init__(self) -> None:
-        super().__init__("the secret key was erased")
-
-
-class Fault(Exception):
-    """Two runs of the same work gave different bytes, as by bad memory or a bad processor. Nothing was signed."""
-
-    def __init__(self) -> None:
-        super().__init__("two runs of a job gave different answers")
-
-
-def _load() -> ctypes.CDLL:
-    """Loads the shared object beside this file, which runs the best code that it has for the processor."""
-    library = ctypes.CDLL(str(pathlib.Path(__file__).resolve().parent / "libslh.so.0"))
-    for name in _NAMES:
-        getattr(library, name).restype = ctypes.c_uint32
-    library.slh_erase.restype = None
-    return library
+@_calls.discreet
+def _checked_set(given: AnySet) -> Set:
+    """A parameter set by its number or its name. An error does not show what was given: it may be a key."""
+    if isinstance(given, str):
+        found = next((it for it in Set if it.label == given), None)
+    else:
+        number = _calls.checked_number(given, "an slh.Set or its name")
+        found = next((it for it in Set if it == number), None)
+    if found is None:
+        raise Refusal(_NO_SUCH_SET, "no parameter set has this number or name")
+    return found
 
 
-_library = _load()
-_system = ctypes.CDLL(None, use_errno=True)
-_system.getrandom.restype = ctypes.c_ssize_t
-
-#: Bytes that can be cleared. They do not move.
-_Buffer = ctypes.Array[ctypes.c_char]
+def _checked_function(given: int) -> int:
+    return _calls.checked_number(given, "an slh.Function")
 
 
-def _checked_type(given: Bytes) -> Bytes:
-    """Bytes for a call. A number in their place would move the arguments behind it."""
-    if not isinstance(given, (bytes, bytearray, memoryview)):
-        raise TypeError(f"bytes are needed, not {type(given).__name__}")
-    return given
-
-
-def _checked_bytes(given: Bytes) -> bytes:
-    """Bytes for a call that are no secret: a copy of them can't be cleared."""
-    return bytes(_checked_type(given))
-
-
-def _checked_number(given: int, kind: type[enum.IntEnum]) -> int:
-    """A number for a call, which stands for a Set or a Function. ctypes alone would cut longer ones to 32 bits."""
-    if not isinstance(given, int):
-        raise TypeError(f"an slh.{kind.__name__} is needed, not {type(given).__name__}")
-    if not 0 <= given < 1 << 32:
-        raise OverflowError(f"{given} is not a number of 32 bits")
-    return given
-
-
-def _call(name: str, *arguments: int | bytes | ctypes.Array[ctypes.c_char] | ctypes._SimpleCData[int]) -> int:
-    """Calls with each number as it is, a reference to each room for one, and bytes as a pointer and a length."""
-    words: list[typing.Any] = []
-    for it in arguments:
-        if isinstance(it, int):
-            words.append(ctypes.c_uint32(it))
-        elif isinstance(it, ctypes._SimpleCData):
-            words.append(ctypes.byref(it))
-        else:
-            words.extend((it, ctypes.c_size_t(len(it))))
-    return int(getattr(_library, name)(*words))
-
-
-def _done(name: str, *arguments: typing.Any) -> None:
-    """Calls, and raises Invalid or Refusal unless the call is done."""
-    result = _call(name, *arguments)
-    if result == _INVALID:
-        raise Invalid("invalid")
-    if result != _DONE:
-        raise Refusal(result)
-
-
-def _refusal_name(number: int) -> str:
-    name = ctypes.create_string_buffer(_MAX_NAME)
-    if _call("slh_refusal_name", number, name) != _DONE:
-        return "NoSuchRefusal"
-    return name.value.decode("ascii")
-
-
-def _lengths(set: int) -> Lengths:
+def _lengths(set: Set) -> Lengths:
     found = [ctypes.c_size_t() for _ in range(4)]
-    _done("slh_lengths", _checked_number(set, Set), *found)
+    _calls.done("slh_lengths", set, *found)
     return Lengths(*(it.value for it in found))
 
 
-def _buffer_of(given: Bytes) -> _Buffer:
-    """A copy of bytes that can be cleared."""
-    whole = _checked_type(given) if memoryview(_checked_type(given)).c_contiguous else bytes(given)
-    return (ctypes.c_char * memoryview(whole).nbytes).from_buffer_copy(whole)
-
-
-def _erase(buffer: _Buffer) -> None:
-    _library.slh_erase(buffer, ctypes.c_size_t(len(buffer)))
-
-
-def _are_same(one: _Buffer, other: _Buffer) -> bool:
-    """Whether both have the same bytes, in a time that does not depend on them."""
-    return hmac.compare_digest(memoryview(one).cast("B"), memoryview(other).cast("B"))
-
-
-@contextlib.contextmanager
-def _cleared(*buffers: _Buffer) -> typing.Iterator[None]:
-    """Clears buffers in the end, whatever happens."""
-    try:
-        yield
-    finally:
-        for it in buffers:
-            _erase(it)
-
-
-def _randomly(count: int) -> _Buffer:
-    """Fresh bytes from the system's generator, once that is ready. Those of os.urandom could not be cleared."""
-    buffer = ctypes.create_string_buffer(count)
-    filled = 0
-    while filled < count:
-        more = _system.getrandom(ctypes.byref(buffer, filled), ctypes.c_size_t(count - filled), 0)
-        number = ctypes.get_errno()
-        if more < 0 and number != errno.EINTR:
-            raise OSError(number, os.strerror(number))
-        filled += max(more, 0)
-    return buffer
-
-
-def _randomizer(n: int, given: Bytes | None, deterministic: bool) -> bytes:
+def _randomizer(set: Set, given: Bytes | None, deterministic: bool) -> bytes:
     """The randomizer of a signature. None at all, the deterministic variant, is had by name alone."""
-    if not isinstance(deterministic, bool):
-        raise TypeError("deterministic is True or False")
-    if deterministic:
+    if _calls.checked_bool("deterministic", deterministic):
         if given is not None:
             raise TypeError("a deterministic signature has no randomizer")
         return b""
+    n = _lengths(set).n
     if given is None:
         return os.urandom(n)
-    held = _checked_bytes(given)
+    held = _calls.checked_bytes(given)
     if len(held) != n:
-        raise Refusal(_BAD_RANDOMIZER_LENGTH)
+        raise Refusal(_BAD_RANDOMIZER_LENGTH, _Length(f"a randomizer of {set.label}", n, len(held)))
     return held
 
 
-def _checked_key(data: Bytes, length: int) -> Bytes:
-    """The bytes of a key, which has so many."""
-    if memoryview(_checked_type(data)).nbytes != length:
-        raise Refusal(_BAD_LENGTH)
-    return data
+def _key_memory(set: Set, kind: str, given: Bytes) -> _Memory:
+    """A copy of the bytes of a key of this kind."""
+    length = _lengths(set).public_key if kind == "public" else _lengths(set).secret_key
+    whole = memoryview(_calls.checked_type(given)).nbytes
+    if whole != length:
+        raise Refusal(_BAD_LENGTH, _Length(f"a {kind} key of {set.label}", length, whole))
+    return _Memory.copy_of(given)
 
 
-def version() -> int:
-    """The version of libslh: 1,000,000 times its first number, 1,000 times its second, and its third."""
-    return _call("slh_version")
+def _text_lengths(function: tuple[int, ...], text: bytes, context: bytes) -> dict[int, _Length]:
+    """The lengths of a text and a context, for refusals."""
+    found = {_CONTEXT_TOO_LONG: _Length("a context", _MOST_CONTEXT, len(context), "bytes at most")}
+    for it in Function:
+        if function == (it,):
+            found[_BAD_DIGEST_LENGTH] = _Length(f"a digest by {it.name}", it.digest_length, len(text))
+    return found
 
 
-class PublicKey:
-    """A public key, PK.seed and PK.root: 32, 48 or 64 bytes."""
+class _Key(_calls.Sealed):
+    """A parameter set, and the bytes of a key outside Python's objects."""
 
-    __slots__ = ("_set", "_bytes")
-
-    def __init__(self, set: int, data: Bytes) -> None:
-        """Takes the bytes of a public key. Raises Refusal: NoSuchSet; BadLength unless there are 2n of them."""
-        length = _lengths(set).public_key
-        self._set, self._bytes = Set(set), bytes(_checked_key(data, length))
+    __slots__ = ("_set", "_memory")
+    _set: Set
+    _memory: _Memory
+    _kind: typing.ClassVar[str]
 
     @property
     def set(self) -> Set:
         """The parameter set."""
         return self._set
 
+    @classmethod
+    def _of(cls: type[_AnyKey], set: Set, memory: _Memory) -> _AnyKey:
+        made = cls.__new__(cls)
+        made._set, made._memory = set, memory
+        return made
+
+    @classmethod
+    @_calls.discreet
+    def load(cls: type[_AnyKey], path: Path) -> _AnyKey:
+        """Reads a key file of the program `slh` (docs/FORMATS.md), of either version.
+
+        Raises OSError; Refusal: NotAKeyFile, also for a key of the other kind, UnknownSet, BadHex, BadKeyLength,
+        TrailingBytes.
+        """
+        return typing.cast(_AnyKey, _load((cls,), path))
+
+    @classmethod
+    @_calls.discreet
+    def loads(cls: type[_AnyKey], data: Bytes) -> _AnyKey:
+        """Reads the bytes of a key file, which stay the caller's. Raises Refusal: as `load`."""
+        return typing.cast(_AnyKey, _loads((cls,), data))
+
+
+_AnyKey = typing.TypeVar("_AnyKey", bound=_Key)
+
+
+class PublicKey(_Key):
+    """A public key, PK.seed and PK.root: 32, 48 or 64 bytes. It is printed as its set and its fingerprint."""
+
+    __slots__ = ()
+    _kind = "public"
+
+    @_calls.discreet
+    def __init__(self, set: AnySet, data: Bytes) -> None:
+        """Takes the bytes of a public key. Raises Refusal: NoSuchSet; BadLength unless there are 2n of them."""
+        self._set = _checked_set(set)
+        self._memory = _key_memory(self._set, self._kind, data)
+
     def to_bytes(self) -> bytes:
         """The 2n bytes of the key."""
-        return self._bytes
+        return self._memory.to_bytes()
 
-    def verify(self, message: Bytes, signature: Bytes, context: Bytes = b"") -> None:
+    def dumps(self) -> bytes:
+        """The bytes of a key file of version 2."""
+        return _key_files.text_of(self._kind, self._set.label, self._memory).to_bytes()
+
+    def dump(self, path: Path) -> None:
+        """Writes a key file of version 2. Raises OSError, a FileExistsError if there is a file: it is not overwritten."""
+        _key_files.write(path, _Memory.copy_of(self.dumps()), is_secret=False)
+
+    @property
+    def fingerprint(self) -> str:
+        """The SHA-256 of the key's bytes, as `SHA256:` and base64 without padding."""
+        digest = hashlib.sha256(self._memory.view()).digest()
+        return "SHA256:" + base64.b64encode(digest).decode("ascii").rstrip("=")
+
+    def verify(self, *, message: Bytes, signature: Bytes, context: Bytes = b"") -> None:
         """Verifies a signature of the pure form (Algorithm 24). Raises Invalid unless it is valid.
 
         Bytes of another length than the set's signatures and a context of over 255 bytes are invalid.
         """
         self._verify("slh_verify", (), message, context, signature)
 
-    def hash_verify(self, function: int, message: Bytes, signature: Bytes, context: Bytes = b"") -> None:
+    def hash_verify(self, function: int, *, message: Bytes, signature: Bytes, context: Bytes = b"") -> None:
         """Verifies a signature of the pre-hash form, with the message (Algorithm 25).
 
         Raises Invalid unless it is valid. Raises Refusal: NoSuchFunction.
         """
-        self._verify("slh_hash_verify", (_checked_number(function, Function),), message, context, signature)
+        self._verify("slh_hash_verify", (_checked_function(function),), message, context, signature)
 
-    def hash_verify_digest(self, function: int, digest: Bytes, signature: Bytes, context: Bytes = b"") -> None:
+    def hash_verify_digest(self, function: int, *, digest: Bytes, signature: Bytes, context: Bytes = b"") -> None:
         """Verifies a signature of the pre-hash form, with the message's digest. Raises Invalid unless it is valid.
 
-        Raises Refusal: NoSuchFunction; BadDigestLength where the digest has another length than the function's.
+        Raises Refusal: NoSuchFunction; BadDigestLength if the digest has another length than the function's.
         """
-        self._verify("slh_hash_verify_digest", (_checked_number(function, Function),), digest, context, signature)
+        self._verify("slh_hash_verify_digest", (_checked_function(function),), digest, context, signature)
 
-    def _verify(self, call: str, function: tuple[int, ...], text: Bytes, context: Bytes, signature: Bytes) -> None:
-        given = [_checked_bytes(it) for it in (text, context, signature)]
-        _done(call, self._set, *function, self._bytes, *given)
+    def _verify(self, name: str, function: tuple[int, ...], text: Bytes, context: Bytes, signature: Bytes) -> None:
+        given = [_calls.checked_bytes(it) for it in (text, context, signature)]
+        lengths = _text_lengths(function, *given[:2])
+        _calls.done(name, self._set, *function, self._memory, *given, lengths=lengths)
+
+    def _verify_made(self, name: str, function: tuple[int, ...], given: list[bytes], signature: _Memory) -> None:
+        """Raises Fault unless a signature that was just made, of a text and a context, is valid."""
+        result = _calls.call(name, self._set, *function, self._memory, *given, signature)
+        if result == _calls.INVALID:
+            raise Fault("the signature that was made is not valid, and was erased; has the secret key been checked?")
+        if result != _calls.DONE:
+            raise Refusal(result)
+
+    def __reduce__(self) -> tuple[type[PublicKey], tuple[Set, bytes]]:
+        return type(self), (self._set, self.to_bytes())
+
+    def __reduce_ex__(self, protocol: typing.SupportsIndex) -> tuple[type[PublicKey], tuple[Set, bytes]]:
+        return self.__reduce__()
+
+    def __copy__(self) -> PublicKey:
+        return self
+
+    def __deepcopy__(self, memo: object) -> PublicKey:
+        return self
 
     def __eq__(self, other: object) -> bool:
         if not isinstance(other, PublicKey):
             return NotImplemented
-        return self._set == other._set and self._bytes == other._bytes
+        return self._set == other._set and self.to_bytes() == other.to_bytes()
 
     def __hash__(self) -> int:
-        return hash((self._set, self._bytes))
+        return hash((self._set, self.to_bytes()))
 
     def __repr__(self) -> str:
-        return f"<slh.PublicKey {self._set.name} {self._bytes.hex()}>"
+        return f"<slh.PublicKey {self._set.label} {self.fingerprint}>"
 
 
-class SecretKey:
-    """A secret key, SK.seed, SK.prf, PK.seed and PK.root: 64, 96 or 128 bytes. They are not printed.
+class SecretKey(_Key):
+    """A secret key, SK.seed, SK.prf, PK.seed and PK.root: 64, 96 or 128 bytes. It is printed as its set.
 
     After `erase`, and after the end of `with secret:`, each other call raises Erased.
     """
 
-    __slots__ = ("_set", "_buffer", "_is_erased")
+    __slots__ = ("_is_erased",)
+    _kind = "secret"
 
-    def __init__(self, set: int, data: Bytes) -> None:
+    @_calls.discreet
+    def __init__(self, set: AnySet, data: Bytes) -> None:
         """Takes the bytes of a secret key. Call `check` once on one that comes from elsewhere.
 
         The bytes are copied, and stay the caller's. Raises Refusal: NoSuchSet; BadLength unless there are 4n bytes.
         """
-        length = _lengths(set).secret_key
-        self._set, self._buffer, self._is_erased = Set(set), _buffer_of(_checked_key(data, length)), False
+        self._set, self._is_erased = _checked_set(set), False
+        self._memory = _key_memory(self._set, self._kind, data)
 
     @classmethod
-    def generate(cls, set: int) -> SecretKey:
+    def _of(cls, set: Set, memory: _Memory) -> SecretKey:
+        made = super()._of(set, memory)
+        made._is_erased = False
+        return made
+
+    @classmethod
+    @_calls.discreet
+    def generate(cls, set: AnySet) -> SecretKey:
         """Makes a key from random bytes of the system (Algorithm 21). Raises Refusal: NoSuchSet."""
-        n = _lengths(set).n
-        seeds = _randomly(n), _randomly(n), _randomly(n)
-        with _cleared(*seeds):
-            return cls._of_seeds(set, seeds)
+        checked = _checked_set(set)
+        n = _lengths(checked).n
+        seeds = _calls.random_memory(n), _calls.random_memory(n), _calls.random_memory(n)
+        return cls._of_seeds(checked, seeds)
 
     @classmethod
-    def keygen(cls, set: int, sk_seed: Bytes, sk_prf: Bytes, pk_seed: Bytes) -> SecretKey:
+    @_calls.discreet
+    def keygen(cls, set: AnySet, sk_seed: Bytes, sk_prf: Bytes, pk_seed: Bytes) -> SecretKey:
         """Makes the key of three seeds of n bytes each (Algorithm 18). They are as secret as the key.
 
         They are copied, and stay the caller's. Raises Refusal: NoSuchSet, BadSeedLength.
         """
-        given = [_checked_type(it) for it in (sk_seed, sk_prf, pk_seed)]
-        seeds = [_buffer_of(it) for it in given]
-        with _cleared(*seeds):
-            return cls._of_seeds(set, seeds)
+        checked = _checked_set(set)
+        given = [_calls.checked_type(it) for it in (sk_seed, sk_prf, pk_seed)]
+        return cls._of_seeds(checked, [_Memory.copy_of(it) for it in given])
 
     @classmethod
-    def _of_seeds(cls, set: int, seeds: typing.Iterable[_Buffer]) -> SecretKey:
-        made = ctypes.create_string_buffer(_lengths(set).secret_key)
-        with _cleared(made):
-            _done("slh_keygen", set, *seeds, made)
-            return cls(set, memoryview(made))
+    def _of_seeds(cls, set: Set, seeds: typing.Sequence[_Memory]) -> SecretKey:
+        lengths = _lengths(set)
+        made = _Memory(lengths.secret_key)
+        wrong = [it.length for it in seeds if it.length != lengths.n]
+        why = {_BAD_SEED_LENGTH: _Length(f"a seed of {set.label}", lengths.n, it) for it in wrong[:1]}
+        with _calls.cleared(*seeds):
+            _calls.done("slh_keygen", set, *seeds, made, lengths=why)
+        return cls._of(set, made)
 
     def erase(self) -> None:
         """Overwrites the bytes of this key with zeros.
@@ -360,7 +361,7 @@ class SecretKey:
         A call that runs in another thread ends under its own copy of them, which it then clears.
         """
         self._is_erased = True
-        _erase(self._buffer)
+        self._memory.erase()
 
     def __enter__(self) -> SecretKey:
         if self._is_erased:
@@ -376,38 +377,50 @@ class SecretKey:
         self.erase()
 
     @contextlib.contextmanager
-    def _taken(self) -> typing.Iterator[_Buffer]:
+    def _taken(self) -> typing.Iterator[_Memory]:
         """A copy for one call. `erase` marks the key first: a copy that is made before that mark has all bytes."""
-        copy = _buffer_of(memoryview(self._buffer))
-        with _cleared(copy):
+        copy = _Memory.copy_of(self._memory)
+        with _calls.cleared(copy):
             if self._is_erased:
                 raise Erased
             yield copy
 
-    def __reduce__(self) -> tuple[type[SecretKey], tuple[Set, bytes]]:
-        return type(self), (self._set, self.to_bytes())
-
-    @property
-    def set(self) -> Set:
-        """The parameter set."""
-        return self._set
-
-    def to_bytes(self) -> bytes:
-        """The 4n bytes of the key. Nothing clears them: they are the caller's."""
+    def to_bytes(self) -> bytearray:
+        """The 4n bytes of the key. They are the caller's, which clears them."""
         with self._taken() as secret:
-            return secret.raw
+            return bytearray(secret.view())
+
+    def dumps(self) -> bytearray:
+        """The bytes of a key file of version 2. They are the caller's, which clears them."""
+        with self._dumped() as text:
+            return bytearray(text.view())
+
+    def dump(self, path: Path) -> None:
+        """Writes a key file of version 2, which its owner alone may read and write (mode 0600).
+
+        Raises OSError, a FileExistsError if there is a file: it is not overwritten. After an error there is no file.
+        """
+        with self._dumped() as text:
+            _key_files.write(path, text, is_secret=True)
+
+    @contextlib.contextmanager
+    def _dumped(self) -> typing.Iterator[_Memory]:
+        with self._taken() as secret:
+            text = _key_files.text_of(self._kind, self._set.label, secret)
+            with _calls.cleared(text):
+                yield text
 
     def public(self) -> PublicKey:
         """The public key: the last 2n bytes."""
-        public = ctypes.create_string_buffer(_lengths(self._set).public_key)
+        public = _Memory(_lengths(self._set).public_key)
         with self._taken() as secret:
-            _done("slh_public", self._set, secret, public)
-        return PublicKey(self._set, public.raw)
+            _calls.done("slh_public", self._set, secret, public)
+        return PublicKey._of(self._set, public)
 
     def check(self) -> None:
         """Raises Invalid unless PK.root is the root that the seeds give. This takes as long as making a key."""
         with self._taken() as secret:
-            _done("slh_check", self._set, secret)
+            _calls.done("slh_check", self._set, secret)
 
     def sign(
         self,
@@ -416,13 +429,17 @@ class SecretKey:
         *,
         randomizer: Bytes | None = None,
         deterministic: bool = False,
+        twice: bool = False,
+        verify: bool = False,
     ) -> bytes:
         """Signs a message in the pure form (Algorithm 22).
 
         The randomizer has n bytes, and is drawn from the system unless it is given. With `deterministic` there is none.
-        Raises Refusal: BadRandomizerLength; ContextTooLong where the context has over 255 bytes.
+        With `twice` the signature is computed two times, and with `verify` it is verified under this key's public key.
+        Raises Fault if both differ or it is not valid; then it is erased, and nothing is signed.
+        Raises Refusal: BadRandomizerLength; ContextTooLong if the context has over 255 bytes.
         """
-        return self._sign("slh_sign", (), message, context, randomizer, deterministic)
+        return self._sign("slh_sign", (), message, context, randomizer, deterministic, twice, verify)
 
     def hash_sign(
         self,
@@ -432,13 +449,15 @@ class SecretKey:
         *,
         randomizer: Bytes | None = None,
         deterministic: bool = False,
+        twice: bool = False,
+        verify: bool = False,
     ) -> bytes:
         """Signs a message in the pre-hash form (Algorithm 23), with a digest that this computes.
 
-        A function that is weaker than the set makes a weaker signature. Raises Refusal: as `sign`, and NoSuchFunction.
+        A function that is weaker than the set makes a weaker signature. Raises: as `sign`, and Refusal NoSuchFunction.
         """
-        by = (_checked_number(function, Function),)
-        return self._sign("slh_hash_sign", by, message, context, randomizer, deterministic)
+        by = (_checked_function(function),)
+        return self._sign("slh_hash_sign", by, message, context, randomizer, deterministic, twice, verify)
 
     def hash_sign_digest(
         self,
@@ -448,42 +467,80 @@ class SecretKey:
         *,
         randomizer: Bytes | None = None,
         deterministic: bool = False,
+        twice: bool = False,
+        verify: bool = False,
     ) -> bytes:
         """Signs a message in the pre-hash form (Algorithm 23) by its digest, for messages that are read in pieces.
 
-        Raises Refusal: as `hash_sign`, and BadDigestLength where the digest has another length than the function's.
+        Raises: as `hash_sign`, and Refusal BadDigestLength if the digest has another length than the function's.
         """
-        by = (_checked_number(function, Function),)
-        return self._sign("slh_hash_sign_digest", by, digest, context, randomizer, deterministic)
+        by = (_checked_function(function),)
+        return self._sign("slh_hash_sign_digest", by, digest, context, randomizer, deterministic, twice, verify)
 
     def _sign(
         self,
-        call: str,
+        name: str,
         function: tuple[int, ...],
         text: Bytes,
         context: Bytes,
         randomizer: Bytes | None,
         deterministic: bool,
+        twice: bool,
+        verify: bool,
     ) -> bytes:
-        lengths = _lengths(self._set)
-        given = [_checked_bytes(it) for it in (text, context)]
-        opt_rand = _randomizer(lengths.n, randomizer, deterministic)
-        signature = ctypes.create_string_buffer(lengths.signature)
-        with self._taken() as secret:
-            _done(call, self._set, *function, secret, *given, opt_rand, signature)
-        return signature.raw
+        signed_by = name + "_twice" if _calls.checked_bool("twice", twice) else name
+        verified_by = name.replace("sign", "verify") if _calls.checked_bool("verify", verify) else None
+        given = [_calls.checked_bytes(it) for it in (text, context)]
+        opt_rand = _randomizer(self._set, randomizer, deterministic)
+        signature = _Memory(_lengths(self._set).signature)
+        scratch = [_Memory(2 * signature.length)] if twice else []
+        lengths = _text_lengths(function, *given)
+        with _calls.cleared(signature, *scratch), self._taken() as secret:
+            _calls.done(signed_by, self._set, *function, secret, *given, opt_rand, *scratch, signature, lengths=lengths)
+            if verified_by:
+                self.public()._verify_made(verified_by, function, given, signature)
+            return signature.to_bytes()
 
     def __eq__(self, other: object) -> bool:
-        """Whether both are the same key. One that was erased is none."""
+        """Whether both are the same key, in a time that does not depend on their bytes. One that was erased is none."""
         if not isinstance(other, SecretKey):
             return NotImplemented
-        is_same = self._set == other._set and _are_same(self._buffer, other._buffer)
+        is_same = self._set == other._set and hmac.compare_digest(self._memory.view(), other._memory.view())
         return is_same and not self._is_erased and not other._is_erased
 
     __hash__ = None  # type: ignore[assignment]
 
     def __repr__(self) -> str:
-        return f"<slh.SecretKey {self._set.name}>"
+        return f"<slh.SecretKey {self._set.label}>"
+
+
+@_calls.discreet
+def load(path: Path) -> PublicKey | SecretKey:
+    """Reads a key file of the program `slh`: a key of the kind that the file has. Raises: as `PublicKey.load`."""
+    return typing.cast("PublicKey | SecretKey", _load((PublicKey, SecretKey), path))
+
+
+@_calls.discreet
+def loads(data: Bytes) -> PublicKey | SecretKey:
+    """Reads the bytes of a key file: a key of the kind that it has. Raises: as `PublicKey.load`."""
+    return typing.cast("PublicKey | SecretKey", _loads((PublicKey, SecretKey), data))
+
+
+def _load(kinds: tuple[type[_Key], ...], path: Path) -> _Key:
+    return _parsed(kinds, *_key_files.read(path))
+
+
+def _loads(kinds: tuple[type[_Key], ...], data: Bytes) -> _Key:
+    return _parsed(kinds, _Memory.copy_of(data), 0)
+
+
+def _parsed(kinds: tuple[type[_Key], ...], text: _Memory, skipped: int) -> _Key:
+    """The key of a key file, which is cleared."""
+    by_name = {it._kind: it for it in kinds}
+    lengths = {it.label: {"public": it.lengths.public_key, "secret": it.lengths.secret_key} for it in Set}
+    with _calls.cleared(text):
+        kind, label, digits = _key_files.parse(tuple(by_name), text.view(), skipped, lengths)
+        return by_name[kind]._of(Set(label), _key_files.decode(digits))
 
 
 class Signer:
@@ -494,23 +551,26 @@ class Signer:
 
     A signature is cut into jobs (docs/JOBS.md, "Signing with threads of your own"), which the workers do. With the
     same randomizer, or with none, it is byte for byte the one that `SecretKey` makes. A secret key that `check` finds
-    invalid is refused as AnswersDisagree, where `SecretKey` makes a signature that is not valid. Digests are signed by
+    invalid is refused as AnswersDisagree, while `SecretKey` makes a signature that is not valid. Digests are signed by
     `SecretKey.hash_sign_digest` alone. Any number of threads may sign by one Signer at once.
 
-    With `twice` each job runs two times, and Fault is raised unless both runs gave the same bytes: then nothing is
-    signed. This is for who fears faults, by bad memory or a bad processor (docs/JOBS.md, "Faults").
+    With `twice` each job runs two times, and Fault is raised unless both runs gave the same bytes. With `verify` each
+    signature is verified under the key's public key, and Fault is raised unless it is valid. After Fault nothing is
+    signed. Both find faults of the memory or the processor (docs/JOBS.md, "Faults").
     """
 
-    def __init__(self, workers: int, *, twice: bool = False) -> None:
+    def __init__(self, workers: int, *, twice: bool = False, verify: bool = False) -> None:
         """Keeps up to that many threads, at least 1, until `close`. No more start than a signature has jobs."""
+        if not isinstance(workers, int) or isinstance(workers, bool):
+            raise TypeError(f"workers are an int, not {type(workers).__name__}")
         if workers < 1:
             raise ValueError(f"workers are at least 1, not {workers}")
-        if not isinstance(twice, bool):
-            raise TypeError("twice is True or False")
+        self._runs = 2 if _calls.checked_bool("twice", twice) else 1
+        self._verify = _calls.checked_bool("verify", verify)
         self._pool = concurrent.futures.ThreadPoolExecutor(workers, thread_name_prefix="slh")
         self._workers = workers
-        self._runs = 2 if twice else 1
 
+    @_calls.discreet
     def sign(
         self,
         secret: SecretKey,
@@ -520,9 +580,10 @@ class Signer:
         randomizer: Bytes | None = None,
         deterministic: bool = False,
     ) -> bytes:
-        """Signs a message in the pure form (Algorithm 22). Raises Refusal: as `SecretKey.sign`."""
-        return self._sign("slh_sign_start", secret, (), message, context, randomizer, deterministic)
+        """Signs a message in the pure form (Algorithm 22). Raises Fault; Refusal: as `SecretKey.sign`."""
+        return self._sign("slh_sign", secret, (), message, context, randomizer, deterministic)
 
+    @_calls.discreet
     def hash_sign(
         self,
         secret: SecretKey,
@@ -533,13 +594,13 @@ class Signer:
         randomizer: Bytes | None = None,
         deterministic: bool = False,
     ) -> bytes:
-        """Signs a message in the pre-hash form (Algorithm 23). Raises Refusal: as `SecretKey.hash_sign`."""
-        by = (_checked_number(function, Function),)
-        return self._sign("slh_hash_sign_start", secret, by, message, context, randomizer, deterministic)
+        """Signs a message in the pre-hash form (Algorithm 23). Raises Fault; Refusal: as `SecretKey.hash_sign`."""
+        by = (_checked_function(function),)
+        return self._sign("slh_hash_sign", secret, by, message, context, randomizer, deterministic)
 
     def _sign(
         self,
-        call: str,
+        name: str,
         secret: SecretKey,
         function: tuple[int, ...],
         message: Bytes,
@@ -547,15 +608,22 @@ class Signer:
         randomizer: Bytes | None,
         deterministic: bool,
     ) -> bytes:
-        given = [_checked_bytes(it) for it in (message, context)]
-        opt_rand = _randomizer(_lengths(secret.set).n, randomizer, deterministic)
-        with secret._taken() as taken:
-            work = _Work(secret.set, taken, self._runs)
-            _done(call, secret.set, *function, taken, *given, opt_rand, work.start)
-            return work.done_by(self._pool, self._workers)
+        checked = _checked_secret(secret)
+        given = [_calls.checked_bytes(it) for it in (message, context)]
+        opt_rand = _randomizer(checked.set, randomizer, deterministic)
+        signature = _Memory(_lengths(checked.set).signature)
+        lengths = _text_lengths((), *given)
+        with _calls.cleared(signature), checked._taken() as taken:
+            work = _Work(checked.set, taken, self._runs)
+            start = work.start
+            _calls.done(f"{name}_start", checked.set, *function, taken, *given, opt_rand, start, lengths=lengths)
+            work.sign(self._pool, self._workers, signature)
+            if self._verify:
+                checked.public()._verify_made(name.replace("sign", "verify"), function, given, signature)
+            return signature.to_bytes()
 
     def close(self) -> None:
-        """Waits for what is being signed, and ends the threads."""
+        """Waits for the signatures that are being made, and ends the threads."""
         self._pool.shutdown()
 
     def __enter__(self) -> Signer:
@@ -570,37 +638,41 @@ class Signer:
         self.close()
 
 
+def _checked_secret(given: SecretKey) -> SecretKey:
+    if not isinstance(given, SecretKey):
+        raise TypeError(f"an slh.SecretKey is needed, not {type(given).__name__}")
+    return given
+
+
 class _Work:
     """One signature as jobs, each of which runs once or twice."""
 
-    def __init__(self, set: Set, secret: _Buffer, runs: int) -> None:
+    def __init__(self, set: Set, secret: _Memory, runs: int) -> None:
         self.set, self.secret = set, secret
         # The levels of XMSS trees, those that docs/BENCHMARKS.md has for four workers, and of FORS trees.
         self.cut = (self.set, {1: 4, 3: 4, 5: 3, 6: 1}.get(self.set, 0), 0)
         jobs, start_len, answers_len = ctypes.c_uint32(), ctypes.c_size_t(), ctypes.c_size_t()
-        _done("slh_sign_jobs", *self.cut, jobs, start_len, answers_len)
+        _calls.done("slh_sign_jobs", *self.cut, jobs, start_len, answers_len)
         self.jobs = jobs.value
         self.start = ctypes.create_string_buffer(start_len.value)
-        self.answers = [ctypes.create_string_buffer(answers_len.value) for _ in range(runs)]
+        self.answers = [_Memory(answers_len.value) for _ in range(runs)]
 
-    def job(self, number: int, answers: _Buffer) -> None:
+    def job(self, number: int, answers: _Memory) -> None:
         """Writes the answer of a job into its place."""
         at, length = ctypes.c_size_t(), ctypes.c_size_t()
-        _done("slh_answer_place", *self.cut, number, at, length)
-        answer = (ctypes.c_char * length.value).from_buffer(answers, at.value)
-        _done("slh_sign_job", *self.cut, self.secret, self.start, number, answer)
+        _calls.done("slh_answer_place", *self.cut, number, at, length)
+        _calls.done("slh_sign_job", *self.cut, self.secret, self.start, number, answers.part(at.value, length.value))
 
-    def work(self, numbers: typing.Iterator[tuple[_Buffer, int]]) -> None:
+    def work(self, numbers: typing.Iterator[tuple[_Memory, int]]) -> None:
         """Does jobs while there are numbers, which several threads take."""
         for answers, number in numbers:
             self.job(number, answers)
 
-    def done_by(self, pool: concurrent.futures.Executor, workers: int) -> bytes:
+    def sign(self, pool: concurrent.futures.Executor, workers: int, signature: _Memory) -> None:
         """Has the jobs done, and joins their answers to the signature. Answers are secret, and are cleared."""
-        signature = ctypes.create_string_buffer(_lengths(self.set).signature)
         numbers = iter([(answers, number) for answers in self.answers for number in range(self.jobs)])
         futures: list[concurrent.futures.Future[None]] = []
-        with _cleared(*self.answers):
+        with _calls.cleared(*self.answers):
             try:
                 for _ in range(min(workers, self.jobs)):
                     futures.append(pool.submit(self.work, numbers))
@@ -609,7 +681,6 @@ class _Work:
             finally:
                 concurrent.futures.wait(futures)
             first, *others = self.answers
-            if not all(_are_same(first, it) for it in others):
-                raise Fault
-            _done("slh_sign_join", *self.cut, self.secret, self.start, first, signature)
-        return signature.raw
+            if not all(hmac.compare_digest(first.view(), it.view()) for it in others):
+                raise Fault("two runs of a job gave different answers")
+            _calls.done("slh_sign_join", *self.cut, self.secret, self.start, first, signature)

@@ -15,31 +15,33 @@ from __future__ import annotations
 import ctypes
 import typing
 
-from slh import Bytes, SecretKey, Set, _checked_bytes, _checked_number, _cleared, _done, _lengths, _randomizer
+from slh import AnySet, Bytes, SecretKey, _checked_secret, _checked_set, _lengths, _randomizer, _text_lengths
+from slh._calls import Length, Memory, checked_bytes, checked_number, cleared, discreet, done
 
 __all__ = ["Jobs"]
 
-
-def _checked(number: int) -> int:
-    """A number for a call: ctypes alone would cut longer ones to 32 bits."""
-    if not isinstance(number, int):
-        raise TypeError(f"a number is needed, not {type(number).__name__}")
-    if not 0 <= number < 1 << 32:
-        raise OverflowError(f"{number} is not a number of 32 bits")
-    return number
+_BAD_LENGTH = 3
+_BAD_ANSWERS_LENGTH = 20
+_BAD_START_LENGTH = 27
 
 
 class Jobs:
     """The jobs of one signature of a set: each XMSS tree is cut into 2^xmss ranges, each FORS tree into 2^fors."""
 
-    def __init__(self, set: int, xmss: int = 0, fors: int = 0) -> None:
+    def __init__(self, set: AnySet, xmss: int = 0, fors: int = 0) -> None:
         """Raises Refusal: NoSuchSet, BadCutting."""
         count, start, answers = ctypes.c_uint32(), ctypes.c_size_t(), ctypes.c_size_t()
-        self._cut = _checked_number(set, Set), _checked(xmss), _checked(fors)
-        _done("slh_sign_jobs", *self._cut, count, start, answers)
-        self.set, self.count = Set(set), count.value
-        self._start_length = start.value
+        self.set = _checked_set(set)
+        self._cut = self.set, checked_number(xmss), checked_number(fors)
+        done("slh_sign_jobs", *self._cut, count, start, answers)
+        self.count, self._start_length, self._answers_length = count.value, start.value, answers.value
 
+    def _lengths(self, secret: SecretKey, start: bytes) -> dict[int, Length]:
+        """The lengths of a key and of a start, for refusals."""
+        key = Length(f"a secret key of {self.set.label}", _lengths(self.set).secret_key, _lengths(secret.set).secret_key)
+        return {_BAD_LENGTH: key, _BAD_START_LENGTH: Length("a start", self._start_length, len(start))}
+
+    @discreet
     def start(
         self,
         secret: SecretKey,
@@ -50,35 +52,47 @@ class Jobs:
         deterministic: bool = False,
     ) -> bytes:
         """Begins the signature of a message in the pure form. Raises Refusal: as `SecretKey.sign`."""
-        given = [_checked_bytes(it) for it in (message, context)]
-        opt_rand = _randomizer(_lengths(self.set).n, randomizer, deterministic)
+        given = [checked_bytes(it) for it in (message, context)]
+        opt_rand = _randomizer(self.set, randomizer, deterministic)
         start = ctypes.create_string_buffer(self._start_length)
+        lengths = {**self._lengths(_checked_secret(secret), b""), **_text_lengths((), *given)}
         with secret._taken() as taken:
-            _done("slh_sign_start", self.set, taken, *given, opt_rand, start)
+            done("slh_sign_start", self.set, taken, *given, opt_rand, start, lengths=lengths)
         return start.raw
 
+    @discreet
     def answer(self, secret: SecretKey, start: Bytes, job: int) -> bytearray:
         """Does one job, a number below `count`. Raises Refusal: NoSuchJob, BadLength, BadStartLength, BadStart."""
         at, length = ctypes.c_size_t(), ctypes.c_size_t()
-        _done("slh_answer_place", *self._cut, _checked(job), at, length)
-        answer = bytearray(length.value)
-        written = (ctypes.c_char * length.value).from_buffer(answer)
-        with secret._taken() as taken:
-            _done("slh_sign_job", *self._cut, taken, _checked_bytes(start), job, written)
-        return answer
+        done("slh_answer_place", *self._cut, checked_number(job), at, length)
+        begun = checked_bytes(start)
+        answer = Memory(length.value)
+        lengths = self._lengths(_checked_secret(secret), begun)
+        with cleared(answer), secret._taken() as taken:
+            done("slh_sign_job", *self._cut, taken, begun, job, answer, lengths=lengths)
+            return bytearray(answer.view())
 
+    @discreet
     def join(self, secret: SecretKey, start: Bytes, answers: typing.Iterable[Bytes]) -> bytes:
         """Joins the answers of all jobs, in the order of their numbers, to the signature.
 
         Raises Refusal: BadAnswersLength, BadLength, BadStartLength, BadStart, AnswersDisagree.
         """
-        given = [memoryview(it).cast("B") for it in answers]
-        joined = ctypes.create_string_buffer(sum(it.nbytes for it in given))
-        signature = ctypes.create_string_buffer(_lengths(self.set).signature)
-        with _cleared(joined), secret._taken() as taken:
-            end = 0
-            for it in given:
-                memoryview(joined).cast("B")[end : end + it.nbytes] = it
-                end += it.nbytes
-            _done("slh_sign_join", *self._cut, taken, _checked_bytes(start), joined, signature)
-        return signature.raw
+        given = [Memory.copy_of(it) for it in answers]
+        begun = checked_bytes(start)
+        joined = Memory(sum(it.length for it in given))
+        signature = Memory(_lengths(self.set).signature)
+        lengths = self._lengths(_checked_secret(secret), begun)
+        lengths[_BAD_ANSWERS_LENGTH] = Length("the answers of all jobs", self._answers_length, joined.length)
+        with cleared(joined, signature, *given), secret._taken() as taken:
+            _join(given, joined)
+            done("slh_sign_join", *self._cut, taken, begun, joined, signature, lengths=lengths)
+            return signature.to_bytes()
+
+
+def _join(parts: list[Memory], whole: Memory) -> None:
+    """Copies parts into the memory that they fill."""
+    end = 0
+    for it in parts:
+        whole.view()[end : end + it.length] = it.view()
+        end += it.length

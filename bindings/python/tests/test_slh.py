@@ -5,8 +5,8 @@ python3 -m unittest discover -s bindings/python/tests
 
 from __future__ import annotations
 
+import base64
 import contextlib
-import copy
 import ctypes
 import hashlib
 import itertools
@@ -14,6 +14,7 @@ import json
 import pathlib
 import pickle
 import re
+import subprocess
 import unittest
 import unittest.mock
 
@@ -48,9 +49,9 @@ def digest_of(test: dict) -> bytes:
     return hashlib.new(name, bytes.fromhex(test["message"])).digest()
 
 
-def is_valid(verify, *arguments) -> bool:
+def is_valid(verify, *function, **named) -> bool:
     try:
-        verify(*arguments)
+        verify(*function, **named)
     except slh.Invalid:
         return False
     return True
@@ -90,13 +91,14 @@ class Vectors(unittest.TestCase):
             with self.subTest(number=number, set=test["set"], form=test["form"]):
                 public = slh.PublicKey(set_of(test), bytes.fromhex(test["pk"]))
                 message, signature, context = bytes_of(test, "message", "signature", "context")
+                named = {"signature": signature, "context": context}
                 if test["form"] == "pure":
-                    found = {is_valid(public.verify, message, signature, context)}
+                    found = {is_valid(public.verify, message=message, **named)}
                 else:
                     function = function_of(test)
                     found = {
-                        is_valid(public.hash_verify, function, message, signature, context),
-                        is_valid(public.hash_verify_digest, function, digest_of(test), signature, context),
+                        is_valid(public.hash_verify, function, message=message, **named),
+                        is_valid(public.hash_verify_digest, function, digest=digest_of(test), **named),
                     }
                 self.assertEqual(found, {test["valid"]})
 
@@ -123,8 +125,11 @@ SECRETS = {
     "slh_public": (1,),
     "slh_check": (1,),
     "slh_sign": (1,),
+    "slh_sign_twice": (1,),
     "slh_hash_sign": (2,),
+    "slh_hash_sign_twice": (2,),
     "slh_hash_sign_digest": (2,),
+    "slh_hash_sign_digest_twice": (2,),
     "slh_sign_start": (1,),
     "slh_hash_sign_start": (2,),
     "slh_sign_job": (3, 6),
@@ -138,19 +143,31 @@ def watched(act=None):
 
     After each call `act` is given its arguments.
     """
-    seen, call = [], slh._call
+    seen, call = [], slh._calls.call
 
     def watching(name, *arguments):
         result = call(name, *arguments)
         if act:
             act(name, arguments)
         for at in SECRETS.get(name, ()):
-            assert any(arguments[at].raw) or result, f"{name} is given zeros"
+            assert any(arguments[at].view()) or result, f"{name} is given zeros"
             seen.append((name, arguments[at]))
         return result
 
-    with unittest.mock.patch.object(slh, "_call", watching):
+    with unittest.mock.patch.object(slh._calls, "call", watching):
         yield seen
+
+
+def recording(erased: list[bytes]) -> tuple:
+    """The defaults of the method that drops memory: what is in it before and after it is erased is noted."""
+    erase, free, address, size = slh._Memory.__del__.__defaults__
+
+    def noting(at, length) -> None:
+        erased.append(ctypes.string_at(at, length.value))
+        erase(at, length)
+        erased.append(ctypes.string_at(at, length.value))
+
+    return noting, free, address, size
 
 
 def faulty(job: int, run: int, bit: int):
@@ -159,8 +176,7 @@ def faulty(job: int, run: int, bit: int):
 
     def act(name, arguments) -> None:
         if name == "slh_sign_job" and arguments[5] == job and next(runs) == run:
-            answer = memoryview(arguments[6]).cast("B")
-            answer[bit // 8] ^= 1 << bit % 8
+            arguments[6].view()[bit // 8] ^= 1 << bit % 8
 
     return act
 
@@ -175,14 +191,17 @@ class Calls(unittest.TestCase):
         with self.assertRaises(slh.Refusal) as caught:
             call(*arguments, **named)
         self.assertEqual((caught.exception.number, caught.exception.name), (number, name))
-        self.assertEqual(str(caught.exception), f"{number} {name}")
+        self.assertRegex(str(caught.exception), f"^{number} {name}: [a-z]")
+
+    def invalid(self, verify, *function, **named) -> None:
+        self.assertRaises(slh.Invalid, verify, *function, **named)
 
     def test_generated_keys_differ(self) -> None:
         other = slh.SecretKey.generate(FAST)
         self.secret.check()
         self.assertNotEqual(self.secret, other)
         self.assertNotEqual(self.public, other.public())
-        parts = [it.to_bytes()[at : at + 16] for it in (self.secret, other) for at in (0, 16, 32)]
+        parts = [bytes(it.to_bytes()[at : at + 16]) for it in (self.secret, other) for at in (0, 16, 32)]
         self.assertEqual(len(set(parts)), 6)
 
     def test_randomizers_are_drawn(self) -> None:
@@ -191,7 +210,7 @@ class Calls(unittest.TestCase):
         made = {self.secret.sign(b"letter"), self.secret.sign(b"letter"), same}
         self.assertEqual(len(made), 3)
         for signature in made:
-            self.public.verify(b"letter", signature)
+            self.public.verify(message=b"letter", signature=signature)
         self.refused(17, "BadRandomizerLength", self.secret.sign, b"letter", randomizer=b"")
         self.refused(17, "BadRandomizerLength", self.secret.sign, b"letter", randomizer=bytes(15))
         with self.assertRaises(TypeError):
@@ -203,9 +222,9 @@ class Calls(unittest.TestCase):
     def test_contexts(self) -> None:
         longest, longer = bytes(255), bytes(256)
         signature = self.secret.sign(b"letter", longest)
-        self.public.verify(b"letter", signature, longest)
+        self.public.verify(message=b"letter", signature=signature, context=longest)
         for context in (b"", bytes(254), longer):
-            self.assertRaises(slh.Invalid, self.public.verify, b"letter", signature, context)
+            self.invalid(self.public.verify, message=b"letter", signature=signature, context=context)
         digest = hashlib.sha256(b"letter").digest()
         function = slh.Function.SLH_SHA2_256
         with slh.Signer(workers=1) as signer:
@@ -217,15 +236,15 @@ class Calls(unittest.TestCase):
 
     def test_damage_is_invalid(self) -> None:
         signature = self.secret.sign(b"letter")
-        self.public.verify(b"letter", signature)
+        self.public.verify(message=b"letter", signature=signature)
         for at in (0, 16, len(signature) - 1):
             damaged = bytearray(signature)
             damaged[at] ^= 1
-            self.assertRaises(slh.Invalid, self.public.verify, b"letter", damaged)
+            self.invalid(self.public.verify, message=b"letter", signature=damaged)
         for other in (b"", signature[:-1], signature + b"\0"):
-            self.assertRaises(slh.Invalid, self.public.verify, b"letter", other)
-        self.assertRaises(slh.Invalid, self.public.verify, b"Letter", signature)
-        self.assertRaises(slh.Invalid, self.public.hash_verify, slh.Function.SLH_SHA2_256, b"letter", signature)
+            self.invalid(self.public.verify, message=b"letter", signature=other)
+        self.invalid(self.public.verify, message=b"Letter", signature=signature)
+        self.invalid(self.public.hash_verify, slh.Function.SLH_SHA2_256, message=b"letter", signature=signature)
         wrong = bytearray(self.secret.to_bytes())
         wrong[-1] ^= 1
         self.assertRaises(slh.Invalid, slh.SecretKey(FAST, wrong).check)
@@ -238,16 +257,17 @@ class Calls(unittest.TestCase):
         self.refused(3, "BadLength", slh.PublicKey, FAST, bytes(33))
         self.refused(10, "BadSeedLength", slh.SecretKey.keygen, FAST, bytes(16), bytes(16), short)
         self.refused(9, "NoSuchFunction", self.secret.hash_sign, 7, b"letter")
-        self.refused(9, "NoSuchFunction", self.public.hash_verify, 0, b"letter", b"")
+        self.refused(9, "NoSuchFunction", self.public.hash_verify, 0, message=b"letter", signature=b"")
         self.refused(16, "BadDigestLength", self.secret.hash_sign_digest, 2, digest)
-        self.refused(16, "BadDigestLength", self.public.hash_verify_digest, 2, digest, b"")
+        self.refused(16, "BadDigestLength", self.public.hash_verify_digest, 2, digest=digest, signature=b"")
         self.assertRaises(OverflowError, self.secret.hash_sign, (1 << 32) + 2, b"letter")
 
-    def test_arguments_of_another_kind_are_told_by_what_is_wanted(self) -> None:
+    def test_arguments_of_another_kind_are_told_by_the_wanted_one(self) -> None:
         function, digest, data = slh.Function.SLH_SHA2_256, bytes(32), self.public.to_bytes()
-        wanted = "an slh.Set is needed, not "
+        wanted = "an slh.Set or its name is needed, not "
         for call, given in (
-            (slh.SecretKey.generate, ("SLH-DSA-SHA2-128f",)),
+            (slh.SecretKey.generate, (2.0,)),
+            (slh.SecretKey.generate, (True,)),
             (slh.SecretKey.keygen, (data, data, data, data)),
             (slh.SecretKey, (self.secret.to_bytes(), FAST)),
             (slh.PublicKey, (data, FAST)),
@@ -255,33 +275,103 @@ class Calls(unittest.TestCase):
             self.assertRaisesRegex(TypeError, wanted, call, *given)
         wanted = "an slh.Function is needed, not "
         with slh.Signer(workers=1) as signer:
-            for call, given in (
-                (self.secret.hash_sign, ("SHA2-256", b"letter")),
-                (self.secret.hash_sign, (b"letter", function)),
-                (self.secret.hash_sign_digest, (digest, function)),
-                (signer.hash_sign, (self.secret, b"letter", function)),
-                (self.public.hash_verify, (b"letter", function, b"")),
-                (self.public.hash_verify_digest, (digest, function, b"")),
+            for call, given, named in (
+                (self.secret.hash_sign, ("SHA2-256", b"letter"), {}),
+                (self.secret.hash_sign, (b"letter", function), {}),
+                (self.secret.hash_sign, (True, b"letter"), {}),
+                (self.secret.hash_sign_digest, (digest, function), {}),
+                (signer.hash_sign, (self.secret, b"letter", function), {}),
+                (self.public.hash_verify, (b"letter",), {"message": b"letter", "signature": b""}),
+                (self.public.hash_verify_digest, (digest,), {"digest": digest, "signature": b""}),
             ):
-                self.assertRaisesRegex(TypeError, wanted, call, *given)
-            for wrong in ("letter", 5, None, [1]):
-                for call, given in (
-                    (slh.SecretKey.keygen, (FAST, wrong, digest, digest)),
-                    (slh.SecretKey, (FAST, wrong)),
-                    (slh.PublicKey, (FAST, wrong)),
-                    (self.secret.sign, (wrong,)),
-                    (self.secret.sign, (b"letter", wrong)),
-                    (self.secret.hash_sign, (function, wrong)),
-                    (self.secret.hash_sign_digest, (function, wrong)),
-                    (signer.sign, (self.secret, wrong)),
-                    (signer.hash_sign, (self.secret, function, b"letter", wrong)),
-                    (self.public.verify, (wrong, b"")),
-                    (self.public.verify, (b"letter", wrong)),
-                    (self.public.hash_verify, (function, b"letter", b"", wrong)),
-                    (self.public.hash_verify_digest, (function, digest, wrong)),
-                ):
-                    self.assertRaisesRegex(TypeError, "bytes are needed, not ", call, *given)
+                self.assertRaisesRegex(TypeError, wanted, call, *given, **named)
+            for call, given in ((signer.sign, (data, b"letter")), (signer.hash_sign, (data, function, b"letter"))):
+                self.assertRaisesRegex(TypeError, "an slh.SecretKey is needed, not bytes", call, *given)
+            for wrong in ("letter", 5, None, [1], self.secret):
+                self.needs_bytes(signer, wrong)
         self.assertRaisesRegex(TypeError, "bytes are needed, not str", self.secret.sign, b"letter", randomizer="16")
+
+    def needs_bytes(self, signer: slh.Signer, wrong) -> None:
+        function, digest = slh.Function.SLH_SHA2_256, bytes(32)
+        for call, given, named in (
+            (slh.SecretKey.keygen, (FAST, wrong, digest, digest), {}),
+            (slh.SecretKey, (FAST, wrong), {}),
+            (slh.PublicKey, (FAST, wrong), {}),
+            (slh.loads, (wrong,), {}),
+            (self.secret.sign, (wrong,), {}),
+            (self.secret.sign, (b"letter", wrong), {}),
+            (self.secret.hash_sign, (function, wrong), {}),
+            (self.secret.hash_sign_digest, (function, wrong), {}),
+            (signer.sign, (self.secret, wrong), {}),
+            (signer.hash_sign, (self.secret, function, b"letter", wrong), {}),
+            (self.public.verify, (), {"message": wrong, "signature": b""}),
+            (self.public.verify, (), {"message": b"letter", "signature": wrong}),
+            (self.public.hash_verify, (function,), {"message": b"", "signature": b"", "context": wrong}),
+            (self.public.hash_verify_digest, (function,), {"digest": digest, "signature": wrong}),
+        ):
+            self.assertRaisesRegex(TypeError, "bytes are needed, not ", call, *given, **named)
+
+    def test_verifying_takes_message_and_signature_by_name_alone(self) -> None:
+        signature, function, digest = self.secret.sign(b"letter"), slh.Function.SLH_SHA2_256, bytes(32)
+        for call, given in (
+            (self.public.verify, (b"letter", signature)),
+            (self.public.hash_verify, (function, b"letter", signature)),
+            (self.public.hash_verify_digest, (function, digest, signature)),
+        ):
+            self.assertRaisesRegex(TypeError, "positional argument", call, *given)
+
+    def test_switches_are_true_or_false(self) -> None:
+        function, digest = slh.Function.SLH_SHA2_256, bytes(32)
+        for name, wrong in itertools.product(("deterministic", "twice", "verify"), (1, 0, None, "yes", b"")):
+            for call, given in (
+                (self.secret.sign, (b"letter",)),
+                (self.secret.hash_sign, (function, b"letter")),
+                (self.secret.hash_sign_digest, (function, digest)),
+            ):
+                self.assertRaisesRegex(TypeError, f"{name} is True or False", call, *given, **{name: wrong})
+        for name, wrong in itertools.product(("twice", "verify"), (1, 0, None, "yes")):
+            self.assertRaisesRegex(TypeError, f"{name} is True or False", slh.Signer, 1, **{name: wrong})
+        for wrong in (True, 2.0, "2", None):
+            self.assertRaisesRegex(TypeError, "workers are an int", slh.Signer, wrong)
+
+    def test_refusals_of_lengths_have_both_lengths(self) -> None:
+        function, short = slh.Function.SLH_SHA2_384, bytes(31)
+        for expected, given, call, arguments, named in (
+            (64, 63, slh.SecretKey, (FAST, bytes(63)), {}),
+            (32, 64, slh.PublicKey, (FAST, bytes(64)), {}),
+            (16, 31, slh.SecretKey.keygen, (FAST, bytes(16), short, bytes(16)), {}),
+            (16, 31, self.secret.sign, (b"letter",), {"randomizer": short}),
+            (255, 256, self.secret.sign, (b"letter", bytes(256)), {}),
+            (48, 31, self.secret.hash_sign_digest, (function, short), {}),
+            (48, 31, self.public.hash_verify_digest, (function,), {"digest": short, "signature": b""}),
+        ):
+            with self.assertRaises(slh.Refusal) as caught:
+                call(*arguments, **named)
+            self.assertEqual((caught.exception.expected, caught.exception.given), (expected, given))
+            self.assertRegex(str(caught.exception), rf" {expected} bytes.*, and {given} were given$")
+        for function in slh.Function:
+            self.assertEqual(function.digest_length, hashlib.new("sha" + function.name[9:]).digest_size)
+
+    def test_errors_pass_between_processes(self) -> None:
+        made = [slh.Erased(), slh.Fault(), slh.Invalid("invalid")]
+        for call, given in ((slh.SecretKey, (FAST, bytes(63))), (slh.SecretKey.generate, (7,))):
+            with self.assertRaises(slh.Refusal) as caught:
+                call(*given)
+            made.append(caught.exception)
+        for error in made:
+            again = pickle.loads(pickle.dumps(error))
+            self.assertEqual((type(again), str(again), vars(again)), (type(error), str(error), vars(error)))
+
+    def test_sets_have_names(self) -> None:
+        for it in slh.Set:
+            self.assertEqual(it.label.upper().replace("-", "_"), it.name)
+            self.assertIs(slh.Set(it.label), it)
+        named = slh.SecretKey("SLH-DSA-SHA2-128f", self.secret.to_bytes())
+        self.assertEqual(named, self.secret)
+        self.assertIs(slh.PublicKey("SLH-DSA-SHA2-256s", bytes(64)).set, slh.Set.SLH_DSA_SHA2_256S)
+        for wrong in ("", "128f", "SLH-DSA-SHA2-128F", "SLH_DSA_SHA2_128F"):
+            self.refused(8, "NoSuchSet", slh.SecretKey.generate, wrong)
+            self.refused(8, "NoSuchSet", slh.PublicKey, wrong, bytes(32))
 
     def test_any_number_of_workers_makes_the_same_signature(self) -> None:
         alone = self.secret.sign(b"letter", deterministic=True)
@@ -297,7 +387,7 @@ class Calls(unittest.TestCase):
         for workers in (1, 2):
             with slh.Signer(workers=workers) as signer:
                 self.refused(25, "AnswersDisagree", signer.sign, secret, b"letter")
-        self.assertRaises(slh.Invalid, secret.public().verify, b"letter", secret.sign(b"letter"))
+        self.invalid(secret.public().verify, message=b"letter", signature=secret.sign(b"letter"))
 
     def test_an_erased_key_does_nothing(self) -> None:
         data = bytearray(self.secret.to_bytes())
@@ -327,51 +417,55 @@ class Calls(unittest.TestCase):
                 (signer.sign, (erased, b"letter")),
                 (signer.hash_sign, (erased, function, b"letter")),
                 (erased.__enter__, ()),
-                (copy.copy, (erased,)),
-                (pickle.dumps, (erased,)),
+                (erased.dumps, ()),
+                (erased.dump, ("/nowhere/at/all",)),
             ):
                 with self.assertRaises(slh.Erased) as caught:
                     call(*given)
                 self.assertNotIsInstance(caught.exception, (slh.Refusal, slh.Invalid, slh.Fault))
         self.assertFalse(erased == erased or erased == self.secret)
-        self.assertEqual(repr(erased), "<slh.SecretKey SLH_DSA_SHA2_128F>")
-
-    def test_copies_are_erased_by_themselves(self) -> None:
-        for made in copy.copy(self.secret), copy.deepcopy(self.secret), pickle.loads(pickle.dumps(self.secret)):
-            self.assertEqual(made, self.secret)
-            made.erase()
-            self.secret.check()
+        self.assertEqual(repr(erased), "<slh.SecretKey SLH-DSA-SHA2-128f>")
 
     def test_a_key_that_is_erased_before_a_call_has_copied_it_signs_nothing(self) -> None:
         secret = slh.SecretKey(FAST, self.secret.to_bytes())
-        buffer_of = slh._buffer_of
+        copy_of = slh._Memory.copy_of
 
         def late(given):
-            if isinstance(given, memoryview):
-                secret.erase()
-            return buffer_of(given)
+            secret.erase()
+            return copy_of(given)
 
-        with unittest.mock.patch.object(slh, "_buffer_of", late):
+        with unittest.mock.patch.object(slh._Memory, "copy_of", late):
             self.assertRaises(slh.Erased, secret.sign, b"letter")
 
-    def test_buffers_of_secrets_are_cleared(self) -> None:
+    def test_memory_of_secrets_is_cleared(self) -> None:
+        function, digest = slh.Function.SLH_SHA2_256, bytes(32)
         with watched() as seen:
             secret = slh.SecretKey.generate(FAST)
-            address, length = ctypes.addressof(secret._buffer), len(secret._buffer)
             slh.SecretKey.keygen(FAST, b"1" * 16, bytearray(b"2" * 16), memoryview(b"3" * 16))
             self.refused(10, "BadSeedLength", slh.SecretKey.keygen, FAST, b"1" * 16, b"2" * 16, b"3" * 15)
             secret.check()
             secret.public()
-            for sign in secret.sign, slh.Signer(workers=2).sign, slh.Signer(workers=1, twice=True).sign:
-                sign(*[] if sign == secret.sign else [secret], b"letter")
-            secret.hash_sign(slh.Function.SLH_SHA2_256, b"letter")
-            secret.hash_sign_digest(slh.Function.SLH_SHA2_256, bytes(32))
-            slh.Signer(workers=2).hash_sign(secret, slh.Function.SLH_SHA2_256, b"letter")
+            for twice in (False, True):
+                with slh.Signer(workers=2, twice=twice) as signer:
+                    signer.sign(secret, b"letter")
+                    signer.hash_sign(secret, function, b"letter")
+                secret.sign(b"letter", twice=twice)
+                secret.hash_sign(function, b"letter", twice=twice)
+                secret.hash_sign_digest(function, digest, twice=twice)
         self.assertEqual({name for name, _ in seen}, SECRETS.keys())
-        self.assertEqual([name for name, buffer in seen if any(buffer.raw)], [])
-        self.assertTrue(any(ctypes.string_at(address, length)))
+        kept = [name for name, memory in seen if any(memory.view()) and memory is not secret._memory]
+        self.assertEqual(kept, ["slh_keygen"])
+        self.assertTrue(any(secret._memory.view()))
         secret.erase()
-        self.assertEqual(ctypes.string_at(address, length), bytes(64))
+        self.assertEqual(secret._memory.to_bytes(), bytes(64))
+
+    def test_keys_that_are_dropped_are_erased(self) -> None:
+        erased = []
+        with unittest.mock.patch.object(slh._Memory.__del__, "__defaults__", recording(erased)):
+            secret = slh.SecretKey(FAST, self.secret.to_bytes())
+            erased.clear()
+            del secret
+        self.assertEqual(erased, [self.secret.to_bytes(), bytes(64)])
 
     def test_a_fault_in_one_run_of_a_job_is_found(self) -> None:
         """One bit of one answer is flipped after the job: in its node, its tag, what follows, and its last byte."""
@@ -385,7 +479,7 @@ class Calls(unittest.TestCase):
                     names = [name for name, _ in seen]
                     self.assertEqual(names.count("slh_sign_job"), 2 * 2 * 55)
                     self.assertNotIn("slh_sign_join", names)
-                    self.assertFalse(any(any(buffer.raw) for _, buffer in seen))
+                    self.assertFalse(any(any(memory.view()) for _, memory in seen))
 
     def test_without_a_fault_twice_signs_the_same(self) -> None:
         alone = self.secret.sign(b"letter", deterministic=True)
@@ -395,14 +489,19 @@ class Calls(unittest.TestCase):
         for wrong in (2, None, "yes"):
             self.assertRaisesRegex(TypeError, "twice is True or False", slh.Signer, 1, twice=wrong)
 
-    def test_secrets_are_not_printed(self) -> None:
-        for text in (repr(self.secret), str(self.secret), f"{self.secret}"):
-            self.assertEqual(text, "<slh.SecretKey SLH_DSA_SHA2_128F>")
-        self.assertEqual(repr(self.public), f"<slh.PublicKey SLH_DSA_SHA2_128F {self.public.to_bytes().hex()}>")
+    def test_keys_are_printed_without_their_bytes(self) -> None:
+        data = self.public.to_bytes()
+        fingerprint = subprocess.run(["sha256sum"], input=data, stdout=subprocess.PIPE, check=True).stdout.split()[0]
+        wanted = "SHA256:" + base64.b64encode(bytes.fromhex(fingerprint.decode())).decode().rstrip("=")
+        self.assertEqual(self.public.fingerprint, wanted)
+        for key, said in (self.secret, "slh.SecretKey SLH-DSA-SHA2-128f"), (self.public, f"slh.PublicKey SLH-DSA-SHA2-128f {wanted}"):
+            for text in (repr(key), str(key), f"{key}"):
+                self.assertEqual(text, f"<{said}>")
 
     def test_version_and_lengths(self) -> None:
         first, second, third = map(int, (REPOSITORY / "VERSION").read_text().split("."))
         self.assertEqual(slh.version(), 1000000 * first + 1000 * second + third)
+        self.assertEqual(slh.__version__, f"{first}.{second}.{third}")
         self.assertEqual(slh.Set.SLH_DSA_SHA2_256F.lengths, (64, 128, 49856, 32))
 
     def test_numbers_are_those_of_the_header(self) -> None:
