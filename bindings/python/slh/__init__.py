@@ -233,6 +233,7 @@ class PublicKey(_Key):
         """The bytes of a key file of version 2."""
         return _key_files.text_of(self._kind, self._set.label, self._memory).to_bytes()
 
+    @_calls.discreet
     def dump(self, path: Path) -> None:
         """Writes a key file of version 2. Raises OSError, a FileExistsError if there is a file: it is not overwritten."""
         _key_files.write(path, _Memory.copy_of(self.dumps()), is_secret=False)
@@ -395,6 +396,7 @@ class SecretKey(_Key):
         with self._dumped() as text:
             return bytearray(text.view())
 
+    @_calls.discreet
     def dump(self, path: Path) -> None:
         """Writes a key file of version 2, which its owner alone may read and write (mode 0600).
 
