@@ -235,7 +235,10 @@ class PublicKey(_Key):
 
     @_calls.discreet
     def dump(self, path: Path) -> None:
-        """Writes a key file of version 2. Raises OSError, a FileExistsError if there is a file: it is not overwritten."""
+        """Writes a key file of version 2.
+
+        Raises OSError, a FileExistsError if there is a file: it is not overwritten. After another error there is none.
+        """
         _key_files.write(path, _Memory.copy_of(self.dumps()), is_secret=False)
 
     @property
@@ -400,7 +403,7 @@ class SecretKey(_Key):
     def dump(self, path: Path) -> None:
         """Writes a key file of version 2, which its owner alone may read and write (mode 0600).
 
-        Raises OSError, a FileExistsError if there is a file: it is not overwritten. After an error there is no file.
+        Raises OSError, a FileExistsError if there is a file: it is not overwritten. After another error there is none.
         """
         with self._dumped() as text:
             _key_files.write(path, text, is_secret=True)

@@ -1,4 +1,4 @@
-"""Key files of the program slh (docs/FORMATS.md of the repository, "Key file"): both versions are read, 2 is written."""
+"""Key files (docs/FORMATS.md of the repository, "Key file"): both versions are read, and version 2 is written."""
 
 from __future__ import annotations
 
@@ -81,7 +81,7 @@ def parse(kinds: typing.Sequence[str], text: memoryview, skipped: int, lengths: 
     label, begin = _second_line(lengths, text, begin)
     found = _LINE_FEED.search(text, begin)
     end, after = (found.start(), found.end()) if found else (len(text), len(text))
-    expected, given = 2 * lengths[label][kind], end - begin + skipped
+    expected, given = 2 * lengths[label][kind], end - begin + (skipped if end >= _FRONT else 0)
     if _NOT_A_DIGIT.search(text[begin:end]):
         raise Refusal(13, "line 3 has a byte that is not a hexadecimal digit")
     if given != expected:

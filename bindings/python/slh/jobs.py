@@ -38,7 +38,8 @@ class Jobs:
 
     def _lengths(self, secret: SecretKey, start: bytes) -> dict[int, Length]:
         """The lengths of a key and of a start, for refusals."""
-        key = Length(f"a secret key of {self.set.label}", _lengths(self.set).secret_key, _lengths(secret.set).secret_key)
+        expected, given = self.set.lengths.secret_key, secret.set.lengths.secret_key
+        key = Length(f"a secret key of {self.set.label}", expected, given)
         return {_BAD_LENGTH: key, _BAD_START_LENGTH: Length("a start", self._start_length, len(start))}
 
     @discreet

@@ -80,7 +80,8 @@ class Search:
         self.raw = [secret[at : at + 8] for at in range(len(secret) - 7)]
         self.hex = [it.hex().encode() for it in self.raw]
         # The digits of base64 that are of these bytes alone, where they begin at each place of three.
-        self.base64 = [base64.b64encode(bytes(at) + it)[(8 * at + 5) // 6 : (8 * at + 64) // 6] for it in self.raw for at in range(3)]
+        places = [(at, (8 * at + 5) // 6, (8 * at + 64) // 6) for at in range(3)]
+        self.base64 = [base64.b64encode(bytes(at) + it)[begin:end] for it in self.raw for at, begin, end in places]
 
     def finds(self, output: str | bytes) -> bool:
         data = output if isinstance(output, bytes) else output.encode("utf-8", "surrogatepass")
@@ -298,7 +299,8 @@ def by_cgitb(error) -> str:
 
 def by_assertion(holder) -> str:
     case, out = unittest.TestCase(), ""
-    for check in case.assertIsNone, case.assertFalse, lambda it: case.assertEqual(it, [1]), lambda it: case.assertIn(it, []):
+    with_others = lambda it: case.assertEqual(it, [1]), lambda it: case.assertIn(it, [])
+    for check in (case.assertIsNone, case.assertFalse, *with_others):
         try:
             check(holder)
         except AssertionError as error:
@@ -494,7 +496,7 @@ class Secrets(unittest.TestCase):
         class Holder:
             __slots__ = ("_buffer",)
 
-        for kept in (bytes, bytearray, lambda it: ctypes.create_string_buffer(it), list, lambda it: array.array("B", it)):
+        for kept in (bytes, bytearray, list, ctypes.create_string_buffer, lambda it: array.array("B", it)):
             held = Holder()
             held._buffer = kept(a_secret_key())
             held_by = {**HOLDERS, **MORE_HOLDERS}

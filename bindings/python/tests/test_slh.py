@@ -494,9 +494,10 @@ class Calls(unittest.TestCase):
         fingerprint = subprocess.run(["sha256sum"], input=data, stdout=subprocess.PIPE, check=True).stdout.split()[0]
         wanted = "SHA256:" + base64.b64encode(bytes.fromhex(fingerprint.decode())).decode().rstrip("=")
         self.assertEqual(self.public.fingerprint, wanted)
-        for key, said in (self.secret, "slh.SecretKey SLH-DSA-SHA2-128f"), (self.public, f"slh.PublicKey SLH-DSA-SHA2-128f {wanted}"):
-            for text in (repr(key), str(key), f"{key}"):
-                self.assertEqual(text, f"<{said}>")
+        for text in (repr(self.secret), str(self.secret), f"{self.secret}"):
+            self.assertEqual(text, "<slh.SecretKey SLH-DSA-SHA2-128f>")
+        for text in (repr(self.public), str(self.public), f"{self.public}"):
+            self.assertEqual(text, f"<slh.PublicKey SLH-DSA-SHA2-128f {wanted}>")
 
     def test_version_and_lengths(self) -> None:
         first, second, third = map(int, (REPOSITORY / "VERSION").read_text().split("."))
