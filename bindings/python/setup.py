@@ -1,4 +1,4 @@
-"""Builds the wheel and the source distribution, by setuptools.
+"""Builds the wheel and the source distribution, by setuptools. pyproject.toml has the other metadata.
 
     SLH_PREFIX=PREFIX pip install bindings/python
 
@@ -117,12 +117,7 @@ class Sources(sdist.sdist):
 # Where nothing else is said, the files of the wheel have the oldest time that a wheel can say.
 os.environ.setdefault("SOURCE_DATE_EPOCH", "315532800")
 setuptools.setup(
-    name="slh",
     version=library_version(PREFIX),
-    description="SLH-DSA (FIPS 205) with SHA-2, proved by machine",
-    license="MIT OR Apache-2.0",
-    license_files=["LICENSE-*"],
-    python_requires=">=3.9",
     packages=["slh"],
     package_data={"slh": ["py.typed"]},
     ext_modules=[setuptools.Extension("slh.libslh", sources=[])],

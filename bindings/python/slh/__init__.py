@@ -55,7 +55,7 @@ _BAD_DIGEST_LENGTH = 16
 _BAD_RANDOMIZER_LENGTH = 17
 _MOST_CONTEXT = 255
 
-#: What a set is given by: one of Set, its number, or its name.
+#: A parameter set: one of Set, its number, or its name.
 AnySet = typing.Union[int, str]
 Path = typing.Union[str, "os.PathLike[str]"]
 
