@@ -14,6 +14,8 @@ _FRONT = 512
 _LINE_FEED = re.compile(rb"\n")
 _NOT_A_DIGIT = re.compile(rb"[^0-9A-Fa-f]")
 _DIGITS = b"0123456789abcdef"
+#: The digits of a secret key of any set.
+_KEY_DIGITS = re.compile("(?:[0-9A-Fa-f]{64}){2,4}")
 _VALUES = {ord(it): int(it, 16) for it in "0123456789abcdefABCDEF"}
 
 
@@ -30,12 +32,12 @@ class Parsed(typing.NamedTuple):
 
 
 def checked_path(path: str | os.PathLike[str]) -> str:
-    """A path. An error of the system shows it, so the bytes and the text of a key file are none."""
+    """A path. An error of the system shows it, so the bytes, the text and the digits of a key are none."""
     found = os.fspath(path)
     if not isinstance(found, str):
         raise TypeError("a path is a str or an os.PathLike; loads takes bytes")
-    if "\n" in found:
-        raise ValueError("a path with a line feed is not taken; loads takes the bytes of a key file")
+    if "\n" in found or _KEY_DIGITS.fullmatch(found):
+        raise ValueError("a path with a line feed, or of a key's digits, is not taken; loads takes bytes")
     return found
 
 

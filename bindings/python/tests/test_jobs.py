@@ -60,9 +60,27 @@ class Jobs(unittest.TestCase):
         self.secret.erase()
         self.assertRaises(slh.Erased, jobs.answer, self.secret, start, 0)
 
+    def test_lengths_are_told(self) -> None:
+        jobs, start = self.begun()
+        other = slh.SecretKey("SLH-DSA-SHA2-192f", bytes(96))
+        whole = sum(len(jobs.answer(self.secret, start, job)) for job in range(jobs.count))
+        for expected, given, call, arguments in (
+            (len(start), len(start) - 1, jobs.answer, (self.secret, start[1:], 0)),
+            (64, 96, jobs.answer, (other, start, 0)),
+            (64, 96, jobs.start, (other, self.message)),
+            (255, 256, jobs.start, (self.secret, self.message, bytes(256))),
+            (whole, 5, jobs.join, (self.secret, start, [b"12", b"345"])),
+        ):
+            with self.assertRaises(slh.Refusal) as caught:
+                call(*arguments)
+            self.assertEqual((caught.exception.expected, caught.exception.given), (expected, given))
+
     def test_other_types_and_numbers_are_told(self) -> None:
         jobs, start = self.begun()
         self.assertRaises(TypeError, slh.jobs.Jobs, FAST, "1")
+        self.assertRaises(TypeError, slh.jobs.Jobs, FAST, True)
+        self.assertRaises(TypeError, jobs.start, self.secret, self.message, deterministic=1)
+        self.assertIs(slh.jobs.Jobs("SLH-DSA-SHA2-128f").set, FAST)
         self.assertRaises(OverflowError, slh.jobs.Jobs, FAST, 1 << 32)
         self.assertRaises(OverflowError, jobs.answer, self.secret, start, 1 << 32)
         self.assertRaises(TypeError, jobs.answer, self.secret, list(start), 0)

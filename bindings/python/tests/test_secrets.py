@@ -601,6 +601,8 @@ class Secrets(unittest.TestCase):
                 (slh.load, (text,)),
                 (slh.load, (text.decode(),)),
                 (slh.SecretKey.load, (text.decode(),)),
+                (slh.load, (sk.hex(),)),
+                (slh.SecretKey.load, (sk.hex().upper(),)),
                 (self.secret.dump, (text.decode(),)),
                 (signer.sign, (sk, b"letter")),
                 (signer.hash_sign, (sk, 2, b"letter")),
