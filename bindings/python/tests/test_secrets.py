@@ -101,7 +101,9 @@ class Search:
         """What is left when escapes are undone, up to three times, since a text may be quoted in another."""
         for _ in range(4):
             yield data
-            data = codecs.escape_decode(re.sub(rb"\\u00([0-9a-fA-F]{2})", rb"\\x\1", data), "ignore")[0]
+            with warnings.catch_warnings():
+                warnings.simplefilter("ignore")
+                data = codecs.escape_decode(re.sub(rb"\\u00([0-9a-fA-F]{2})", rb"\\x\1", data), "ignore")[0]
 
     def numbers(self, data: bytes) -> bytes:
         """The bytes that decimal numbers in a row stand for, and those of long ones."""
