@@ -32,17 +32,6 @@ fi
 [ -f "$prefix/lib/libslh.a" ] && [ -f "$wasm/lib/slh.wasm" ] || nothing_to_test "there is no library"
 export PYTHONDONTWRITEBYTECODE=1 PYTHONNOUSERSITE=1
 
-# Of a language, the Nth that docs/PACKAGES.md lists: its line of imports, and its calls, as they stand in a column of
-# the first table.
-imports_of() {
-    sed -n '/^## The calls/,/^|/s/^    //p' "$here/docs/PACKAGES.md" | sed -n "$1p"
-}
-
-calls_of() {
-    sed -n '/^## The calls/,/^What the calls answer/s/^| [a-z]/&/p' "$here/docs/PACKAGES.md" |
-        awk -F'|' -v column=$(($1 + 2)) '{ n = split($column, part, "`"); for (i = 2; i <= n; i += 2) print part[i] }'
-}
-
 with_cmake() {
     local built=$work/cmake name
     make_image
@@ -134,19 +123,10 @@ with_python() {
     one "python: a library of another version is told" misses_library "is not of the version $(cat "$here/VERSION")" \
         env SLH_PREFIX="$work/old" "${wheel[@]}" -w "$work/none" "$package"
     one "python: the wheel is installed" "$venv/bin/pip" install --no-index "$work/wheels/$name"
-    one "python: the installed package passes its tests" "$venv/bin/python" -m unittest discover \
+    one "python: the installed package passes its tests, and its README runs" "$venv/bin/python" -m unittest discover \
         -s "$here/bindings/python/tests"
-    page_in_python >"$work/page.py"
-    one "python: the calls of docs/PACKAGES.md" says done 0 "$venv/bin/python" "$work/page.py"
     erases python "$venv/bin/python" "$here/bindings/tests/erased.py"
     runs_best python "$venv/bin/python" -c 'import slh; print(slh._library.slh_level())'
-}
-
-page_in_python() {
-    imports_of 3
-    echo 'message, context, random, digest = b"letter", b"letters", bytes(16), bytes(32)'
-    calls_of 3
-    echo 'print("done")'
 }
 
 # Whether RECORD of a wheel lists each of its files, with its SHA-256 and length.
@@ -168,7 +148,8 @@ with_rust() {
     local cargo=(env CARGO_TARGET_DIR="$work/cargo" RUSTFLAGS=-Dwarnings SLH_PREFIX="$prefix" cargo)
     local manifest=(--manifest-path "$here/bindings/rust/Cargo.toml")
     if can_run "rust: layout" rustfmt; then one "rust: layout" cargo fmt "${manifest[@]}" --all --check; fi
-    one "rust: the crates pass their tests, and the calls of their README run" "${cargo[@]}" test --locked --offline "${manifest[@]}"
+    one "rust: the crates pass their tests, and the calls of their README run" \
+        "${cargo[@]}" test --locked --offline "${manifest[@]}"
     printf 'a letter\nof two lines' >"$work/letter"
     one "rust: the example signs by threads, over the library of pkg-config" says valid 0 env -u SLH_PREFIX \
         CARGO_TARGET_DIR="$work/cargo" PKG_CONFIG_PATH="$prefix/lib/pkgconfig" cargo run -q --locked --offline \

@@ -206,7 +206,7 @@ with_python() {
         says valid 0 "$work/venv/bin/python" - <<'END'
 import slh
 secret = slh.SecretKey.generate(slh.Set.SLH_DSA_SHA2_128F)
-secret.public().verify(b"letter", secret.sign(b"letter"))
+secret.public().verify(message=b"letter", signature=secret.sign(b"letter"))
 print("valid")
 END
 }
