@@ -49,7 +49,7 @@ with_cmake() {
     one "cmake: slh::shared is asked for by its name" asks_for_shared "$built/calls_shared"
     one "cmake: slh::slh is not" fails asks_for_shared "$built/calls_slh"
     one "cmake: slh::verify judges images" judges_images "$built/verify_image"
-    count "cmake: FetchContent" "$here/bindings/cmake/tests/fetched.sh" "$prefix"
+    count "cmake: FetchContent" "$here/bindings/cmake/tests/fetched.sh" "$prefix" ${release:+"$release"}
     count "C++: slh.hpp" "$here/bindings/cmake/tests/slh_hpp.sh" "$prefix"
 }
 

@@ -1,19 +1,20 @@
 #!/usr/bin/env bash
-# Tests the CMakeLists.txt at the top of the repository: the project in fetched/ takes this clone by FetchContent, over
-# the release in dist/ and over an installed library. A damaged release is refused.
+# Tests the CMakeLists.txt at the top of the repository: the project in fetched/ takes a clone by FetchContent, over an
+# installed library and over a release. A damaged release is refused.
 #
-# usage: bindings/cmake/tests/fetched.sh PREFIX
+# usage: bindings/cmake/tests/fetched.sh PREFIX [DIST]
 #
-# PREFIX is a folder that tools/library.sh has installed into. The last line has the counts, and the status is 0 if
-# nothing failed.
+# PREFIX is a folder that tools/library.sh has installed into, DIST a release of these sources. Without DIST the tests of
+# the release are skipped. The last line has the counts, and the status is 0 if nothing failed.
 set -u
 here=$(cd "$(dirname "${BASH_SOURCE[0]}")/../../.." && pwd)
 work=$(mktemp -d)
 trap 'rm -rf "$work"' EXIT
 source "$here/tests/counts.sh"
 source "$here/tests/library_parts.sh"
-[ $# = 1 ] && [ -f "$1/lib/libslh.a" ] || nothing_to_test "usage: fetched.sh PREFIX, which has lib/libslh.a"
-prefix=$(realpath "$1")
+{ [ $# = 1 ] || [ $# = 2 ]; } && [ -f "$1/lib/libslh.a" ] ||
+    nothing_to_test "usage: fetched.sh PREFIX [DIST]; PREFIX has lib/libslh.a"
+prefix=$(realpath "$1") dist=${2:+$(realpath "$2")}
 
 # Configures the project over a CLONE in the folder BUILT, with further words.
 configure() {
@@ -34,13 +35,18 @@ runs() {
     one "$name: slh::verify judges images" judges_images "$built/verify_image"
 }
 
+# A clone whose dist/ is the release.
+clone_release() {
+    rm -rf "$work/clone" && mkdir "$work/clone" && cp "$here/CMakeLists.txt" "$work/clone/" &&
+        cp -r "$dist" "$work/clone/dist"
+}
+
 # Whether a project stops and names this file of the release, in a copy where it is changed by a command: FILE, and the
 # command.
 stops_at() {
     local file=$1
     shift
-    rm -rf "$work/clone" && mkdir "$work/clone" && cp -r "$here/CMakeLists.txt" "$here/dist" "$work/clone/" &&
-        "$@" && ! configure "$work/clone" "$work/stopped" >"$work/why" 2>&1 && grep -qF "dist/$file" "$work/why"
+    clone_release && "$@" && ! configure "$work/clone" "$work/stopped" >"$work/why" 2>&1 && grep -qF "dist/$file" "$work/why"
 }
 
 damage() {
@@ -53,7 +59,9 @@ add_header() {
 
 with_release() {
     local file
-    one "release: the project takes the clone" configure "$here" "$work/release"
+    one "release: a clone has it" clone_release
+    mv "$work/clone" "$work/whole"
+    one "release: the project takes the clone" configure "$work/whole" "$work/release"
     one "release: programs are built" cmake --build "$work/release" --parallel 2
     runs release "$work/release" slh shared portable
     for file in x86-64/libslh.a x86-64/libslh.so.0 x86-64-v2/libslh_verify.a portable/slh.c include/slh.h; do
@@ -80,7 +88,7 @@ refuses_empty() {
 
 make_image
 if can_run "CMake: FetchContent" cmake cc python3; then
-    with_release
+    if [ -n "$dist" ]; then with_release; else skip "FetchContent over a release" "none is given"; fi
     with_prefix
 fi
 end_counts
