@@ -60,12 +60,10 @@ static int key_validate(const void *it, int selection, int how) {
 
 /* Copies bytes of one of two lengths, and returns their number; 0 where there are others. */
 static size_t copy(const OSSL_PARAM *from, uint8_t *to, size_t len, size_t other) {
-    const void *bytes;
-    size_t found;
-    if (!OSSL_PARAM_get_octet_string_ptr(from, &bytes, &found) || bytes == NULL || (found != len && found != other))
+    if (!has_bytes(from) || (from->data_size != len && from->data_size != other))
         return (size_t)fail(PROV_R_INVALID_KEY_LENGTH, "priv has 4n bytes, or 2n beside pub, which has 2n");
-    memcpy(to, bytes, found);
-    return found;
+    memcpy(to, from->data, from->data_size);
+    return from->data_size;
 }
 
 static int key_read(struct key *key, int selection, const OSSL_PARAM params[]) {
@@ -134,11 +132,17 @@ struct generation {
     uint8_t seeds[3 * SLH_MAX_N];
 };
 
+/* After seeds that are refused there are none, as in the default provider: they are drawn then. */
 static int generation_set_params(void *handed, const OSSL_PARAM params[]) {
     struct generation *it = handed;
     const OSSL_PARAM *from = OSSL_PARAM_locate_const(params, OSSL_PKEY_PARAM_SLH_DSA_SEED);
-    void *at = it->seeds;
-    return from == NULL || OSSL_PARAM_get_octet_string(from, &at, sizeof it->seeds, &it->given);
+    const OSSL_PARAM *text = OSSL_PARAM_locate_const(params, OSSL_PKEY_PARAM_PROPERTIES);
+    if (from != NULL) it->given = 0;
+    if (from != NULL && (!has_bytes(from) || from->data_size > sizeof it->seeds))
+        return fail(PROV_R_INVALID_SEED_LENGTH, "the seeds have 3n bytes");
+    if (from != NULL) memcpy(it->seeds, from->data, it->given = from->data_size);
+    return text == NULL || (text->data_type == OSSL_PARAM_UTF8_STRING && text->data != NULL) ||
+           fail(PROV_R_INVALID_DATA, "properties is a text");
 }
 
 /* "properties" tells the default provider where its hash functions are from, and nothing here. */

@@ -47,11 +47,11 @@ static void teardown(void *prov) {
 }
 
 /* Reads a number of the provider's section of the configuration, if it stands there. */
-static int read_number(const char *text, unsigned long least, unsigned long most, unsigned *to) {
+static int read_number(const char *text, unsigned long least, unsigned long most, int *to) {
     char *end;
-    unsigned long found = text == NULL ? *to : strtoul(text, &end, 10);
+    unsigned long found = text == NULL ? (unsigned long)*to : strtoul(text, &end, 10);
     if (text != NULL && (*text < '0' || *text > '9' || *end != 0)) return 0;
-    *to = (unsigned)found;
+    *to = (int)found;
     return least <= found && found <= most;
 }
 

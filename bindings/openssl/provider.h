@@ -29,7 +29,7 @@ const struct set *set_of(uint32_t number);
    job is done two times and its answers compared. 0 workers stand for a configuration that is wrong. */
 struct provider {
     OSSL_LIB_CTX *libctx;
-    unsigned workers, twice;
+    int workers, twice;
 };
 
 /* A key: it has PRIVATE, PUBLIC, both or nothing. sk is SK.seed || SK.prf || PK.seed || PK.root; in a public key the
@@ -52,13 +52,18 @@ struct signature {
     OSSL_LIB_CTX *libctx;
     const struct set *set;
     struct key *key;
-    unsigned workers, twice, deterministic, encoding;
+    int workers, twice, deterministic, encoding;
     size_t context_len, entropy_len;
     uint8_t context[SLH_MAX_CONTEXT], entropy[SLH_MAX_N];
 };
 /* Makes a signature of the pure form by its jobs, with the entropy as its randomizer. Unless it returns SLH_DONE it has
    written nothing: so it is where two answers of one job differ. */
 uint32_t sign_by_jobs(const struct signature *it, const uint8_t *msg, size_t msg_len, uint8_t *sig);
+
+/* Whether a parameter has bytes, as the default provider takes them: no pointer to a pointer, and not null. */
+static inline int has_bytes(const OSSL_PARAM *it) {
+    return it->data_type == OSSL_PARAM_OCTET_STRING && it->data != NULL;
+}
 
 /* fail queues an error and returns 0. The others put a value into a parameter, if the caller asks for it. */
 int fail(int reason, const char *text);

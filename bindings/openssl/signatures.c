@@ -1,5 +1,6 @@
 /* Signing and verifying, as OpenSSL's default provider does it: messages that are handed in whole. */
 #include "provider.h"
+#include <limits.h>
 #include <slh_internal.h>
 
 static void *signature_new(struct provider *prov, uint32_t number) {
@@ -22,32 +23,30 @@ static void *signature_dup(void *handed) {
     return it;
 }
 
-static int set_number(const OSSL_PARAM params[], const char *name, unsigned least, unsigned most, unsigned *to) {
+static int set_number(const OSSL_PARAM params[], const char *name, int least, int most, int *to) {
     const OSSL_PARAM *from = OSSL_PARAM_locate_const(params, name);
-    unsigned found = *to;
-    if (from != NULL && (!OSSL_PARAM_get_uint(from, &found) || found < least || found > most))
+    int found = *to;
+    if (from != NULL && (from->data == NULL || !OSSL_PARAM_get_int(from, &found) || found < least || found > most))
         return fail(PROV_R_INVALID_DATA, name);
     *to = found;
     return 1;
 }
 
-/* What is refused changes nothing, so that nothing is signed under a part of a context. */
+/* A refused value changes nothing, so that nothing is signed under a part of a context. */
 static int set_bytes(const OSSL_PARAM params[], const char *name, uint8_t *to, size_t least, size_t most, size_t *len) {
     const OSSL_PARAM *from = OSSL_PARAM_locate_const(params, name);
-    const void *bytes;
-    size_t found;
     if (from == NULL) return 1;
-    if (!OSSL_PARAM_get_octet_string_ptr(from, &bytes, &found) || found < least || found > most)
+    if (!has_bytes(from) || from->data_size < least || from->data_size > most)
         return fail(PROV_R_INVALID_DATA, name);
-    if (found != 0) memcpy(to, bytes, found);
-    *len = found;
+    memcpy(to, from->data, from->data_size);
+    *len = from->data_size;
     return 1;
 }
 
 static int signature_set_params(void *handed, const OSSL_PARAM params[]) {
     struct signature *it = handed;
     size_t n = it->set->n;
-    return set_number(params, OSSL_SIGNATURE_PARAM_DETERMINISTIC, 0, 0x7fffffff, &it->deterministic) &&
+    return set_number(params, OSSL_SIGNATURE_PARAM_DETERMINISTIC, INT_MIN, INT_MAX, &it->deterministic) &&
            set_number(params, OSSL_SIGNATURE_PARAM_MESSAGE_ENCODING, 0, 1, &it->encoding) &&
            set_number(params, "workers", 1, MOST_WORKERS, &it->workers) &&
            set_number(params, "twice", 0, 1, &it->twice) &&
@@ -60,8 +59,8 @@ static const OSSL_PARAM *signature_settable(void *it, void *prov) {
         OSSL_PARAM_octet_string(OSSL_SIGNATURE_PARAM_CONTEXT_STRING, NULL, 0),
         OSSL_PARAM_octet_string(OSSL_SIGNATURE_PARAM_TEST_ENTROPY, NULL, 0),
         OSSL_PARAM_int(OSSL_SIGNATURE_PARAM_DETERMINISTIC, NULL),
-        OSSL_PARAM_int(OSSL_SIGNATURE_PARAM_MESSAGE_ENCODING, NULL), OSSL_PARAM_uint("workers", NULL),
-        OSSL_PARAM_uint("twice", NULL), OSSL_PARAM_END};
+        OSSL_PARAM_int(OSSL_SIGNATURE_PARAM_MESSAGE_ENCODING, NULL), OSSL_PARAM_int("workers", NULL),
+        OSSL_PARAM_int("twice", NULL), OSSL_PARAM_END};
     return (void)it, (void)prov, types;
 }
 
