@@ -4,9 +4,10 @@
 # or the last byte of the tag, or all. Builds are slh.c by GCC and clang, and the archives for x86-64-v2 and x86-64-v3;
 # sets are 128f, 192f and 256f. A comparison that ends early must be found.
 #
-# usage: tests/compare_tests.sh [--few] PREFIX SLH_C [--all]
+# usage: tests/compare_tests.sh [--few] {--dist DIST | PREFIX SLH_C} [--all]
 #
-# PREFIX is a folder that tools/library.sh has installed into, SLH_C the portable C, with its headers in ../include. The
+# PREFIX is a folder that tools/library.sh has installed into, SLH_C the portable C, with its headers in ../include. Both
+# are installed of a release DIST. The
 # levels of optimisation are -O0, -O2, -O3 and -Os with --all, -O2 and -Os by default. With --few slh.c is left out. It
 # needs valgrind 3.19 or later with its headers, and is skipped without it. valgrind knows no AVX-512, so the archive
 # for x86-64-v4 is skipped. The last line has the counts.
@@ -17,8 +18,13 @@ trap 'rm -rf "$work"' EXIT
 source "$here/tests/counts.sh"
 source "$here/tests/library_parts.sh"
 take_options "$@"
+if [ -n "$release" ]; then
+    one "the library is installed" "$here/tools/library.sh" --dist "$release" "$work/prefix"
+    one "the portable C is installed" "$here/tools/library.sh" --dist "$release" --target portable "$work/portable"
+    words=("$work/prefix" "$work/portable/src/slh.c" ${words[@]+"${words[@]}"})
+fi
 if [ ${#words[@]} -lt 2 ]; then
-    echo "usage: tests/compare_tests.sh [--few] PREFIX SLH_C [--all]" >&2
+    echo "usage: tests/compare_tests.sh [--few] {--dist DIST | PREFIX SLH_C} [--all]" >&2
     exit 2
 fi
 prefix=$(realpath "${words[0]}") slh_c=$(realpath "${words[1]}")

@@ -4,9 +4,9 @@
 # tests/library_faults.c says how. slh_sign must give signatures that are valid and wrong, and the calls that sign twice
 # must give none. The same test must fail if a call that signs once replaces them.
 #
-# usage: tests/faults_tests.sh [--few] PREFIX [SEED [LIBRARY..]]
+# usage: tests/faults_tests.sh [--few] {--dist DIST | PREFIX} [SEED [LIBRARY..]]
 #
-# PREFIX is a folder that tools/library.sh has installed into. LIBRARY is libslh-v2.a, libslh-v3.a, libslh-v4.a or
+# PREFIX is a folder that tools/library.sh has installed into; it installs a release DIST. LIBRARY is libslh-v2.a, libslh-v3.a, libslh-v4.a or
 # libslh.a; by default all archives of PREFIX are tried. With --few there are a tenth of the flips. The draws follow
 # from SEED, which is printed. If a wrong signature comes out, the output names the interrupted function and the command
 # that repeats the draw. A level that the processor lacks is skipped. The last line has the counts.
@@ -17,8 +17,12 @@ trap 'rm -rf "$work"' EXIT
 source "$here/tests/counts.sh"
 source "$here/tests/library_parts.sh"
 take_options "$@"
+if [ -n "$release" ]; then
+    one "the library is installed" "$here/tools/library.sh" --dist "$release" "$work/prefix"
+    words=("$work/prefix" ${words[@]+"${words[@]}"})
+fi
 if [ ${#words[@]} = 0 ]; then
-    echo "usage: tests/faults_tests.sh [--few] PREFIX [SEED [LIBRARY..]]" >&2
+    echo "usage: tests/faults_tests.sh [--few] {--dist DIST | PREFIX} [SEED [LIBRARY..]]" >&2
     exit 2
 fi
 lib=${words[0]}/lib include=${words[0]}/include

@@ -49,6 +49,8 @@ if [ $mode = whole ] && ! command -v rt >/dev/null; then mode=release; fi
 # be run at all.
 scripts_of_sources="tests/commands.py|program: its commands, refusals and help texts|1|1|python3
 tests/library_tests.sh|library for C: calls, headers, examples|6|1|cc g++ nm readelf pkg-config python3
+tests/faults_tests.sh|faults: one flipped bit in the course of a call|2|1|cc
+tests/compare_tests.sh|comparisons: instructions by the place of a wrong byte|2|1|cc
 tests/targets_tests.sh|targets: aarch64, WebAssembly|2|1|python3
 tests/portable_tests.sh|portable C: ARM, RISC-V, s390x, Windows, Cortex-M4|4|1|cc python3
 tests/packages_tests.sh|packages: Python, JavaScript, CMake, Rust, Go|5|1|cc python3
@@ -256,6 +258,7 @@ whole) plan_sources ;;
 esac
 check "docs/CONTRACTS.md is what the sources say" python3 "tools/contracts.py --check" tools/contracts.py --check
 check "docs/pictures is what the tables say" python3 "tools/pictures.py --check" tools/pictures.py --check
+check "packages/slh.3 is what the headers say" python3 "tools/man3.py --check" tools/man3.py --check
 rows+=("tools/test.sh|$passed|$failed|$skipped|$SECONDS|0|")
 for part in "${plan[@]}"; do run_part "$part"; done
 measure
