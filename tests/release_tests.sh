@@ -707,7 +707,7 @@ count_levels() {
 count_what_is_made() {
     local made=$work/made
     count "packages" "$here/tests/packages_tests.sh" --dist "$made"
-    count "one flipped bit in the course of a call" "$here/tests/faults_tests.sh" --dist "$made"
+    count "one flipped bit in the course of a call" "$here/tests/faults_tests.sh" --dist "$made" "" libslh.a
     count "comparisons of tags" "$here/tests/compare_tests.sh" --dist "$made"
     count "Debian packages" "$here/tests/debian_tests.sh" --dist "$made"
     count "the page that verifies" "$here/tests/web_tests.py" --dist "$made"
