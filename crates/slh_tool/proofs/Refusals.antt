@@ -21,7 +21,7 @@ use Rattle.slh_tool.specs.Replies.{HasSignForm, JudgesFiles, JudgesMessage, Refu
 use Rattle.slh_tool.specs.Requests.{KeygenOptions, SignOptions, VerifyOptions}
 use Rattle.slh_tool.specs.Seeds.{RefusesSeeds}
 use Rattle.slh_tool.specs.declared.fault.Fault.{Fault}
-use Rattle.slh_tool.specs.declared.fault.Fault.TheVariants.{BadCutting, BadHex, BadKeyLength, BadOption, BadSeeds, BadWords, Bad, ContextTooLong, FileTooLong, Missing, NoMemory, NotAList, NotJson, NotAKeyFile, ReadFailed, TrailingBytes, UnknownSet, WriteFailed}
+use Rattle.slh_tool.specs.declared.fault.Fault.TheVariants.{BadCutting, BadHex, BadKeyLength, BadOption, BadSeeds, BadWords, Bad, ContextTooLong, FileTooLong, Missing, NoMemory, NotAList, NotJson, NotAKeyFile, ReadFailed, RunsDiffer, TrailingBytes, UnknownSet, WriteFailed}
 
 -- `sign` is refused with a key that was read
 pub sign_refused : {T : Type 0} (options : SignOptions) (old mid new : FilesState) (key : Key) (r : Result T Fault) → HoldsKey Secret old options.key key
@@ -61,6 +61,7 @@ seeds_refused name set old new WriteFailed named h = absurd h
 seeds_refused name set old new BadSeeds named h = (set, named, h)
 seeds_refused name set old new BadOption named h = absurd h
 seeds_refused name set old new FileTooLong named h = absurd h
+seeds_refused name set old new RunsDiffer named h = absurd h
 
 -- `keygen` is refused for the cutting, or for the seeds
 pub cutting_refused : (options : KeygenOptions) (set : ParamSet) (old new : SourceState) (e : Fault) → set_of_label options.set ≡ Some set
@@ -83,6 +84,7 @@ cutting_refused options set old new WriteFailed named h = absurd h
 cutting_refused options set old new BadSeeds named h = absurd h
 cutting_refused options set old new BadOption named h = (set, named, inl h)
 cutting_refused options set old new FileTooLong named h = absurd h
+cutting_refused options set old new RunsDiffer named h = absurd h
 
 pub keygen_refused : (options : KeygenOptions) (set : ParamSet) (old new : SourceState) (e : Fault) → set_of_label options.set ≡ Some set
     → HasCutting options.work set → RefusesSeeds set old new e → RefusesKeygen options old new e
@@ -104,6 +106,7 @@ keygen_refused options set old new WriteFailed named cut h = absurd h
 keygen_refused options set old new BadSeeds named cut h = (set, named, inr (cut, h))
 keygen_refused options set old new BadOption named cut h = absurd h
 keygen_refused options set old new FileTooLong named cut h = absurd h
+keygen_refused options set old new RunsDiffer named cut h = absurd h
 
 -- the message file of `sign` is not read
 pub file_refused : (options : SignOptions) (set : ParamSet) (context : Text) (old new : FilesState) (e : Fault)

@@ -8,7 +8,7 @@ use Rattle.std.specs.Str.{bytes_eq, chars}
 use Rattle.clap.specs.Facts.{explicit_source, unwrap_or_range}
 use Rattle.clap.specs.Kinds.{Kinds, or_else, range_kinds}
 use Rattle.clap.specs.Lexer.{long_of, short_of}
-use Rattle.clap.specs.Walk.{Held, Names, Outcome, Row, Rule, Step, Text, Waiting, Walk, action_of, after_flag, after_step, arg_by_id, arg_by_index, arg_by_long, arg_by_short, attached_value, bundle, bundle_step, default_rows, finished, flag_met, has_row, is_pending, long_met, long_or_other, most_values, nothing_held, option_met, option_word, plain_word, reacted, reading_by, rows_after, settled, settled_rows, short_met, short_or_plain, subcommand_met, subcommand_or_other, takes_several, takes_values, to_positional, used, used_as, used_by_id, values_or_missing, walk, walk_from, walked_from, with_default, with_values, without, word_met, bundle_met, walked, done, waits, plain, refused, idle, option, positional, next, trailing, subcommand, value}
+use Rattle.clap.specs.Walk.{Held, Names, Outcome, Row, Rule, Step, Text, Waiting, Walk, action_of, after_flag, after_step, arg_by_id, arg_by_index, arg_by_long, arg_by_short, attached_value, bundle, bundle_step, default_rows, finished, flag_met, has_row, is_empty, is_pending, long_met, long_or_other, most_values, nothing_held, option_met, option_word, plain_word, reacted, reading_by, rows_after, settled, settled_rows, short_met, short_or_plain, subcommand_met, subcommand_or_other, takes_several, takes_values, to_positional, used, used_as, used_by_id, values_or_missing, walk, walk_from, walked_from, with_default, with_values, without, word_met, bundle_met, walked, done, waits, plain, refused, idle, option, positional, next, trailing, subcommand, value}
 use Rattle.clap.specs.Faults.{bundle_fault, bundle_step_fault, check_fault, flag_word_fault, level_fault, long_fault, option_fault, other_fault, positional_fault, react_fault, settle_fault, short_fault, step_fault, stray_fault, turn_fault, use_fault, word_fault, flags_fault, walk_fault}
 use Rattle.clap.specs.Simple.{Shape}
 use Rattle.clap.specs.Takes.{is_given}
@@ -50,9 +50,10 @@ without-filled id (r ∷ rs) f = filled_cond (bytes_eq r.id id) _ _ f.1 (f.0, wi
 
 -- ---- one use of an argument
 
--- the argument wants a value, or asks for help
+-- the argument wants a value, or is a flag with a value of its own, or asks for help
 abbrev pub FillsAs : ArgAction → Rule → Type 0
 FillsAs act.Set a = nat_lt 0 (unwrap_or_range a.range).start_inclusive ≡ true
+FillsAs act.SetTrue a = HasValue a.missing
 FillsAs act.Help a = Unit {0}
 FillsAs other a = ⊥
 
@@ -61,6 +62,7 @@ Fills a = FillsAs (action_of a) a
 
 abbrev fills_as : ArgAction → Rule → Bool
 fills_as act.Set a = nat_lt 0 (unwrap_or_range a.range).start_inclusive
+fills_as act.SetTrue a = not (is_empty a.missing)
 fills_as act.Help a = true
 fills_as other a = false
 
@@ -68,8 +70,13 @@ fills_as other a = false
 abbrev pub fills : Rule → Bool
 fills a = fills_as (action_of a) a
 
+not_empty : (values : List Text) → not (is_empty values) ≡ true → HasValue values
+not_empty [] e = cc e
+not_empty (v ∷ vs) e = tt
+
 fills_as-true : (action : ArgAction) (a : Rule) → fills_as action a ≡ true → FillsAs action a
 fills_as-true act.Set a e = e
+fills_as-true act.SetTrue a e = not_empty a.missing e
 fills_as-true act.Help a e = tt
 fills_as-true _ a e = absurd (cc e)
 
@@ -90,11 +97,17 @@ or_nil (k ∷ ks) y h = cc h
 no_value : (least most : ℕ) → nat_lt 0 least ≡ true → range_kinds least most 0 ≡ [] → ⊥
 no_value least most h e = cc (rw h at e)
 
+or_missing : (a : Rule) (values : List Text) → HasValue a.missing → HasValue (values_or_missing a values)
+or_missing a [] h = h
+or_missing a (v ∷ vs) h = tt
+
 used_as-filled : (action : ArgAction) (a : Rule) (values : List Text) (rows : List Row) → FillsAs action a
     → range_kinds (unwrap_or_range a.range).start_inclusive (most_values a) (length values) ≡ [] → Filled rows
     → Filled (used_as action a.id (reading_by a) (values_or_missing a values) rows)
 used_as-filled act.Set a [] rows fills range f = absurd (no_value _ _ fills range)
 used_as-filled act.Set a (v ∷ vs) rows fills range f = with_values-filled a.id (reading_by a) _ (v ∷ vs) (without a.id rows) tt (without-filled a.id rows f)
+used_as-filled act.SetTrue a values rows fills range f =
+    with_values-filled a.id (reading_by a) _ (values_or_missing a values) (without a.id rows) (or_missing a values fills) (without-filled a.id rows f)
 used_as-filled act.Help a values rows fills range f = f
 used_as-filled _ a values rows fills range f = absurd fills
 

@@ -1,7 +1,11 @@
 -- From what `clap` answers to what the arguments ask for.
-use Rattle.std.proofs.Common.{arith, [], List, ◌⊎◌, inl, inr, subst, ◌≡◌, ◌≢◌, ◌∙◌, ℕ, true, Option, Some, None, Result, Ok, Err, unwrap_or, refl, sym}
+use Rattle.std.proofs.Common.{arith, [], List, ◌⊎◌, inl, inr, subst, ◌≡◌, ◌≢◌, ◌∙◌, ℕ, Bool, true, false, Option, Some, None, Result, Ok, Err, unwrap_or, refl, sym}
 use Rattle.std.specs.Option.{option_map_or}
-use Rattle.std.specs.Str.Parse.{ParsesUnsigned}
+use Rattle.std.specs.Prelude.{codes}
+use Rattle.std.specs.Result.{result_unwrap_or}
+use Rattle.std.specs.Str.{bytes_eq}
+use Rattle.std.specs.Str.Parse.{ParsesBool, ParsesUnsigned}
+use Rattle.std.proofs.lemmas.Slice.Eq.{bytes_eq-Decides}
 use Rattle.clap.proofs.WalkLemmas.{byte_read}
 use Rattle.clap.specs.Walk.{byte_or_zero}
 use Rattle.clap.specs.Words.{ReadsOne, Text, is_simple}
@@ -36,6 +40,23 @@ pub number_read : (E : Type 0) (G : Text → Result ℕ E → Type 0) (o : Optio
 number_read E G None r parses none value = rw (none refl) refl
 number_read E G (Some t) (Some n) parses none value = byte_read {E = E} t (Ok n) (parses t (Ok n) (value t refl))
 number_read E G (Some t) None parses none value = let e = value t refl in byte_read {E = E} t (Err e.0) (parses t (Err e.0) e.1)
+
+-- whether `bool` reads true of a text
+bool_read : {E : Type 0} (text : Text) (r : Result Bool E) → ParsesBool text r → result_unwrap_or r false ≡ bytes_eq text (codes "true")
+bool_read text (Ok true) h = sym ((bytes_eq-Decides text (codes "true")).1 h)
+bool_read text (Ok false) h = rw h refl
+bool_read text (Err e) h = go (bytes_eq text (codes "true")) refl
+  where
+    go : (b : Bool) → bytes_eq text (codes "true") ≡ b → false ≡ b
+    go true t = absurd (h.0 ((bytes_eq-Decides text (codes "true")).0 t))
+    go false t = refl
+
+-- what `get_one` reads of a flag, and false where it has no value
+pub flag_read : (E : Type 0) (o : Option Text) (r : Option Bool) → (o ≡ None → r ≡ None) → ((t : Text) → o ≡ Some t → ReadsOne (ParsesBool {E = E}) t r)
+    → unwrap_or r false ≡ option_map_or (λ text. bytes_eq text (codes "true")) o false
+flag_read E None r none value = rw (none refl) refl
+flag_read E (Some t) (Some b) none value = bool_read {E = E} t (Ok b) (value t refl)
+flag_read E (Some t) None none value = let e = value t refl in bool_read {E = E} t (Err e.0) e.1
 
 -- where nothing was taken, no more was taken than any number
 pub none_taken : (left : Option (List ℕ)) (limit : ℕ) → TakesAtMost left left limit

@@ -2,6 +2,7 @@
 use Rattle.std.specs.Prelude.{◌≡◌, true, false, List, [], ◌∷◌, ◌++◌, Some, codes, pos}
 use Rattle.clap.specs.Words.{App, Rule, Shape, Text, new_app, new_rule, shape_of, with_subcommand}
 use Rattle.clap.specs.Simple.{new_shape, on_top}
+use Rattle.clap.specs.declared.builder.action.ArgAction.TheVariants.{SetTrue}
 use Rattle.clap.specs.declared.Command.{Command}
 use Rattle.clap.specs.declared.builder.value_parser.ValueParser.TheVariants as parsers
 use Rattle.clap.specs.declared.Command.TheViews.{out-Command as fields_of}
@@ -13,6 +14,10 @@ optional name = record (new_rule name) { long = Some name; value_names = 1 }
 -- the same, and the arguments must give it
 abbrev pub required : Text → Rule
 required name = record (optional name) { required = true }
+
+-- an option without a value
+abbrev pub flag : Text → Rule
+flag name = record (new_rule name) { long = Some name; action = Some SetTrue }
 
 -- the number of workers, from 1 to 64, and 1 where the option is left out
 abbrev pub workers_rule : Rule
@@ -56,11 +61,15 @@ message_rules = required (codes "key") ∷ required (codes "message") ∷ []
 abbrev pub form_rules : List Rule
 form_rules = optional (codes "context") ∷ optional (codes "prehash") ∷ []
 
+-- what signing has against hardware that fails
+abbrev pub safety_rules : List Rule
+safety_rules = optional (codes "random") ∷ flag (codes "twice") ∷ []
+
 abbrev pub sign_shape : Shape
-sign_shape = subcommand (codes "sign") (message_rules ++ form_rules ++ optional (codes "random") ∷ work_rules)
+sign_shape = subcommand (codes "sign") (message_rules ++ safety_rules ++ form_rules ++ work_rules)
 
 abbrev pub verify_shape : Shape
-verify_shape = subcommand (codes "verify") (message_rules ++ form_rules ++ required (codes "signature") ∷ [])
+verify_shape = subcommand (codes "verify") (message_rules ++ required (codes "signature") ∷ form_rules)
 
 abbrev pub check_shape : Shape
 check_shape = subcommand (codes "check") (required (codes "key") ∷ [])

@@ -9,7 +9,7 @@ use Rattle.slh_vectors.specs.declared.fault.VectorFault.{VectorFault}
 use Rattle.slh_vectors.specs.declared.fault.VectorFault.TheVariants as vectors
 use Rattle.slh_tool.specs.declared.fault.Fault.{Fault}
 use Rattle.slh_tool.specs.declared.fault.Fault.TheVariants.{BadCutting, BadHex, BadKeyLength, BadOption, BadSeeds, BadWords, Bad, ContextTooLong, FileTooLong, Missing}
-use Rattle.slh_tool.specs.declared.fault.Fault.TheVariants.{NoMemory, NotAList, NotJson, NotAKeyFile, ReadFailed, TrailingBytes, UnknownSet, WriteFailed}
+use Rattle.slh_tool.specs.declared.fault.Fault.TheVariants.{NoMemory, NotAList, NotJson, NotAKeyFile, ReadFailed, RunsDiffer, TrailingBytes, UnknownSet, WriteFailed}
 
 abbrev pub number : Fault → ℕ
 number NoMemory = 1
@@ -30,6 +30,7 @@ number WriteFailed = 33
 number BadSeeds = 34
 number BadOption = 35
 number FileTooLong = 36
+number RunsDiffer = 38
 
 abbrev pub name : Fault → List ℕ
 name NoMemory = codes "NoMemory"
@@ -50,6 +51,7 @@ name WriteFailed = codes "WriteFailed"
 name BadSeeds = codes "BadSeeds"
 name BadOption = codes "BadOption"
 name FileTooLong = codes "FileTooLong"
+name RunsDiffer = codes "Fault"
 
 -- the refusal of a key file
 abbrev pub of_file : FileFault → Fault

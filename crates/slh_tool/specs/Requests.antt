@@ -1,5 +1,5 @@
 -- What the arguments ask for.
-use Rattle.std.specs.Prelude.{◌≡◌, ◌≢◌, ⊤, ℕ, List, [], Option, Some, None, if◌then◌else◌, option_map, codes}
+use Rattle.std.specs.Prelude.{◌≡◌, ◌≢◌, ⊤, ℕ, Bool, false, List, [], Option, Some, None, if◌then◌else◌, option_map, codes}
 use Rattle.std.specs.Option.{option_and_then, option_map_or}
 use Rattle.std.specs.Str.{bytes_eq}
 use Rattle.clap.specs.Kinds.{IsAmong}
@@ -44,6 +44,7 @@ pub record SignOptions : Type 0 where
   pub message : Text
   pub form : FormOptions
   pub random : Option Text
+  pub twice : Bool
   pub work : WorkOptions
 
 pub record VerifyOptions : Type 0 where
@@ -77,7 +78,7 @@ abbrev pub keygen_asked : KeygenWords → KeygenOptions
 keygen_asked words = record { set = words.set.now; work = work_asked words.work }
 
 abbrev pub sign_asked : SignWords → SignOptions
-sign_asked words = record { key = words.key.now; message = words.message.now; form = form_asked words.form; random = option_map (λ s. s.now) words.random; work = work_asked words.work }
+sign_asked words = record { key = words.key.now; message = words.message.now; form = form_asked words.form; random = option_map (λ s. s.now) words.random; twice = words.twice; work = work_asked words.work }
 
 abbrev pub verify_asked : VerifyWords → VerifyOptions
 verify_asked words = record { key = words.key.now; message = words.message.now; signature = words.signature.now; form = form_asked words.form }
@@ -101,6 +102,10 @@ form_in rows = record { context = first_of (codes "context") rows; prehash = fir
 abbrev pub number_of : Text → List Row → ℕ
 number_of name rows = option_map_or byte_or_zero (one_of name rows) 0
 
+-- whether a flag is given
+abbrev pub flag_of : Text → List Row → Bool
+flag_of name rows = option_map_or (λ text. bytes_eq text (codes "true")) (one_of name rows) false
+
 abbrev pub cut_in : Text → Text → List Row → CutOptions
 cut_in levels points rows = record { levels = number_of levels rows; points = first_of points rows }
 
@@ -120,6 +125,7 @@ sign_in rows = option_and_then (λ key. option_map (λ message. sign (record {
   message = message;
   form = form_in rows;
   random = first_of (codes "random") rows;
+  twice = flag_of (codes "twice") rows;
   work = work_in rows;
 })) (first_of (codes "message") rows)) (first_of (codes "key") rows)
 

@@ -5,7 +5,7 @@ ghost use Rattle.slh_tool.specs.Arguments.{CommandIs, no_command, subcommand};
 ghost use Rattle.slh_tool.specs.Arguments.{check_shape, key_app, keygen_shape, message_app, params_shape, public_shape, root_shape, seed_app, sign_shape, slh_app, upgrade_shape, vectors_shape, verify_shape};
 
 use clap::Command;
-use options::{message_command, optional, required, with_form, with_work, workers};
+use options::{message_command, optional, required, with_form, with_safety, with_work, workers};
 use std::alloc::{AllocError, Global};
 
 mod options;
@@ -17,8 +17,8 @@ fn subcommand<'a>(alloc: Global, name: &'a str, about: &'a str, example: &'a str
     Command::new(alloc, name).about(about).after_help(example)
 }
 
-const SET_HELP: &str =
-    "A parameter set: SLH-DSA-SHA2-128s, -128f, -192s, -192f, -256s or -256f, or custom:n,lg_w,h',d,a,k";
+const SET_HELP: &str = "The parameter set: SLH-DSA-SHA2-128s, -128f, -192s,
+-192f, -256s or -256f, or custom:n,lg_w,h',d,a,k";
 
 fn params_command<'a>(alloc: Global) -> Result<Command<'a>, AllocError>
     ensures { IfOk result (CommandIs params_shape) }
@@ -27,13 +27,15 @@ fn params_command<'a>(alloc: Global) -> Result<Command<'a>, AllocError>
         alloc,
         "params",
         "Prints the numbers of one parameter set, or of all",
-        "Example: slh params --set SLH-DSA-SHA2-128f",
+        "Refusals: man slh, docs/FORMATS.md\nExample: slh params --set SLH-DSA-SHA2-128f",
     )
     .arg(optional(alloc, "set", "NAME", SET_HELP))
 }
 
 const ROOT_HELP: &str =
-    "The seeds SK.seed, SK.prf and PK.seed are one line of 6n hexadecimal digits: 96 for a 128 set, 144 for a 192, 192 for a 256.
+    "The seeds SK.seed, SK.prf and PK.seed are one line of 6n hexadecimal digits:
+96 for a 128 set, 144 for a 192 set, 192 for a 256 set.
+Refusals: man slh, docs/FORMATS.md
 Example: slh root --set SLH-DSA-SHA2-128f < seeds.txt";
 
 fn root_command<'a>(alloc: Global) -> Result<Command<'a>, AllocError>
@@ -49,7 +51,9 @@ fn root_command<'a>(alloc: Global) -> Result<Command<'a>, AllocError>
 }
 
 const KEYGEN_HELP: &str =
-    "The seeds SK.seed, SK.prf and PK.seed are one line of 6n hexadecimal digits: 96 for a 128 set, 144 for a 192, 192 for a 256.
+    "The seeds SK.seed, SK.prf and PK.seed are one line of 6n hexadecimal digits:
+96 for a 128 set, 144 for a 192 set, 192 for a 256 set.
+Refusals: man slh, docs/FORMATS.md
 Example: openssl rand -hex 48 | slh keygen --set SLH-DSA-SHA2-128f > secret.key";
 
 fn keygen_command<'a>(alloc: Global) -> Result<Command<'a>, AllocError>
@@ -72,7 +76,7 @@ fn public_command<'a>(alloc: Global) -> Result<Command<'a>, AllocError>
         alloc,
         "public",
         "Writes the public key file of a secret key file",
-        "Example: slh public --key secret.key > public.key",
+        "Refusals: man slh, docs/FORMATS.md\nExample: slh public --key secret.key > public.key",
     )
     .arg(required(alloc, "key", "FILE", "A secret key file"))
 }
@@ -83,8 +87,8 @@ fn check_command<'a>(alloc: Global) -> Result<Command<'a>, AllocError>
     subcommand(
         alloc,
         "check",
-        "Tells whether the root in a secret key file is the one that its seeds give",
-        "Example: slh check --key secret.key",
+        "Checks the root in a secret key file against its seeds",
+        "Refusals: man slh, docs/FORMATS.md\nExample: slh check --key secret.key",
     )
     .arg(required(alloc, "key", "FILE", "A secret key file"))
 }
@@ -96,13 +100,14 @@ fn upgrade_command<'a>(alloc: Global) -> Result<Command<'a>, AllocError>
         alloc,
         "upgrade",
         "Writes a key file of either version as a key file of version 2",
-        "Example: slh upgrade --key old.key > new.key",
+        "Refusals: man slh, docs/FORMATS.md\nExample: slh upgrade --key old.key > new.key",
     )
     .arg(required(alloc, "key", "FILE", "A public or secret key file"))
 }
 
-const RANDOM_HELP: &str =
-    "The randomizer, 2n hexadecimal digits: 32 for a 128 set, 48 for a 192, 64 for a 256 [default: deterministic signing]";
+const SIGN_HELP: &str = "Hardware faults in signing can allow forgeries: use --random and --twice.
+Refusals: man slh, docs/FORMATS.md
+Example: slh sign --key sk --message m --random \"$(openssl rand -hex 16)\" > sig";
 
 fn sign_command<'a>(alloc: Global) -> Result<Command<'a>, AllocError>
     ensures { IfOk result (CommandIs sign_shape) }
@@ -111,10 +116,10 @@ fn sign_command<'a>(alloc: Global) -> Result<Command<'a>, AllocError>
         alloc,
         "sign",
         "Writes the signature of a message",
-        "Example: slh sign --key secret.key --message letter.txt --random \"$(openssl rand -hex 16)\" > letter.sig",
+        SIGN_HELP,
     );
     let command = message_command(alloc, command, "A secret key file")?;
-    let command = with_form(alloc, command)?.arg(optional(alloc, "random", "HEX", RANDOM_HELP))?;
+    let command = with_form(alloc, with_safety(alloc, command)?)?;
     with_work(alloc, command)
 }
 
@@ -124,11 +129,16 @@ fn verify_command<'a>(alloc: Global) -> Result<Command<'a>, AllocError>
     let command = subcommand(
         alloc,
         "verify",
-        "Tells whether a signature of a message is valid",
-        "Example: slh verify --key public.key --message letter.txt --signature letter.sig",
+        "Verifies the signature of a message",
+        "Refusals: man slh, docs/FORMATS.md\nExample: slh verify --key public.key --message letter.txt --signature letter.sig",
     );
-    let command = message_command(alloc, command, "A public key file")?;
-    with_form(alloc, command)?.arg(required(alloc, "signature", "FILE", "The raw signature"))
+    let command = message_command(alloc, command, "A public key file")?.arg(required(
+        alloc,
+        "signature",
+        "FILE",
+        "The raw signature",
+    ))?;
+    with_form(alloc, command)
 }
 
 fn vectors_command<'a>(alloc: Global) -> Result<Command<'a>, AllocError>
@@ -138,15 +148,16 @@ fn vectors_command<'a>(alloc: Global) -> Result<Command<'a>, AllocError>
         alloc,
         "vectors",
         "Runs the tests of a vector file and reports on them",
-        "Example: slh vectors --file vectors/smoke-128f.json",
+        "Refusals: man slh, docs/FORMATS.md\nExample: slh vectors --file vectors/smoke-128f.json",
     )
     .arg(required(alloc, "file", "FILE", "A vector file"))?
     .arg(workers(alloc))
 }
 
-const STATUS_HELP: &str =
-    "Exit status: 0 for done, valid, consistent or all tests passed; 1 for invalid, inconsistent or a failed test; 2 for refused.
-A refusal writes `slh: NUMBER NAME` to standard error; docs/FORMATS.md explains the numbers.";
+const STATUS_HELP: &str = "Exit status: 0 for done, valid, consistent or all tests passed;
+1 for invalid, inconsistent or a failed test; 2 for a refusal, which writes
+`slh: NUMBER NAME` to standard error. The man page and docs/FORMATS.md have a
+table of refusals, with the usual causes.";
 
 /// The version is that of the file `VERSION`.
 const ABOUT: &str = "slh 0.9.1: keys and signatures of SLH-DSA (FIPS 205) with SHA-2";

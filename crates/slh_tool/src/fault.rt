@@ -46,6 +46,9 @@ pub enum Fault {
     BadOption,
     #[error("the file has over 2^30 bytes")]
     FileTooLong,
+    /// Told as `Fault`. It is proved never to be told, so the memory or the processor failed.
+    #[error("two computations of one signature differ")]
+    RunsDiffer,
 }
 
 impl Fault {
@@ -72,6 +75,7 @@ impl Fault {
             Fault::BadSeeds => 34,
             Fault::BadOption => 35,
             Fault::FileTooLong => 36,
+            Fault::RunsDiffer => 38,
         }
     }
 
@@ -98,6 +102,7 @@ impl Fault {
             Fault::BadSeeds => "BadSeeds",
             Fault::BadOption => "BadOption",
             Fault::FileTooLong => "FileTooLong",
+            Fault::RunsDiffer => "Fault",
         }
     }
 
@@ -125,6 +130,7 @@ impl Fault {
             Fault::BadSeeds => "slh: 34 BadSeeds",
             Fault::BadOption => "slh: 35 BadOption",
             Fault::FileTooLong => "slh: 36 FileTooLong",
+            Fault::RunsDiffer => "slh: 38 Fault",
         }
     }
 }

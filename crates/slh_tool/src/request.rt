@@ -1,6 +1,6 @@
 ghost use Rattle.std.specs.Prelude.{◌≡◌, Some, option_map, map, IfOk, IfErr, string_bytes};
 ghost use Rattle.clap.specs.Words.{first_of, found_of, rows_of, subcommand_rows_of};
-ghost use Rattle.slh_tool.specs.Requests.{Asks, RefusesRequest, asked, asked_by, asked_in, asked_of_file, cut_asked, cut_in, form_asked, form_in, keygen_in, number_of, sign_in, vectors_in, verify_in, work_asked, work_in};
+ghost use Rattle.slh_tool.specs.Requests.{Asks, RefusesRequest, asked, asked_by, asked_in, asked_of_file, cut_asked, cut_in, flag_of, form_asked, form_in, keygen_in, number_of, sign_in, vectors_in, verify_in, work_asked, work_in};
 
 use crate::arguments::slh_command;
 use clap::ArgMatches;
@@ -57,6 +57,7 @@ pub(crate) struct SignWords<'a> {
     pub(crate) message: &'a str,
     pub(crate) form: FormWords<'a>,
     pub(crate) random: Option<&'a str>,
+    pub(crate) twice: bool,
     pub(crate) work: WorkWords<'a>,
 }
 
@@ -168,6 +169,7 @@ fn sign_request<'a>(values: &ArgMatches<'a>) -> Option<Request<'a>>
         message: value(values, "message")?,
         form: form_words(values),
         random: value(values, "random"),
+        twice: flag(values, "twice"),
         work: work_words(values),
     }))
 }
@@ -216,6 +218,13 @@ fn number(values: &ArgMatches, name: &str) -> u8
     ensures { result ≡ number_of name.now (rows_of (found_of values.now)) }
 {
     values.get_one::<u8>(name).unwrap_or(0)
+}
+
+/// Whether a flag is given. `clap` gives each of them a default, so there is a value.
+fn flag(values: &ArgMatches, name: &str) -> bool
+    ensures { result ≡ flag_of name.now (rows_of (found_of values.now)) }
+{
+    values.get_one::<bool>(name).unwrap_or(false)
 }
 
 /// The value of an option.

@@ -54,12 +54,54 @@ fn sign_with<R: Threads + Sync, A: Allocator + Clone + Send + Sync, F: Files>(
     let context = form.context.as_slice();
     let workers = workers_of(words.work.workers);
     signature_of(
-        rt, alloc, key, &content, context, &random, workers, &cutting,
+        rt,
+        alloc,
+        key,
+        &content,
+        context,
+        &random,
+        workers,
+        &cutting,
+        words.twice,
     )
 }
 
-/// The signature under a context of what is signed of a message file, by several workers.
+/// The signature under a context of the content of a message file, by several workers. If `twice` is given, it is
+/// computed two times into two buffers, and refused as 38 unless all bytes agree. Hardware that fails can make them
+/// differ; the proof assumes that none does, so no contract allows this refusal.
 fn signature_of<R: Threads + Sync, A: Allocator + Clone + Send + Sync>(
+    rt: &R,
+    alloc: A,
+    key: &SecretKey,
+    content: &Content<A>,
+    context: &[u8],
+    random: &Option<Random>,
+    workers: Workers,
+    cutting: &Cutting,
+    twice: bool,
+) -> Result<Vec<u8, A>, Fault>
+    requires random { IfSome random.now (λ bytes. length bytes.items ≡ (params key.now.set).n) }
+    requires cutting { cutting.now.set ≡ key.now.set }
+    ensures short { OnOk result (length context.now ≤ 255) }
+    ensures done { IfOk result (λ bytes. bytes.items
+        ≡ signature_of key.now (formatted content.now context.now) (option_map (λ r. r.items) random.now)) }
+    ensures refused { IfErr result (λ e. (e ≡ NoMemory)
+        ⊎ ((e ≡ ContextTooLong) × (255 < length context.now))) }
+{
+    let memory = alloc.clone()?;
+    let first = signed_once(rt, memory, key, content, context, random, workers, cutting)?;
+    if twice {
+        let second = signed_once(rt, alloc, key, content, context, random, workers, cutting)?;
+        if second.as_slice() != first.as_slice() {
+            return Err(Fault::RunsDiffer);
+        }
+    }
+    Ok(first)
+}
+
+/// The signature, computed once. It is kept out of line, so that the compiler cannot take one computation for both.
+#[inline(never)]
+fn signed_once<R: Threads + Sync, A: Allocator + Clone + Send + Sync>(
     rt: &R,
     alloc: A,
     key: &SecretKey,

@@ -1,9 +1,9 @@
 ghost use Rattle.std.specs.Prelude.{◌≡◌, false, IfOk};
 ghost use Rattle.clap.specs.Words.{rule_of};
-ghost use Rattle.slh_tool.specs.Arguments.{AddsOptions, HasNoGlobals, cuts_rules, form_rules, levels_rule, levels_rules, message_rules, optional, required, work_rules, workers_rule};
+ghost use Rattle.slh_tool.specs.Arguments.{AddsOptions, HasNoGlobals, cuts_rules, flag, form_rules, levels_rule, levels_rules, message_rules, optional, required, safety_rules, work_rules, workers_rule};
 
 use clap::builder::ValueParser;
-use clap::{Arg, Command};
+use clap::{Arg, ArgAction, Command};
 use std::alloc::{AllocError, Global};
 
 /// An option that may be left out.
@@ -23,6 +23,17 @@ pub(crate) fn required<'a>(alloc: Global, name: &'a str, value: &'a str, help: &
     ensures local { result.global ≡ false }
 {
     optional(alloc, name, value, help).required(true)
+}
+
+/// An option without a value.
+fn flag<'a>(alloc: Global, name: &'a str, help: &'a str) -> Arg<'a>
+    ensures rule { rule_of result ≡ flag name.entry.now }
+    ensures local { result.global ≡ false }
+{
+    Arg::new(alloc, name)
+        .long(name)
+        .action(ArgAction::SetTrue)
+        .help(help)
 }
 
 /// The option on the number of workers.
@@ -45,9 +56,11 @@ fn levels<'a>(alloc: Global, name: &'a str, help: &'a str) -> Arg<'a>
         .default_value("0")
 }
 
-const XMSS_LEVELS_HELP: &str = "Cuts each XMSS tree into 2^N ranges for the workers, N 0 to 8";
+const XMSS_LEVELS_HELP: &str = "Cuts each XMSS tree into 2^N ranges for the workers,
+N 0 to 8";
 
-const FORS_LEVELS_HELP: &str = "Cuts each FORS tree into 2^N ranges for the workers, N 0 to 8";
+const FORS_LEVELS_HELP: &str = "Cuts each FORS tree into 2^N ranges for the workers,
+N 0 to 8";
 
 /// The same command, which also takes the levels of both kinds of tree.
 fn with_levels<'a>(alloc: Global, command: Command<'a>) -> Result<Command<'a>, AllocError>
@@ -59,11 +72,11 @@ fn with_levels<'a>(alloc: Global, command: Command<'a>) -> Result<Command<'a>, A
         .arg(levels(alloc, "fors-levels", FORS_LEVELS_HELP))
 }
 
-const XMSS_CUTS_HELP: &str =
-    "Cuts each XMSS tree before these leaves instead, as 2,4,6: at most 255 rising numbers";
+const XMSS_CUTS_HELP: &str = "Cuts each XMSS tree before these leaves instead, as
+2,4,6: at most 255 rising numbers";
 
-const FORS_CUTS_HELP: &str =
-    "Cuts each FORS tree before these leaves instead, as 2,4,6: at most 255 rising numbers";
+const FORS_CUTS_HELP: &str = "Cuts each FORS tree before these leaves instead, as
+2,4,6: at most 255 rising numbers";
 
 /// The same command, which also takes the cut points of both kinds of tree.
 fn with_cuts<'a>(alloc: Global, command: Command<'a>) -> Result<Command<'a>, AllocError>
@@ -101,10 +114,31 @@ pub(crate) fn message_command<'a>(
     ))
 }
 
-const CONTEXT_HELP: &str = "The context, an even number of hexadecimal digits [default: empty]";
+const RANDOM_HELP: &str = "The randomizer, 2n hexadecimal digits: 32 for a 128
+set, 48 for a 192 set, 64 for a 256 set
+[default: deterministic signing]";
 
-const PREHASH_HELP: &str = "The pre-hash form with SHA2-224, SHA2-256, SHA2-384, SHA2-512, \
-    SHA2-512/224 or SHA2-512/256 [default: the pure form]";
+const TWICE_HELP: &str = "Signs twice and compares: 38 Fault if a byte differs";
+
+/// The same command, which also takes a randomizer, and whether to sign twice.
+pub(crate) fn with_safety<'a>(
+    alloc: Global,
+    command: Command<'a>,
+) -> Result<Command<'a>, AllocError>
+    requires { HasNoGlobals command }
+    ensures { IfOk result (AddsOptions command.entry safety_rules) }
+{
+    command
+        .arg(optional(alloc, "random", "HEX", RANDOM_HELP))?
+        .arg(flag(alloc, "twice", TWICE_HELP))
+}
+
+const CONTEXT_HELP: &str = "The context, at most 255 bytes in hexadecimal digits
+[default: empty]";
+
+const PREHASH_HELP: &str = "The pre-hash form with SHA2-224, SHA2-256, SHA2-384,
+SHA2-512, SHA2-512/224 or SHA2-512/256
+[default: the pure form]";
 
 /// The same command, which also takes the form in which the message is signed.
 pub(crate) fn with_form<'a>(alloc: Global, command: Command<'a>) -> Result<Command<'a>, AllocError>

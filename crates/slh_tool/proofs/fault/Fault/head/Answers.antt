@@ -60,6 +60,10 @@ pub returns-in-FileTooLong : goal.returns-in-FileTooLong
 unfolding head
 returns-in-FileTooLong c = rw (c.in-FileTooLong.is, two_digits 36 (omega arith) (omega arith)) refl
 
+pub returns-in-RunsDiffer : goal.returns-in-RunsDiffer
+unfolding head
+returns-in-RunsDiffer c = rw (c.in-RunsDiffer.is, two_digits 38 (omega arith) (omega arith)) refl
+
 pub returns-in-NotJson : goal.returns-in-NotJson
 unfolding head
 returns-in-NotJson c = rw (c.in-NotJson.is, two_digits 21 (omega arith) (omega arith)) refl
