@@ -11,6 +11,7 @@ Members:
 
 - `words`: the arguments;
 - `status`, and one of `output` (all of it), `sha256` (of the output) or `contains` (texts that the output has);
+- `width`: the most characters that a line of the output has;
 - `errors`: all of standard error, empty where it is left out;
 - `input`: standard input, empty where it is left out;
 - `write`: files to write before the run, by name; they stay;
@@ -38,7 +39,7 @@ release, few, words = counts.take_options(sys.argv[1:])
 tables = pathlib.Path(words[0] if words else here / "vectors" / "commands")
 program = counts.choose_program(release, words[1] if len(words) > 1 else here / "crates" / "slh" / "out" / "slh")
 ANSWERS = ["output", "sha256", "contains"]
-MEMBERS = {"words", "status", "errors", "input", "write", "keep", "cut", "put", "flip", "add", *ANSWERS}
+MEMBERS = {"words", "status", "width", "errors", "input", "write", "keep", "cut", "put", "flip", "add", *ANSWERS}
 
 
 def checked(row):
@@ -83,6 +84,9 @@ def run(row, folder):
     if "keep" in row:
         (folder / row["keep"]).write_bytes(done.stdout)
     output, errors = done.stdout.decode("latin-1"), done.stderr.decode("latin-1")
+    wide = [it for it in output.split("\n") if len(it) > row.get("width", len(output))]
+    if wide:
+        return f"lines that are too wide: {wide}"
     if (done.returncode, errors) != (row["status"], row.get("errors", "")):
         return f"status {done.returncode}, errors {errors!r}"
     if "output" in row:
