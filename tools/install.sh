@@ -12,8 +12,9 @@
 # usage: tools/install.sh PREFIX
 #
 # SLH_BUILD=1 and what is done without rt are as tools/library.sh says. Man page and completions are made of the
-# program's own help texts, by python3: where there is none, they are left out, and it is told. The status is 0 where all
-# else is installed. Where a file is damaged or missing, and can't be built, it is 2, and nothing is installed.
+# program's own help texts and of the refusals in docs/FORMATS.md, by python3: without it they are left out, with a
+# message on standard error. The status is 0 if all else is installed. If a file is damaged or missing, and can't be
+# built, the status is 2, and nothing is installed.
 set -euo pipefail
 here=$(cd "$(dirname "${BASH_SOURCE[0]}")/.." && pwd)
 source "$here/tools/released.sh"

@@ -1,23 +1,65 @@
 #!/usr/bin/env python3
-"""Prints the man page of the program `slh`, or its completions for bash or zsh, from what it says of itself: from `slh
---help`, `slh COMMAND --help` and, for the names of the sets, `slh params`.
+"""Prints the man page of the program `slh`, or its completions for bash or zsh. Commands and options come from `slh
+--help` and `slh COMMAND --help`, the names of the sets from `slh params`, the refusals from docs/FORMATS.md.
 
 usage: packages/debian/from_help.py PROGRAM VERSION man|bash|zsh
 """
+import pathlib
 import re
 import subprocess
 import sys
 
 OPTION = re.compile(r"^ +(?:(-\w), )?(--[a-z-]+)(?: <([A-Z]+)>)? {2,}(\S.*)$")
 COMMAND = re.compile(r"^  ([a-z]+) {2,}(\S.*)$")
+FORMATS = pathlib.Path(__file__).resolve().parents[2] / "docs" / "FORMATS.md"
+REFUSALS = "### Refusals of the program"
+
+DESCRIPTION = """\
+slh makes keys and signatures of SLH-DSA with SHA-2 (FIPS 205), and verifies them. It has no source of random bytes: the
+seeds of a key are read from standard input, and `--random` takes the randomizer of a signature.
+
+Keys are text files, which name their parameter set. Signatures are raw bytes. Each command writes its result to
+standard output. A shell empties the file after `>` before slh starts: write to a new name, and rename it if the exit
+status is 0.
+
+Hardware that fails while it signs can allow forgeries. `--twice` signs two times and writes the signature only if both
+results agree. `--random` makes each signature another one.
+"""
+
+EXAMPLES = {
+    "To make a key pair, which for a 192 set takes 72 random bytes and for a 256 set 96:": """\
+umask 077
+openssl rand -hex 48 | slh keygen --set SLH-DSA-SHA2-128f > secret.key
+slh public --key secret.key > public.key
+""",
+    "To sign, where a 192 set takes 24 random bytes and a 256 set 32:": """\
+slh sign --key secret.key --message letter.txt --twice \\
+    --random "$(openssl rand -hex 16)" > letter.sig
+""",
+    "To verify in a script, by the exit status:": """\
+if slh verify --key public.key --message letter.txt \\
+    --signature letter.sig > /dev/null; then echo genuine; fi
+""",
+    "To sign in the pre-hash form, under a context, with eight threads:": """\
+slh sign --key secret.key --message disk.img --prehash SHA2-256 \\
+    --context "$(printf backup | xxd -p)" --workers 8 --xmss-levels 1 > disk.sig
+""",
+}
+
+STATUS = {
+    "0": "done, `valid`, `consistent`, or all tests passed",
+    "1": "`invalid`, `inconsistent`, or a test failed",
+    "2": "refused: standard error has the number and the name of the refusal. "
+         "Nothing was written to standard output, unless a write failed (33).",
+}
 
 
 class Help:
     """A help text: its sentence, its usage, its commands and options, and the paragraph at its end. The sentence of the
-    program itself has its version before it."""
+    program itself has its version before it. A line that is indented further continues the option above it."""
 
     def __init__(self, text):
-        parts = text.rstrip("\n").split("\n\n")
+        parts = re.sub(r"\n {20,}", " ", text.rstrip("\n")).split("\n\n")
         self.sentence = parts[0]
         self.usage = next(it for it in parts if it.startswith("Usage: ")).removeprefix("Usage: ")
         self.commands = self.found(parts, "Commands:", COMMAND)
@@ -54,13 +96,38 @@ def man_options(options):
 
 
 def man_end(text):
-    """The paragraph at the end of a help text, with its example as it is typed."""
-    for line in text.split("\n"):
-        example = line.removeprefix("Example: ")
-        if example == line:
-            yield from (".PP", roff(line))
-        else:
-            yield from (".PP", "Example:", ".PP", ".RS 4", ".nf", roff(example), ".fi", ".RE")
+    """The paragraph at the end of a command's help text, with its example as it is typed."""
+    *lines, last = [it for it in text.split("\n") if not it.startswith("Refusals: ")]
+    if lines:
+        yield from (".PP", *map(roff, lines))
+    yield from (".PP", "Example:", *man_typed(last.removeprefix("Example: ")))
+
+
+def man_typed(text):
+    """Lines as they are typed."""
+    yield from (".PP", ".RS 4", ".nf", roff(text.rstrip("\n")), ".fi", ".RE")
+
+
+def man_text(text):
+    """Text of Markdown, with its code in bold and without the targets of its links."""
+    text = re.sub(r"\[([^]]*)\]\([^)]*\)", r"\1", text).replace("\\|", "|")
+    parts = [roff(it) for it in text.split("`")]
+    return "".join(f"\\fB{it}\\fR" if index % 2 else it for index, it in enumerate(parts))
+
+
+def man_refusals():
+    """The refusals of the program: when each comes, and the usual causes."""
+    table = FORMATS.read_text().split(REFUSALS + "\n")[1].split("\n#")[0]
+    rows = [re.split(r"(?<!\\) \| ", it.strip("| ")) for it in table.split("\n") if re.match(r"\| [0-9]", it)]
+    if not rows or any(len(it) != 4 for it in rows):
+        sys.exit(f"not as expected: the refusals of {FORMATS}")
+    for number, name, when, look in rows:
+        yield from (".TP", f"\\fB{number} {name}\\fR", man_text(when) + ".", ".br", f"Look at: {man_text(look)}.")
+
+
+def man_examples():
+    for purpose, typed in EXAMPLES.items():
+        yield from (".PP", roff(purpose), *man_typed(typed))
 
 
 def man(program, commands, version):
@@ -68,6 +135,7 @@ def man(program, commands, version):
     name = name[0].lower() + name[1:]
     yield f'.TH SLH 1 "" "slh {version}" "User Commands"'
     yield from (".SH NAME", f"slh \\- {roff(name)}", ".SH SYNOPSIS", f"\\fB{roff(program.usage)}\\fR")
+    yield from (".SH DESCRIPTION", man_text(DESCRIPTION.rstrip("\n")).replace("\n\n", "\n.PP\n"))
     yield ".SH OPTIONS"
     yield from man_options(program.options)
     yield ".SH COMMANDS"
@@ -75,10 +143,16 @@ def man(program, commands, version):
         yield from (f".SS {name}", roff(it.sentence), ".PP", f"\\fB{roff(it.usage)}\\fR")
         yield from man_options(it.options)
         yield from man_end(it.end)
+    yield ".SH EXAMPLES"
+    yield from man_examples()
     yield ".SH EXIT STATUS"
-    yield from man_end(program.end)
+    for status, text in STATUS.items():
+        yield from (".TP", f"\\fB{status}\\fR", man_text(text))
+    yield ".SH REFUSALS"
+    yield roff("A refusal is a line on standard error, slh: NUMBER NAME. The first fault that is found is reported.")
+    yield from man_refusals()
     yield from (".SH FILES", ".TP", ".I /usr/share/doc/slh/FORMATS.md.gz")
-    yield "Formats of keys, and what each refusal means."
+    yield "Formats of keys, and the refusals of the library. In the repository it is docs/FORMATS.md."
 
 
 def values(option, sets):
@@ -106,6 +180,7 @@ def bash(program, commands, sets):
     yield "    *)"
     yield "        case $COMP_CWORD-${COMP_WORDS[1]} in"
     yield f'        1-*) words="{" ".join(name for name, _ in program.commands)} --help" ;;'
+    yield f'        2-help) words="{" ".join(commands)}" ;;'
     for name, command in commands.items():
         yield f'        *-{name}) words="{" ".join(it[1] for it in command.options)}" ;;'
     yield "        esac"
@@ -146,6 +221,7 @@ def zsh(program, commands, sets):
     yield "    shift words"
     yield "    (( CURRENT-- ))"
     yield "    case $command in"
+    yield "    help) (( CURRENT == 2 )) && _describe command commands ;;"
     for name, command in commands.items():
         yield f"    {name})"
         yield "        _arguments \\"
