@@ -10,6 +10,8 @@ pub(super) const PUBLIC: &[u8] =
 
 pub(super) const SIGN: [&str; 5] = ["sign", "--key", "secret", "--message", "abc"];
 
+pub(super) const SIGN_TWICE: [&str; 6] = ["sign", "--key", "secret", "--message", "abc", "--twice"];
+
 pub(super) const SIGN_HASHED: [&str; 7] = [
     "sign",
     "--key",

@@ -1,7 +1,7 @@
 //! Memory that is refused.
 use super::devices::Folder;
 use super::equal;
-use super::fixtures::{NOT_VALID, PUBLIC, SECRET, SIGN, SIGN_HASHED, VECTORS, VERIFY};
+use super::fixtures::{NOT_VALID, PUBLIC, SECRET, SIGN, SIGN_HASHED, SIGN_TWICE, VECTORS, VERIFY};
 use crate::{Answer, words_of};
 use refusing_allocator::Refusing;
 use slh_io::{Reader, Writer};
@@ -66,7 +66,7 @@ fn refuses_each_growth_and_then_works(rt: HostRuntime) -> Result<(), Fail> {
         ("sig", b"no signature".as_slice()),
         ("tests", NOT_VALID),
     ];
-    let commands: [&[&str]; 15] = [
+    let commands: [&[&str]; 16] = [
         &["params"],
         &["params", set[0], set[1]],
         &["root", set[0], set[1]],
@@ -86,6 +86,7 @@ fn refuses_each_growth_and_then_works(rt: HostRuntime) -> Result<(), Fail> {
         &["upgrade", "--key", "secret"],
         &["upgrade", "--key", "public"],
         &SIGN,
+        &SIGN_TWICE,
         &SIGN_HASHED,
         &[
             "sign",
