@@ -189,7 +189,7 @@ options_of() { "$program" "$1" --help | grep -oE -- '^ +(-h, )?--[a-z-]+' | grep
 
 # The man page has each command, each option of each, and no fault that man finds.
 man_page_has_all() {
-    local page=$unpacked/usr/share/man/man1/slh.1.gz command option count=0
+    local page=$unpacked/usr/share/man/man1/slh.1.gz command option head count=0
     MANWIDTH=120 man --warnings -l "$page" >"$work/page" 2>"$work/err" && [ ! -s "$work/err" ] || return
     grep -q '^ *slh - keys and signatures' "$work/page" || return
     for command in $(commands); do
@@ -199,7 +199,8 @@ man_page_has_all() {
             count=$((count + 1))
         done
     done
-    [ "$count" -gt 30 ]
+    for head in DESCRIPTION EXAMPLES "EXIT STATUS" REFUSALS; do grep -qx "$head" "$work/page" || return; done
+    grep -q "^ *38 Fault" "$work/page" && [ "$count" -gt 30 ]
 }
 
 # What bash completes the last of these words to, in one line.
@@ -213,6 +214,7 @@ completes_in_bash() {
     cd "$files" && touch "secret key" || return
     [ "$(bash_completes "")" = "$(commands | tr '\n' ' ')help --help" ] || return
     [ "$(bash_completes ver)" = verify ] || return
+    [ "$(bash_completes help ver)" = verify ] || return
     for command in $(commands); do
         [ "$(bash_completes "$command" --)" = "$(options_of "$command" | tr '\n' ' ' | sed 's/ $//')" ] || return
     done
@@ -239,6 +241,7 @@ END
 completes_in_zsh() {
     cd "$files" || return
     [ "$(zsh_completes 'slh ver')" = "slh verify " ] &&
+        [ "$(zsh_completes 'slh help ver')" = "slh help verify " ] &&
         [ "$(zsh_completes 'slh sign --me')" = "slh sign --message " ] &&
         [ "$(zsh_completes 'slh keygen --set x --wo')" = "slh keygen --set x --workers " ] &&
         [ "$(zsh_completes 'slh sign --prehash SHA2-22')" = "slh sign --prehash SHA2-224 " ] &&

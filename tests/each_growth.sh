@@ -83,6 +83,7 @@ check 0 50 check --key key
 check 0 50 upgrade --key key
 check 0 50 upgrade --key public
 check 0 50 sign --key key --message message
+check 0 50 sign --key key --message message --twice
 check 8 50 sign --key key --message message --context "$context" --random 000102030405060708090a0b0c0d0e0f \
     --workers 2 --xmss-levels 1 --fors-levels 1
 check 12 50 sign --key key --message message --prehash SHA2-512/256 --workers 3 --xmss-cuts 3,5 --fors-cuts 5
