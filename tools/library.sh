@@ -40,7 +40,7 @@ if [ "${1-}" = --target ] && [ $# -gt 1 ]; then
     target=$2
     shift 2
 fi
-if [ $# != 1 ]; then
+if [ $# != 1 ] || [[ $1 = -* ]]; then
     echo "usage: tools/library.sh [--after-ci | --dist DIST] [--target TARGET] PREFIX" >&2
     exit 2
 fi
