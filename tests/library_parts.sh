@@ -46,7 +46,7 @@ has_memory64() {
     return 1
 }
 
-# Runs a command, and tells by NAME whether its status was 0. Where it was not, what it prints is shown, and the status is 1.
+# Runs a command, and tells by NAME whether its status was 0. If it was not, its output is shown, and the status is 1.
 one() {
     local name=$1
     shift
