@@ -271,7 +271,7 @@ types_name_all() {
 }
 
 if can_run python python3 && can_build_wheels python; then with_python; fi
-if can_run javascript node && has_memory64 javascript; then with_javascript; fi
+if can_run javascript node && has_memory64 javascript "$wasm/lib/slh.wasm"; then with_javascript; fi
 if [ $few = no ]; then
     if can_run cmake cmake cc python3 readelf; then with_cmake; fi
     if can_run rust cargo cc pkg-config; then with_rust; fi

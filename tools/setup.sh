@@ -40,6 +40,7 @@ make make
 pkg-config pkg-config
 python3 python3
 - python3-venv python3-setuptools python3-wheel python3-distributed python3-tqdm
+- librust-rand-core-dev
 git git
 xxd xxd
 openssl openssl
@@ -131,6 +132,7 @@ choose_packages() {
         packages=("${packages[@]/%rustc/rustc-web}")
         packages=("${packages[@]/%cargo/cargo-web}")
     fi
+    if has_version librust-signature-dev 2; then packages+=(librust-signature-dev); fi
     if ! has_openssl && has_version openssl 3.5; then packages+=(openssl libssl-dev); fi
     if ! has_wasm2c && has_version wabt 1.0.36; then packages+=(wabt); fi
 }
