@@ -7,14 +7,17 @@
  *   slh_hash_sign_digest, slh_hash_verify_digest
  *                                     the same for a message that is read in pieces: you compute its digest
  *   slh_hash_sign, slh_hash_verify    the same with the message, of which these compute the digest
+ *   slh_sign_twice, slh_hash_sign_digest_twice, slh_hash_sign_twice
+ *                                     to sign two times and compare, if memory or the processor may fail
  *   slh_sign_jobs, slh_sign_start, slh_answer_place, slh_sign_job, slh_sign_join
  *                                     to have one signature computed by threads or processes of your own
  *   slh_keygen_jobs, slh_keygen_job, slh_keygen_join
  *                                     the same for a key
  *   slh_erase                         to overwrite seeds, keys and answers in buffers of your own
  *   slh_level                         to ask for which level of processors the code is that runs
- *   slh_lengths, slh_refusal_name, slh_version
- *                                     lengths by a set's number, the name of a refusal, the library's version
+ *   slh_lengths, slh_refusal_name, slh_refusal_text, slh_version
+ *                                     lengths by a set's number, the name of a refusal and a sentence for it, the
+ *                                     library's version
  *
  * slh_verify.h, which this header includes, declares what verifies, the numbers and the lengths.
  *
@@ -45,13 +48,13 @@
  *
  *   1  set             5  message       9  job
  *   2  function        6  context       10 answers
- *   3  levels          7  randomizer    11 output or signature
- *   4  key or seeds    8  start
+ *   3  levels          7  randomizer    11 scratch
+ *   4  key or seeds    8  start         12 output or signature
  *
  * The seeds are SK.seed, SK.prf and PK.seed, in this order. A digest stands in place of the message.
  *
  *
- * Each call but slh_version, slh_level and slh_erase returns SLH_DONE (0), SLH_INVALID (30, only slh_check and the
+ * Each call but slh_version, slh_level, slh_erase and slh_refusal_text returns SLH_DONE (0), SLH_INVALID (30, only slh_check and the
  * verify calls), or a refusal's number. What is not valid is judged in this order, and the number of the first is
  * returned:
  *
@@ -70,6 +73,7 @@
  *   SLH_BAD_START              the start does not have its tag under this key
  *   SLH_ANSWERS_DISAGREE       the answers don't fit together
  *   SLH_CONTEXT_TOO_LONG       signing under a context of over 255 bytes
+ *   SLH_FAULT                  two computations of one signature differ (the calls whose names end in _twice)
  *
  * An output is written where SLH_DONE is returned, and is as it was for every other number. Test for SLH_DONE.
  */
@@ -170,6 +174,39 @@ uint32_t slh_hash_sign(uint32_t set, uint32_t function, const uint8_t *sk, size_
                        size_t randomizer_len, uint8_t *sig, size_t sig_len);
 
 /*
+ * To sign as slh_sign does, and to find a computation that went wrong: signs two times into the two halves of scratch,
+ * compares all bytes, and copies the signature to sig only if both are the same. scratch has 2 * sig_len bytes, and is
+ * zeros after SLH_DONE and SLH_FAULT. SLH_FAULT means that the two signatures differ: memory or the processor failed.
+ * Nothing of either is kept. This takes twice the time of slh_sign.
+ * Returns: SLH_DONE; SLH_NO_SUCH_SET, SLH_BAD_LENGTH, SLH_BAD_RANDOMIZER_LENGTH, SLH_BAD_OUTPUT_LENGTH (also for
+ * scratch), SLH_CONTEXT_TOO_LONG, SLH_FAULT.
+ */
+SLH_MUST_USE SLH_API
+uint32_t slh_sign_twice(uint32_t set, const uint8_t *sk, size_t sk_len, const uint8_t *msg, size_t msg_len,
+                        const uint8_t *ctx, size_t ctx_len, const uint8_t *randomizer, size_t randomizer_len,
+                        uint8_t *scratch, size_t scratch_len, uint8_t *sig, size_t sig_len);
+
+/*
+ * To sign as slh_hash_sign_digest does, two times, as slh_sign_twice does.
+ * Returns: what slh_hash_sign_digest returns, SLH_BAD_OUTPUT_LENGTH also for scratch; SLH_FAULT.
+ */
+SLH_MUST_USE SLH_API
+uint32_t slh_hash_sign_digest_twice(uint32_t set, uint32_t function, const uint8_t *sk, size_t sk_len,
+                                    const uint8_t *digest, size_t digest_len, const uint8_t *ctx, size_t ctx_len,
+                                    const uint8_t *randomizer, size_t randomizer_len, uint8_t *scratch,
+                                    size_t scratch_len, uint8_t *sig, size_t sig_len);
+
+/*
+ * To sign as slh_hash_sign does, two times, as slh_sign_twice does. The message is hashed two times, too.
+ * Returns: what slh_hash_sign returns, SLH_BAD_OUTPUT_LENGTH also for scratch; SLH_FAULT.
+ */
+SLH_MUST_USE SLH_API
+uint32_t slh_hash_sign_twice(uint32_t set, uint32_t function, const uint8_t *sk, size_t sk_len, const uint8_t *msg,
+                             size_t msg_len, const uint8_t *ctx, size_t ctx_len, const uint8_t *randomizer,
+                             size_t randomizer_len, uint8_t *scratch, size_t scratch_len, uint8_t *sig,
+                             size_t sig_len);
+
+/*
  * To print what a refusal is: writes the name of its number, as "BadLength", in ASCII and without a zero byte inside,
  * and zero bytes from there to the end of name, at least one. SLH_MAX_NAME bytes are enough for each name. SLH_DONE and
  * SLH_INVALID are not refusals.
@@ -177,6 +214,13 @@ uint32_t slh_hash_sign(uint32_t set, uint32_t function, const uint8_t *sk, size_
  */
 SLH_API
 uint32_t slh_refusal_name(uint32_t refusal, char *name, size_t name_len);
+
+/*
+ * To tell a person what a result means: a sentence in English for each result's number, without its number and name,
+ * and "this number is no result of the library" for any other. The bytes are the library's, and never change.
+ */
+SLH_MUST_USE SLH_API
+const char *slh_refusal_text(uint32_t result);
 
 /*
  * To overwrite what is secret in a buffer of your own once it is no longer needed, as seeds, keys and answers: writes

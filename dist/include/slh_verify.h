@@ -28,10 +28,10 @@
 
 /* The version of this header: three numbers, the number that slh_version returns of the same version, and the text. */
 #define SLH_VERSION_MAJOR 0
-#define SLH_VERSION_MINOR 9
-#define SLH_VERSION_PATCH 1
+#define SLH_VERSION_MINOR 10
+#define SLH_VERSION_PATCH 0
 #define SLH_VERSION_NUMBER (1000000 * SLH_VERSION_MAJOR + 1000 * SLH_VERSION_MINOR + SLH_VERSION_PATCH)
-#define SLH_VERSION "0.9.1"
+#define SLH_VERSION "0.10.0"
 
 /* Stands before each call whose result has to be looked at. A compiler that can warns where that is not done. */
 #if defined(__cplusplus) && __cplusplus >= 201703L
@@ -101,7 +101,8 @@ enum slh_result {
     SLH_BAD_START_LENGTH = 27,
     SLH_BAD_START = 28,
     SLH_INVALID = 30,
-    SLH_NO_MEMORY = 37
+    SLH_NO_MEMORY = 37,
+    SLH_FAULT = 38
 };
 
 /* n of each set: the length of a hash value, of a seed and of a randomizer in bytes. */
