@@ -15,7 +15,7 @@
 # date of its commit: so packages of one commit are the same bits. DEBFULLNAME and DEBEMAIL name another maintainer.
 set -euo pipefail
 here=$(cd "$(dirname "${BASH_SOURCE[0]}")/.." && pwd)
-if [ $# = 0 ] || [ $# -gt 2 ] || [[ $1 = -* ]]; then
+if [ $# = 0 ] || [ $# -gt 2 ] || [[ $1 = -* || ${2-} = -* ]]; then
     echo "usage: tools/debian.sh [DIST] FOLDER" >&2
     exit 2
 fi

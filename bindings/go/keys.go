@@ -46,7 +46,7 @@ func (public *PublicKey) Bytes() []byte {
 // Equal reports whether other is the same *PublicKey.
 func (public *PublicKey) Equal(other crypto.PublicKey) bool {
 	it, ok := other.(*PublicKey)
-	return ok && public.set == it.set && subtle.ConstantTimeCompare(public.key.bytes(), it.key.bytes()) == 1
+	return ok && it != nil && public.set == it.set && subtle.ConstantTimeCompare(public.key.bytes(), it.key.bytes()) == 1
 }
 
 // String returns the set and a fingerprint, the SHA-256 of the bytes: PublicKey(SLH-DSA-SHA2-128f SHA256:BASE64).
@@ -223,7 +223,7 @@ func (secret *SecretKey) Bytes() []byte {
 // depend on the bytes.
 func (secret *SecretKey) Equal(other crypto.PrivateKey) bool {
 	it, ok := other.(*SecretKey)
-	if !ok || secret.set != it.set {
+	if !ok || it == nil || secret.set != it.set {
 		return false
 	}
 	one, err := secret.taken()
@@ -263,7 +263,7 @@ func (secret *SecretKey) Check() error {
 
 // Sign signs a message in the pure form (Algorithm 22) if opts are nil or opts.HashFunc() is 0. Else the message is a
 // digest under that hash function, and is signed in the pre-hash form, as by HashSignDigest. The options are those of
-// Options or *Options, or the default if opts are of another type. The randomizer comes from the source, or from
+// Options, *Options or a struct that embeds one, or the default if opts are of another type. The randomizer comes from the source, or from
 // crypto/rand if that is nil. It is refused as ContextTooLong if the context has over 255 bytes, as NoSuchFunction and
 // as BadDigestLength, and by Workers above 1 as AnswersDisagree under a key that Check finds invalid. Twice and Verify
 // return ErrFault. If the source fails, the error is no Refusal, and wraps the source's.

@@ -52,15 +52,21 @@ func (options Options) runs() int {
 	return 1
 }
 
-// optionsOf returns the options in opts: all of Options and *Options, and the hash function of any other type.
+// all returns the options. A struct that embeds Options has this method, too.
+func (options Options) all() Options {
+	return options
+}
+
+// optionsOf returns the options in opts: all of Options, *Options and a struct that embeds one of them, and the hash
+// function of any other type.
 func optionsOf(opts crypto.SignerOpts) Options {
 	switch it := opts.(type) {
 	case nil:
 		return Options{}
-	case Options:
-		return it
 	case *Options:
 		return it.value()
+	case interface{ all() Options }:
+		return it.all()
 	default:
 		return Options{Hash: opts.HashFunc()}
 	}

@@ -72,10 +72,12 @@ function checkedFunction(it) {
     return checkedNumber(it, "a pre-hash function", "SLH_SHA2_256");
 }
 
+/** Whether the prototype is null or an Object.prototype, also of another realm: other ones may have options. */
 function isPlain(it) {
     if (typeof it !== "object" || it === null) return false;
     const prototype = Object.getPrototypeOf(it);
-    return prototype === null || Object.getPrototypeOf(prototype) === null;
+    if (prototype === null) return true;
+    return Object.getPrototypeOf(prototype) === null && Object.hasOwn(prototype, "isPrototypeOf");
 }
 
 /**

@@ -36,7 +36,7 @@ def checked_path(path: str | os.PathLike[str]) -> str:
     found = os.fspath(path)
     if not isinstance(found, str):
         raise TypeError("a path is a str or an os.PathLike; loads takes bytes")
-    if "\n" in found or _KEY_DIGITS.fullmatch(found):
+    if "\n" in found or _KEY_DIGITS.search(found):
         raise ValueError("a path with a line feed, or of a key's digits, is not taken; loads takes bytes")
     return found
 
