@@ -263,10 +263,10 @@ func (secret *SecretKey) Check() error {
 
 // Sign signs a message in the pure form (Algorithm 22) if opts are nil or opts.HashFunc() is 0. Else the message is a
 // digest under that hash function, and is signed in the pre-hash form, as by HashSignDigest. The options are those of
-// Options, *Options or a struct that embeds one, or the default if opts are of another type. The randomizer comes from the source, or from
-// crypto/rand if that is nil. It is refused as ContextTooLong if the context has over 255 bytes, as NoSuchFunction and
-// as BadDigestLength, and by Workers above 1 as AnswersDisagree under a key that Check finds invalid. Twice and Verify
-// return ErrFault. If the source fails, the error is no Refusal, and wraps the source's.
+// Options, *Options or a struct that embeds one, or the default if opts are of another type. The randomizer comes from
+// the source, or from crypto/rand if that is nil. It is refused as ContextTooLong if the context has over 255 bytes, as
+// NoSuchFunction and as BadDigestLength, and by Workers above 1 as AnswersDisagree under a key that Check finds
+// invalid. Twice and Verify return ErrFault. If the source fails, the error is no Refusal, and wraps the source's.
 func (secret *SecretKey) Sign(source io.Reader, message []byte, opts crypto.SignerOpts) ([]byte, error) {
 	options := optionsOf(opts)
 	return secret.sign(source, options, pureOrDigest(secret.set, options, message))

@@ -815,3 +815,23 @@ func Example() {
 	// slh: invalid
 	// <nil>
 }
+
+// TestOptionsMayBeEmbedded signs by a struct that embeds Options: none of them is dropped.
+func TestOptionsMayBeEmbedded(t *testing.T) {
+	type mine struct {
+		Options
+		name string
+	}
+	secret, err := Generate(nil, SHA2_128f)
+	if err != nil {
+		t.Fatal(err)
+	}
+	options := Options{Context: []byte("letters"), Twice: true, Verify: true}
+	signature, err := secret.Sign(nil, []byte("Dear reader,"), mine{options, "letters"})
+	if err != nil || secret.PublicKey().Verify([]byte("Dear reader,"), signature, &options) != nil {
+		t.Error("the options of a struct that embeds them are dropped")
+	}
+	if secret.Equal((*SecretKey)(nil)) || secret.PublicKey().Equal((*PublicKey)(nil)) {
+		t.Error("a key equals nil")
+	}
+}

@@ -55,7 +55,8 @@ if can_run "C++" python3; then
             for standard in c++17 c++20; do test_types "$cxx" "$standard"; done
             one "$cxx takes: other = std::move(key)" compiles "$cxx" 'other = std::move(key)'
             for statement in 'slh::SecretKey copy = key' 'key = other' 'std::cout << key' 'bool same = key == other' \
-                'slh::View view = key' 'slh::PublicKey(SLH_DSA_SHA2_256F, key)' 'key.check()'; do
+                'slh::View view = key' 'slh::PublicKey(SLH_DSA_SHA2_256F, key)' 'key.check()' \
+                'char buffer[4] = {}; key.sign(buffer)'; do
                 one "$cxx refuses: $statement" is_refused "$cxx" "$statement"
             done
         fi

@@ -291,7 +291,8 @@ test("options are a plain object, and each is read once", () => {
         }
     }
     const inherited = Object.create({ context: bytes("letters") });
-    for (const options of [new Options(), inherited, [], new Map(), () => 7]) {
+    const ofNone = Object.create(Object.create(null, { twice: { value: true } }));
+    for (const options of [new Options(), inherited, ofNone, [], new Map(), () => 7]) {
         assert.throws(() => secret.sign(letter, options), { name: "TypeError", message: /plain object/ });
     }
     const hidden = Object.defineProperty({}, "ctx", { value: letter, enumerable: false });
