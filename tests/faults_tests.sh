@@ -2,14 +2,16 @@
 # Flips one bit of a register or of the stack in the course of a call: 2,000 times in slh_sign, 2,000 times in
 # slh_sign_twice and 400 times in slh_hash_sign_digest_twice, over each archive of an installed library.
 # tests/library_faults.c says how. slh_sign must give signatures that are valid and wrong, and the calls that sign twice
-# must give none. The same test must fail if a call that signs once replaces them.
+# must give none. The same test must fail if a call that signs once replaces them. tests/program_faults.py tries the
+# program of a release.
 #
 # usage: tests/faults_tests.sh [--few] {--dist DIST | PREFIX} [SEED [LIBRARY..]]
 #
-# PREFIX is a folder that tools/library.sh has installed into; it installs a release DIST. LIBRARY is libslh-v2.a, libslh-v3.a, libslh-v4.a or
-# libslh.a; by default all archives of PREFIX are tried. With --few there are a tenth of the flips. The draws follow
-# from SEED, which is printed. If a wrong signature comes out, the output names the interrupted function and the command
-# that repeats the draw. A level that the processor lacks is skipped. The last line has the counts.
+# PREFIX is a folder that tools/library.sh has installed into; it installs a release DIST. LIBRARY is libslh-v2.a,
+# libslh-v3.a, libslh-v4.a or libslh.a; by default all archives of PREFIX are tried. With --few there are a tenth of the
+# flips. The draws follow from SEED, which is printed. If a wrong signature comes out, the output names the interrupted
+# function and the command that repeats the draw. A level that the processor lacks is skipped. The last line has the
+# counts.
 set -u
 here=$(cd "$(dirname "${BASH_SOURCE[0]}")/.." && pwd)
 work=$(mktemp -d)
@@ -20,6 +22,7 @@ take_options "$@"
 if [ -n "$release" ]; then
     one "the library is installed" "$here/tools/library.sh" --dist "$release" "$work/prefix"
     words=("$work/prefix" ${words[@]+"${words[@]}"})
+    count "slh sign --twice" "$here/tests/program_faults.py" --dist "$release"
 fi
 if [ ${#words[@]} = 0 ]; then
     echo "usage: tests/faults_tests.sh [--few] {--dist DIST | PREFIX} [SEED [LIBRARY..]]" >&2

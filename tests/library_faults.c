@@ -45,7 +45,7 @@ struct fault {
 /* The end of a flip: the result, if the call returned, and the signature's bytes in any case. */
 struct outcome {
     uint32_t result;
-    int has_returned, is_hit;
+    int has_returned, is_hit, is_cleared; /* whether scratch is zeros after the call */
     uintptr_t instruction;
     uint8_t sig[SIGNATURE];
 };
@@ -64,8 +64,9 @@ struct call {
     int is_twice;
 };
 
-/* How a flip ended. FAULTS are those that SLH_FAULT ended, STOPPED other refusals and traps. */
-enum ending { RIGHT, INVALID, FAULTS, STOPPED, WRONG, ENDINGS };
+/* How a flip ended. FAULTS are those that SLH_FAULT ended, STOPPED other refusals and traps. LEFT are faults that left
+   the output written or bytes in scratch: a flip of an address can do that, a flip of a vector register can't. */
+enum ending { RIGHT, INVALID, FAULTS, STOPPED, WRONG, LEFT, ENDINGS };
 
 static const int general[16] = {REG_RAX, REG_RBX, REG_RCX, REG_RDX, REG_RSI, REG_RDI, REG_RBP, REG_RSP,
                                      REG_R8,  REG_R9,  REG_R10, REG_R11, REG_R12, REG_R13, REG_R14, REG_R15};
@@ -211,6 +212,12 @@ static void make_timer(void) {
          timer_create(CLOCK_MONOTONIC, &event, &timer) == 0, "no timer");
 }
 
+static int is_zero(const uint8_t *bytes, size_t len) {
+    uint8_t all = 0;
+    for (size_t i = 0; i < len; i++) all |= bytes[i];
+    return all == 0;
+}
+
 /* The process that signs without a flip, and each of its copies with one. */
 static _Noreturn void signs(const struct call *call) {
     frame = (uintptr_t)__builtin_frame_address(0);
@@ -221,6 +228,7 @@ static _Noreturn void signs(const struct call *call) {
     is_in_call = 0;
     if (!is_flipped) _exit(result != SLH_DONE || memcmp(shared->sig, right, SIGNATURE) != 0);
     shared->of[next].result = result;
+    shared->of[next].is_cleared = is_zero(scratch, sizeof scratch);
     shared->of[next].has_returned = 1;
     _exit(0);
 }
@@ -248,7 +256,7 @@ static enum ending ending_of(const struct call *call, const struct outcome *it) 
     int is_right = memcmp(it->sig, right, SIGNATURE) == 0, is_written = memcmp(it->sig, paint, SIGNATURE) != 0;
     if (is_written && !is_right && call->verify(it->sig) == SLH_DONE) return WRONG;
     if (!it->has_returned) return STOPPED;
-    if (it->result == SLH_FAULT) return FAULTS;
+    if (it->result == SLH_FAULT) return !is_written && it->is_cleared ? FAULTS : LEFT;
     if (it->result != SLH_DONE) return STOPPED;
     return is_right ? RIGHT : INVALID;
 }
@@ -313,12 +321,13 @@ static void tell(const struct call *call, unsigned long count, unsigned long fou
     unsigned long sum[ENDINGS] = {0};
     for (int kind = 0; kind < KINDS; kind++)
         for (int it = 0; it < ENDINGS; it++) sum[it] += found[kind][it];
-    int holds = count > 0 && (call->is_twice ? sum[WRONG] == 0 : sum[WRONG] * TEETH >= count);
+    int holds = count > 0 && found[VECTOR][LEFT] == 0 &&
+                (call->is_twice ? sum[WRONG] == 0 : sum[WRONG] * TEETH >= count);
     holds ? passed++ : failed++;
-    printf("%s: %lu flips: %lu right, %lu invalid, %lu refused as faults, %lu trapped or refused, %lu valid and wrong "
-           "(%lu by general registers, %lu by vectors, %lu by the stack): %s\n", call->name, count, sum[RIGHT],
-           sum[INVALID], sum[FAULTS], sum[STOPPED], sum[WRONG], found[GENERAL][WRONG], found[VECTOR][WRONG],
-           found[STACK][WRONG], holds ? "yes" : "no");
+    printf("%s: %lu flips: %lu right, %lu invalid, %lu refused as faults (%lu more left bytes), %lu trapped or refused, "
+           "%lu valid and wrong (%lu by general registers, %lu by vectors, %lu by the stack): %s\n", call->name, count,
+           sum[RIGHT], sum[INVALID], sum[FAULTS], sum[LEFT], sum[STOPPED], sum[WRONG], found[GENERAL][WRONG],
+           found[VECTOR][WRONG], found[STACK][WRONG], holds ? "yes" : "no");
 }
 
 static void make_right(const struct call *call) {

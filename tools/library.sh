@@ -60,7 +60,11 @@ portable) files=(portable/{slh.c,slh_verify.c}) ;;
 esac
 headers=(include/{slh.h,slh.hpp,slh_internal.h,slh_verify.h})
 if [ "$after_ci" = given ]; then
-    has_release && are_whole BUILD "${files[@]}" "${headers[@]}" || exit 2
+    has_release || {
+        echo "library.sh: there is no release in $dist" >&2
+        exit 2
+    }
+    are_whole BUILD "${files[@]}" "${headers[@]}" || exit 2
 fi
 if [ "$after_ci" = given ] || { [ "$after_ci" = no ] && takes_release "${files[@]}" "${headers[@]}"; }; then
     made=$dist version=$(release_says version)

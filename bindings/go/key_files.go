@@ -79,7 +79,7 @@ func (secret *SecretKey) WriteFile(path string) error {
 	return writeNew(path, text, 0o600)
 }
 
-// WriteFile writes a new key file of version 2, which all may read (mode 0644). A file that exists is refused, with an
+// WriteFile writes a new key file of version 2, of mode 0644 less the umask. A file that exists is refused, with an
 // error that is fs.ErrExist. If writing fails, the new file is removed.
 func (public *PublicKey) WriteFile(path string) error {
 	text, err := public.MarshalKeyFile()
