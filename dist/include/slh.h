@@ -29,7 +29,8 @@
  *   PTRDIFF_MAX.
  * - A pointer to one number (slh_lengths, slh_sign_jobs, slh_answer_place, slh_keygen_jobs) is not null, and is aligned
  *   as its type.
- * - An output overlaps no other argument, and nothing else writes to an argument while the call runs.
+ * - An output overlaps no other argument, and nothing else writes to an argument while the call runs. scratch is an
+ *   output, too.
  * - Seeds and randomizers are n fresh bytes from a source that is fit for keys: this library draws none. A randomizer
  *   of n bytes is FIPS 205's opt_rand; one of 0 bytes makes the deterministic variant (section 9.2).
  *
@@ -40,8 +41,8 @@
  *
  * A call that takes a secret key, seeds or answers clears before it returns what it left in the stack below its caller
  * and in the registers that a call need not keep. This is tested (docs/DUTIES.md, "What a call leaves"). Left to the
- * caller are buffers of his own (slh_erase), what the frame of a signal, swap or a core dump keeps, and the stack of the
- * module for WebAssembly. The portable slh.c (docs/FIRMWARE.md) allocates memory, and erases that alone.
+ * caller are buffers of his own (slh_erase), what the frame of a signal, swap or a core dump keeps, and the stack of
+ * the module for WebAssembly. The portable slh.c (docs/FIRMWARE.md) allocates memory, and erases that alone.
  *
  *
  * Arguments stand in this order, as far as a call has them:
@@ -54,9 +55,9 @@
  * The seeds are SK.seed, SK.prf and PK.seed, in this order. A digest stands in place of the message.
  *
  *
- * Each call but slh_version, slh_level, slh_erase and slh_refusal_text returns SLH_DONE (0), SLH_INVALID (30, only slh_check and the
- * verify calls), or a refusal's number. What is not valid is judged in this order, and the number of the first is
- * returned:
+ * Each call but slh_version, slh_level, slh_erase and slh_refusal_text returns SLH_DONE (0), SLH_INVALID (30, only
+ * slh_check and the verify calls), or a refusal's number. What is not valid is judged in this order, and the number of
+ * the first is returned:
  *
  *   SLH_NO_SUCH_REFUSAL        slh_refusal_name alone: the number is not a result's
  *   SLH_NO_SUCH_SET            the number is not a set's
@@ -75,7 +76,8 @@
  *   SLH_CONTEXT_TOO_LONG       signing under a context of over 255 bytes
  *   SLH_FAULT                  two computations of one signature differ (the calls whose names end in _twice)
  *
- * An output is written where SLH_DONE is returned, and is as it was for every other number. Test for SLH_DONE.
+ * An output is written where SLH_DONE is returned, and is as it was for every other number; only scratch is zeros after
+ * SLH_FAULT. Test for SLH_DONE.
  */
 #ifndef SLH_H
 #define SLH_H

@@ -17,14 +17,14 @@
 #endif
 namespace slh {
 using Bytes = std::vector<std::uint8_t>;
-
-/* Bytes that a call reads, as of a vector, an array, a string or a span: a pointer and a length, which own nothing. */
+/* Bytes that a call reads, as of a vector, std::array, string or span: a pointer and a length, which own nothing. */
 struct View {
     const std::uint8_t *data = nullptr;
     std::size_t size = 0;
     View() = default;
     View(const void *bytes, std::size_t count) : data(static_cast<const std::uint8_t *>(bytes)), size(count) {}
-    View(const char *text) : View(text, std::char_traits<char>::length(text)) {}
+    View(const char *text) : View(text, std::char_traits<char>::length(text)) {} /* up to the first zero byte */
+    template <std::size_t N> View(char (&)[N]) = delete;                         /* write View(array, count) */
     template <class T, class = std::enable_if_t<!std::is_array_v<T> && sizeof *std::data(std::declval<T &>()) == 1>>
     View(const T &bytes) : View(std::data(bytes), std::size(bytes)) {}
 };
