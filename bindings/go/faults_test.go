@@ -18,7 +18,7 @@ func TestFaultsOfMemoryAreFound(t *testing.T) {
 		for _, at := range []int{0, 8000, 17080} {
 			var signature, scratch []byte
 			var err error
-			for tries := 0; tries < 50 && err == nil; tries++ { // the other thread may come too late
+			for tries := 0; tries < 2000 && err == nil; tries++ { // the other thread may come too late
 				signature, scratch, err = withFlip(call, at)
 			}
 			if err != ErrFault || signature != nil || len(scratch) != 2*17088 || !isZeros(scratch) {

@@ -116,7 +116,7 @@ class Faults(unittest.TestCase):
 
     def faulty(self, sign, given: tuple, name: str, place: int) -> Disturbed:
         """Signs until the thread has come in time, which it may not do on a busy machine."""
-        for _ in range(100):
+        for _ in range(2000):
             with Disturbed(name, place) as disturbed:
                 try:
                     sign(*given, twice=True)
