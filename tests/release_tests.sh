@@ -108,8 +108,8 @@ signs_in_another_root() {
 }
 
 # The scripts that the test command runs over a release.
-scripts=(commands.py library_tests.sh targets_tests.sh portable_tests.sh packages_tests.sh release_tests.sh
-    provider_tests.sh vectors.sh interchange.py streams.sh each_growth.sh limits.sh debian_tests.sh web_tests.py
+scripts=(commands.py library_tests.sh faults_tests.sh compare_tests.sh targets_tests.sh portable_tests.sh
+    packages_tests.sh release_tests.sh provider_tests.sh vectors.sh interchange.py streams.sh each_growth.sh limits.sh debian_tests.sh web_tests.py
     archive_tests.py openssl_keys.sh)
 
 # The test command, briefly, in a folder without .git, as an unpacked tarball: nothing fails, and each script is run.
@@ -146,7 +146,7 @@ test_command_needs_no_rt() {
     others=$(($(ls -d "$copy"/dist/x86-64-v*/slh | wc -l) - 1))
     diff <(printf '%s --dist dist\n' "${scripts[@]}" | sort) <(grep -e --dist "$copy/called" | sort) || return
     [ "$(grep -c '^vectors.sh vectors dist/' "$copy/called")" -le $others ] || return
-    counts_are "$((4 * $(grep -vc contracts.py "$copy/called") + 3)) passed, 0 failed, 4 skipped" || return
+    counts_are "$((4 * $(grep -vc contracts.py "$copy/called") + 4)) passed, 0 failed, 4 skipped" || return
     diff <(named skipped) <(printf '%s: SKIPPED, since it needs rt\n' "rt ci" "tests/wrong_bodies.py --gate" \
         tests/{tables,widths_tests}.sh) || return
     stub_scripts 0 "it: SKIPPED, since not" "4 passed, 0 failed, 1 skipped" && test_command || return
@@ -210,10 +210,10 @@ test_command_can_be_watched() {
 test_command_names_what_is_skipped() {
     copy_anew && stub_scripts 0 "4 passed, 0 failed" && echo '// changed' >>"$copy/crates/slh_core/src/lib.rt" || return
     test_command && head -n 1 "$work/out" | grep 'the sources are NOT those that it was built of' || return
-    tail -n 1 "$work/out" | grep '^[1-9][0-9]* passed, 0 failed, 11 skipped$' || return
-    diff <(named skipped | tail -n 7) \
+    tail -n 1 "$work/out" | grep '^[1-9][0-9]* passed, 0 failed, 13 skipped$' || return
+    diff <(named skipped | tail -n 9) \
         <(printf 'tests/%s --dist dist: SKIPPED, since the sources are not those of dist/\n' \
-        commands.py {library,targets,portable,packages,release,provider}_tests.sh) || return
+        commands.py {library,faults,compare,targets,portable,packages,release,provider}_tests.sh) || return
     [ "$(grep -c -e --dist "$copy/called")" = 9 ] && ! grep -e commands -e library -e packages "$copy/called"
 }
 
