@@ -109,8 +109,8 @@ signs_in_another_root() {
 
 # The scripts that the test command runs over a release.
 scripts=(commands.py library_tests.sh faults_tests.sh compare_tests.sh targets_tests.sh portable_tests.sh
-    packages_tests.sh release_tests.sh provider_tests.sh vectors.sh interchange.py streams.sh each_growth.sh limits.sh debian_tests.sh web_tests.py
-    archive_tests.py openssl_keys.sh)
+    packages_tests.sh release_tests.sh provider_tests.sh vectors.sh interchange.py streams.sh each_growth.sh limits.sh
+    debian_tests.sh web_tests.py archive_tests.py openssl_keys.sh)
 
 # The test command, briefly, in a folder without .git, as an unpacked tarball: nothing fails, and each script is run.
 tests_in_another_root() {
