@@ -6,8 +6,8 @@
 #
 # usage: tests/compare_tests.sh [--few] {--dist DIST | PREFIX SLH_C} [--all]
 #
-# PREFIX is a folder that tools/library.sh has installed into, SLH_C the portable C, with its headers in ../include. Both
-# are installed of a release DIST. The
+# PREFIX is a folder that tools/library.sh has installed into, SLH_C the portable C, with its headers in ../include.
+# Both are installed of a release DIST. The
 # levels of optimisation are -O0, -O2, -O3 and -Os with --all, -O2 and -Os by default. With --few slh.c is left out. It
 # needs valgrind 3.19 or later with its headers, and is skipped without it. valgrind knows no AVX-512, so the archive
 # for x86-64-v4 is skipped. The last line has the counts.

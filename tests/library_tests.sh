@@ -166,7 +166,8 @@ declared() {
 
 # The calls that headers declare, a line each.
 declares() {
-    (cd "$prefix/include" && cat "$@") | sed -En 's/^(uint32_t |void |const char \*)(slh_[a-z_]*)\(.*/T \2/p' | LC_ALL=C sort
+    (cd "$prefix/include" && cat "$@") | sed -En 's/^(uint32_t |void |const char \*)(slh_[a-z_]*)\(.*/T \2/p' |
+        LC_ALL=C sort
 }
 
 is_declared_once() {
