@@ -22,8 +22,8 @@ fn main(rt: HostRuntime) -> ExitCode {
     ExitCode::from(run(&rt, rt.stdin(), rt.stdout(), &mut errors))
 }
 
-/// The limit of the stack in bytes, where the system tells it: in the list of limits that Linux keeps for each process.
-/// It is kept out of `main`, whose stack lies under each command's.
+/// The limit of the stack in bytes, if the system names it, from the list of limits that Linux has for each process. It
+/// is a function apart from `main`, whose stack frame is below that of each command.
 #[inline(never)]
 fn stack_limit<R: Files>(rt: &R) -> Option<u64> {
     let mut list = [0; 512];
@@ -38,8 +38,8 @@ fn stack_limit<R: Files>(rt: &R) -> Option<u64> {
     line.split_whitespace().next()?.parse().ok()
 }
 
-/// The command that the program's arguments ask for, over the files of the system. It is kept out of `main`, which has
-/// to have room on a stack that is too small for any command.
+/// The command that the program's arguments ask for, over the files of the system. It is a function apart from `main`,
+/// which needs room on a stack that is too small for any command.
 #[inline(never)]
 fn run<R: AllocGlobal + Env + Files + Threads + Sync>(
     rt: &R,
@@ -66,8 +66,8 @@ fn run<R: AllocGlobal + Env + Files + Threads + Sync>(
     )
 }
 
-/// The files of the system. They stand on the heap, since they have room for a path of 4 KB, and what parses a deep
-/// vector file on the stack needs nearly all that Linux maps of it at the start.
+/// The files of the system. They are on the heap, since they have room for a path of 4 KB. The parser of a deep vector
+/// file needs nearly all of the stack that Linux maps at the start.
 #[inline(never)]
 fn disk_of<R: AllocGlobal + Files>(rt: &R) -> Result<Box<Disk<&R>>, Fault> {
     match Box::new(rt.alloc(), Disk::new(rt)) {
@@ -76,7 +76,7 @@ fn disk_of<R: AllocGlobal + Files>(rt: &R) -> Result<Box<Disk<&R>>, Fault> {
     }
 }
 
-/// The arguments after the program's name. Refused with `BadWords` where one of them is not UTF-8.
+/// The arguments after the program's name. Refused with `BadWords` if one of them is not UTF-8.
 fn words_of<R: Env + AllocGlobal>(rt: &R) -> Result<Vec<String>, Fault> {
     let args = env::args(rt).map_err(|error| fault_of(&error))?;
     let mut words = Vec::new(rt.alloc());

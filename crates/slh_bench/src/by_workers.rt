@@ -90,7 +90,7 @@ pub fn verify_many<R: Threads + Sync>(
         .all(|&valid| valid))
 }
 
-/// Signs the message into room of its own.
+/// Signs the message into a separate buffer.
 fn sign_alone(sk: &SecretKey) -> bool {
     let mut buffer = [0; MOST_BYTES];
     sign_message(sk, &mut buffer)

@@ -1,5 +1,6 @@
 //! Times key generation, signing or verifying of a parameter set, in one thread or by several workers, or the hash
-//! functions below them. `benches/benchmark.py` runs it, and `benches/count_calls.py` does so under a profiler.
+//! functions below them. `tests/benches/benchmark.py` runs it, and `tests/benches/count_calls.py` does so under a
+//! profiler.
 //!
 //! Its arguments are a task, a number of runs and a set's name. It prints the nanoseconds of the shortest run; one of
 //! `sha256` or `sha512` hashes 65536 bytes. Without these three it prints nothing. The tasks are
@@ -8,9 +9,9 @@
 //! - by several workers `keygen_par`, `sign_par`, `verify_all` (of 64 signatures) and `independent` (that many threads,
 //!   each of which signs the message alone, as long as all of them take).
 //!
-//! A fourth argument is the number of workers, 1 where it is left out, and a fifth the levels by which the XMSS trees
-//! and the FORS trees are cut. Where there is no fifth, they are cut so that each worker gets many jobs. Where no run
-//! ends as it should, as with more levels than the trees have, it prints over 2^63 seconds.
+//! A fourth argument is the number of workers, by default 1. A fifth is the levels by which the XMSS trees and the FORS
+//! trees are cut. Without a fifth, they are cut so that each worker gets many jobs. If no run ends as it should, as
+//! with more levels than the trees have, it prints over 2^63 seconds.
 #![tactic(auto, using(slh_params::proofs::Bounds::bounds))]
 
 mod by_workers;

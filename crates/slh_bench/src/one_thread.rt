@@ -13,7 +13,7 @@ pub const MOST_BYTES: usize = 65536;
 /// The message that is signed.
 pub const MESSAGE: &[u8] = b"abc";
 
-/// The length of a signature, where a buffer has room for it.
+/// The length of a signature, if a buffer has room for it.
 pub fn sig_len(set: ParamSet) -> Option<usize>
     ensures value { IfSome result (λ length. length ≡ sig_len (params set)) }
     ensures fits { IfSome result (λ length. length ≤ MOST_BYTES) }

@@ -3,7 +3,7 @@
 use slh_par::{MOST_LEVELS, Workers};
 use slh_params::ParamSet;
 
-/// As many jobs for each worker, where the trees have as many leaves, keep all workers at work until nearly the end.
+/// If the trees have enough leaves, this many jobs for each worker occupy all workers until nearly the end.
 const JOBS_EACH: u32 = 16;
 
 /// Lanes are filled with the eight leaves below a node of this height. A range of fewer leaves leaves lanes idle.
@@ -30,7 +30,7 @@ fn levels_for(jobs: u32, trees: u32, most: u32) -> u32 {
 }
 
 impl Sharing {
-    /// By that many workers, with trees cut by these levels or else by suitable ones. None where there are not 1 to 64
+    /// That many workers, with trees cut by these levels or else by suitable ones. `None` unless there are 1 to 64
     /// workers.
     pub fn new(set: ParamSet, workers: u8, levels: Option<u32>) -> Option<Sharing> {
         let workers = Workers::new(workers)?;

@@ -1,4 +1,4 @@
-//! What is timed.
+//! The tasks that are timed.
 
 use crate::by_workers::{key_par, sign_in_each, sign_message_par, verify_many};
 use crate::one_thread::{MOST_BYTES, key, sign_message, verify_message};
@@ -8,7 +8,7 @@ use slh_core::SecretKey;
 use std::alloc::Global;
 use std::thread::Threads;
 
-/// What one run does.
+/// The work of one run.
 #[derive(Clone, Copy)]
 pub enum Task {
     Keygen,
@@ -22,7 +22,7 @@ pub enum Task {
     Independent,
 }
 
-/// What all runs have in common.
+/// The inputs that all runs share.
 #[derive(Drop)]
 pub struct Setting {
     pub sk: SecretKey,

@@ -34,7 +34,7 @@ pub record Event : Type 0 where
   pub seat : ℕ
   pub exchange : Exchange
 
--- a history is legal where each answer is the machine's
+-- a history is legal if each answer is the machine's
 abbrev pub IsLegal : Machine → List Event → Type 0
 IsLegal m [] = Unit {0}
 IsLegal m (e ∷ es) = IsAnswer m e.exchange × IsLegal (after m e.exchange) es
@@ -51,7 +51,7 @@ jobs_of jobs (Draw n ∷ xs) = if nat_lt n jobs then n ∷ jobs_of jobs xs else 
 jobs_of jobs (Look b ∷ xs) = jobs_of jobs xs
 jobs_of jobs (Stop ∷ xs) = jobs_of jobs xs
 
--- the seats' exchanges stand in one legal history, in which each seat's list is the jobs of its own draws, in the order
--- that it made them
+-- the seats' exchanges are in one legal history, in which each seat's list is the jobs of its draws, in the order that
+-- it made them
 abbrev pub OneHistory : ℕ → List SeatState → Type 0
 OneHistory jobs seats = (h : List Event) × IsLegal opened h × All (λ e. e.seat < length seats) h × ((i : ℕ) (s : SeatState) → slice_get seats i ≡ Some s → jobs_of jobs (own i h) ≡ s.drawn)

@@ -1,4 +1,4 @@
--- What is true of the fields of every seat and of every board, and what contracts see of them.
+-- The invariants of the fields of every seat and of every board, and their views for contracts.
 use Rattle.std.specs.Prelude.{◌≡◌, ℕ, ◌<◌, ◌≤◌, List, [], ◌∷◌, Bool, true, false}
 use Rattle.std.specs.List.{All}
 use Rattle.atomic_table.specs.Seated.{TableId}
@@ -25,7 +25,7 @@ is_stopped Fresh = false
 is_stopped Done = false
 is_stopped Stopped = true
 
--- The seat of the table stands for one seat, and its view has the mark
+-- The seat of the table represents one seat, and its view has the mark
 pub record IsSeat (a : SeatInside) : Type 0 where
   pub holds_none : a.seat.me.1 ≡ []
   pub one : a.seat.me.0.seats ≡ 1

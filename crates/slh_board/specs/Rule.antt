@@ -9,8 +9,8 @@ use Rattle.slh_board.specs.declared.view.Plan.{Plan}
 use Rattle.slh_board.specs.Counts.{times, once_below}
 use Rattle.slh_board.specs.Views.{spent, looked, drew, with_raised}
 
--- What the rule says of a view that is not spent: it carries the board's numbers, and has no more done marks than
--- seats; where it is stopped, halt is 1
+-- The rule for a view that is not spent: it has the board's numbers, and no more done marks than seats; if it is
+-- stopped, halt is 1
 pub record Sits (plan : Plan) (halt : ℕ) (v : View) : Type 0 where
   pub jobs : v.jobs ≡ plan.jobs
   pub board_seats : v.board_seats ≡ plan.seats
@@ -21,9 +21,9 @@ pub record Sits (plan : Plan) (halt : ℕ) (v : View) : Type 0 where
 abbrev pub one_if : Bool → ℕ
 one_if b = if b then 1 else 0
 
--- What the rule says of the words and of all views together. Their lists hold the numbers below the lesser of next and
--- jobs, each once, and so are that long; next is that length plus the done marks; the views stand for the board's
--- seats; halt is 1 where a view is raised, else 0; there are fewer than 2^32 jobs, and at most 64 seats
+-- The rule for the words and all views together. Their lists hold the numbers below the lesser of next and jobs, each
+-- once, so that is their length. next is that length plus the done marks. The views represent the board's seats. halt
+-- is 1 if a view is raised, else 0. There are fewer than 2^32 jobs, and at most 64 seats
 pub record Keeps (plan : Plan) (next halt : ℕ) (views : List View) : Type 0 where
   pub each_once : (x : ℕ) → sum_by (λ (v : View). times x v.drawn) views ≡ once_below x (min next plan.jobs)
   pub drawn : sum_by (λ (v : View). length v.drawn) views ≡ min next plan.jobs
@@ -36,12 +36,12 @@ pub record Keeps (plan : Plan) (next halt : ℕ) (views : List View) : Type 0 wh
 abbrev pub Holds : Plan → State ℕ View → Type 0
 Holds plan s = (next : ℕ) × (halt : ℕ) × (s.words ≡ next ∷ halt ∷ []) × Keeps plan next halt s.views
 
--- a look: the caller is stopped where halt is set, and it is set where the caller raised it
+-- a look: the caller is stopped if halt is set, and it is set if the caller raised it
 abbrev pub Looks : Step ℕ → Me ℕ View → ℕ → Me ℕ View → Type 0
 Looks st m n m' = (m'.0 ≡ looked m.0 n) × (m'.1 ≡ m.1) × (m.0.raised ≡ true → n ≢ 0)
 
--- a draw: the number found is added to the list where it is a job, and is above all others in it; else the caller has
--- one done mark more
+-- a draw: if the number found is a job, it is added to the list, and is above all others in it; else the caller has one
+-- done mark more
 abbrev pub Draws : Step ℕ → Me ℕ View → ℕ → Me ℕ View → Type 0
 Draws st m n m' = (m'.0 ≡ drew m.0 n) × (m'.1 ≡ m.1) × All (λ y. y < n) m.0.drawn
 

@@ -1,4 +1,4 @@
--- What contracts see of a board and of its seats.
+-- The views of a board and of its seats, for contracts.
 use Rattle.std.specs.Prelude.{ℕ, List, [], Bool, false}
 use Rattle.atomic_table.specs.Seated.{TableId}
 use Rattle.slh_board.specs.declared.seat.Mark.{Mark}

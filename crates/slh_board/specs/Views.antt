@@ -1,17 +1,17 @@
--- Views as plain data, and what the steps make of them.
+-- Views as plain data, and the effect of the steps on them.
 use Rattle.std.specs.Prelude.{ℕ, ◌+◌, ◌-◌, ◌==◌, [], ◌∷◌, ◌++◌, true, false, ◌||◌, if◌then◌else◌, nat_lt}
 use Rattle.slh_board.specs.declared.view.View.{View}
 use Rattle.slh_board.specs.declared.view.Plan.{Plan}
 
--- a view with no numbers, fresh, that stands for n seats of a board
+-- a view with no numbers, fresh, that represents n seats of a board
 abbrev pub seats_of : ℕ → ℕ → ℕ → View
 seats_of jobs board_seats n = record { jobs = jobs; board_seats = board_seats; seats = n; drawn = []; done = 0; stopped = false; raised = false }
 
--- the first seat stands for all seats
+-- the first seat represents all seats
 abbrev pub first_view : Plan → View
 first_view p = seats_of p.jobs p.seats p.seats
 
--- what is left of a view that was joined
+-- the rest of a view that was joined
 abbrev pub spent : View
 spent = seats_of 0 0 0
 

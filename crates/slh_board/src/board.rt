@@ -1,4 +1,4 @@
-// The board: its table, and the calls on it.
+//! The board: its table, and the calls on it.
 ghost use Rattle.std.specs.Prelude.{◌≡◌, ℕ, ◌+◌, ◌<◌, ◌≤◌, ◌++◌, [], ◌∷◌, IsTrue, ◌↔◌, replicate, IfOk};
 ghost use Rattle.std.specs.List.{All, Any, sum_by};
 ghost use Rattle.std.specs.Vec.{vec_len};
@@ -15,7 +15,7 @@ use atomic_table::Table;
 use std::alloc::{Allocator, Global};
 use std::marker::Model;
 
-/// What a board came to.
+/// The outcome of a board.
 #[derive(Clone, Copy, PartialEq, Eq, Debug, Drop)]
 pub struct Tally {
     /// How many jobs were drawn: they are the numbers below it.
@@ -24,8 +24,8 @@ pub struct Tally {
     pub stopped: bool,
 }
 
-/// Job numbers that the holders of its seats draw, each once, from their own threads over one shared board. Contracts
-/// see which board it is, its number of jobs and its number of seats.
+/// Job numbers that the holders of its seats draw, each once, from several threads over one shared board. Contracts see
+/// which board it is, its number of jobs and its number of seats.
 #[derive(Drop)]
 pub struct Board<A: Allocator = Global> {
     table: Table<u8, View, Plan, DrawnOnce, A>,
@@ -46,7 +46,7 @@ impl<A: Allocator> Model for Board<A> {
 
 impl<A: Allocator> Board<A> {
     /// A board whose jobs are the numbers below `jobs`, and its 1 to 64 seats, each with no numbers, fresh and not
-    /// raised. Refuses `NoMemory` where the memory for the seats or for the board was refused, and nothing else.
+    /// raised. Refuses `NoMemory` if the memory for the seats or for the board was refused, and nothing else.
     pub fn start(alloc: A, jobs: u32, seats: u8) -> Result<(Board<A>, Vec<Seat, A>), BoardFault>
     where
         A: Clone,
@@ -81,9 +81,8 @@ impl<A: Allocator> Board<A> {
         self.jobs
     }
 
-    /// Draws the next job. A seat that was told `Done` or `Stopped` once is told so again, with no further step. Any
-    /// other seat first looks whether the board is stopped, and draws only where it is not. Takes no memory and waits
-    /// for nobody.
+    /// Draws the next job. A seat that got `Done` or `Stopped` once gets it again, with no further step. Any other seat
+    /// first looks whether the board is stopped, and draws only where it is not. Takes no memory and waits for nobody.
     #[tactic(auto, using(crate::proofs::Rising::rising_push))]
     pub fn claim(&self, seat: &mut Seat) -> Claim
         requires { seat.old.board ≡ self.now }

@@ -1,4 +1,4 @@
-// Why a board was not made.
+//! The reason why no board was made.
 ghost use Rattle.std.specs.Prelude.{◌≡◌, codes};
 
 use std::alloc::AllocError;

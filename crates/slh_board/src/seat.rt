@@ -1,8 +1,8 @@
-// A seat at a board, and what it is told.
+//! A seat at a board, which one caller has, and the answer to its claim.
 use crate::view::View;
 use std::marker::Model;
 
-/// What a seat has been told to end by, if anything.
+/// The end that a seat has seen, if any.
 #[derive(Clone, Copy, PartialEq, Eq, Debug, Drop)]
 pub enum Mark {
     /// Nothing yet: a claim of this seat looks, and may draw.

@@ -1,4 +1,4 @@
-// The steps of a board: each function makes one atomic exchange, or divides or joins what seats know.
+//! The steps of a board: each function makes one atomic exchange, or splits or joins the knowledge of seats.
 ghost use Rattle.std.specs.Prelude.{◌≡◌, ℕ, ◌+◌, ◌<◌, ◌≤◌, [], true, IfSome, IfNone};
 ghost use Rattle.std.specs.Bool.{OnTrue, OnFalse};
 ghost use Rattle.std.specs.List.{All};
@@ -57,7 +57,7 @@ pub fn raise(table: &Shared<u8, View, Plan, DrawnOnce>, seat: &mut Seat<u8, View
     table.fetch_or::<Raise>(seat, HALT, 1);
 }
 
-/// A seat of its own, handed over by one that stands for two or more.
+/// One seat, split from a seat that represents two or more.
 pub fn split(
     table: &Shared<u8, View, Plan, DrawnOnce>,
     first: &mut Seat<u8, View>,

@@ -1,5 +1,5 @@
-// What a seat knows, the rule of the board's table, and what each step tells. None of it has bytes or code: it is what
-// the proofs of the steps speak of.
+//! The knowledge of a seat, the rule of the board's table, and the effect of each step. None of it has bytes or code:
+//! the proofs of the steps cite it.
 use atomic_table::{Join, Play, Split, TableRule};
 use std::collections::LinkedList;
 
@@ -10,12 +10,12 @@ pub struct Plan {
     pub seats: u32,
 }
 
-// What a seat knows. No value of it is made.
+// The knowledge of a seat. No value of it is made.
 pub struct View {
     // How many jobs and how many seats the board has.
     pub jobs: u32,
     pub board_seats: u32,
-    // How many seats this one stands for: more than one while `start` deals and while `finish` gathers.
+    // The number of seats that this one represents: more than one while `start` deals and while `finish` gathers.
     pub seats: u32,
     // The jobs drawn, in their order.
     pub drawn: LinkedList<u32>,

@@ -1,4 +1,4 @@
--- The levels by which C has the trees of a set cut.
+-- The levels by which C has the trees of a set cut (ours).
 use Rattle.std.specs.Prelude.{◌≡◌, ℕ, ◌&&◌, nat_le, Bool, true, false, Option, None, Some, IsSomeAnd}
 use Rattle.std.proofs.Common.{refl}
 use Rattle.std.proofs.lemmas.Bool.{leb-true, and_parts}
@@ -11,7 +11,7 @@ use Rattle.slh_c.specs.Numbers.{InSet}
 abbrev pub are_valid : ParamSet → ℕ → ℕ → Bool
 are_valid set xmss fors = nat_le xmss (params set).hp && (nat_le xmss 8 && (nat_le fors (params set).a && nat_le fors 8))
 
--- the trees of the set cut by these levels, where they are valid
+-- the trees of the set cut by these levels, if they are valid
 unfoldable pub levels_where : (set : ParamSet) (xmss fors : ℕ) (valid : Bool) → are_valid set xmss fors ≡ valid → Option Levels
 levels_where set xmss fors true valid =
     let first = and_parts (nat_le xmss (params set).hp) _ valid in

@@ -1,4 +1,4 @@
--- Keys and randomizers as C hands them in: bytes.
+-- Keys and randomizers as C passes them: bytes (FIPS 205, sections 9.1 and 9.2).
 use Rattle.std.specs.Prelude.{ℕ, List, [], ◌∷◌, ◌++◌}
 use Rattle.slh_params.specs.declared.param_set.ParamSet.{ParamSet}
 use Rattle.slh_params.specs.ParamSet.{params}
@@ -10,7 +10,7 @@ use Rattle.slh_jobs.specs.Starts.{start_tag}
 abbrev pub key : ParamSet → List ℕ → Key
 key set bytes = record { set = set; bytes = bytes }
 
--- opt_rand by the bytes of a randomizer: PK.seed where there are none, else these (FIPS 205, section 9.2)
+-- opt_rand by the bytes of a randomizer: PK.seed if there are none, else these (FIPS 205, section 9.2)
 abbrev pub opt_rand_of : List ℕ → Key → List ℕ
 opt_rand_of [] sk = pk_seed (public_of sk)
 opt_rand_of (byte ∷ bytes) sk = byte ∷ bytes

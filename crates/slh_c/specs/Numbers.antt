@@ -1,4 +1,4 @@
--- The numbers by which C names the standard's parameter sets and pre-hash functions: their places, counted from 1.
+-- The numbers of C for the standard's parameter sets and pre-hash functions (ours): their places, counted from 1.
 use Rattle.std.specs.Prelude.{ℕ, ◌-◌, ◌==◌, if◌then◌else◌, List, Option, None, IsSomeAnd}
 use Rattle.std.specs.List.{slice_get}
 use Rattle.slh_params.specs.ParamSet.{sets}

@@ -1,4 +1,4 @@
--- The refusals of the calls: their numbers and names in the one table of docs/FORMATS.md.
+-- The refusals of the calls (ours): their numbers and names in the one table of docs/FORMATS.md.
 use Rattle.std.specs.Prelude.{ℕ, ◌==◌, List, [], ◌∷◌, Option, codes}
 use Rattle.std.specs.List.{find}
 use Rattle.slh_c.specs.declared.refusal.Refusal.{Refusal}

@@ -1,4 +1,4 @@
--- What the calls ask of their arguments, in the order in which it is judged.
+-- The rules that the calls check of their arguments, in their order (ours).
 use Rattle.std.specs.Prelude.{⊤, ◌≡◌, ℕ, ◌+◌, ◌*◌, ◌==◌, ◌||◌, nat_lt, nat_le, true, false, if◌then◌else◌, List, [], ◌∷◌, length, Option, None, Some}
 use Rattle.slh_params.specs.Params.{pk_len, sk_len, sig_len}
 use Rattle.slh_params.specs.ParamSet.{params}
@@ -16,7 +16,7 @@ use Rattle.slh_c.specs.declared.refusal.Refusal.{Refusal}
 use Rattle.slh_c.specs.declared.rules.Rule.{Rule}
 use Rattle.slh_c.specs.declared.refusal.Refusal.TheVariants.{ContextTooLong, BadLength, BadCutting, NoSuchSet, NoSuchFunction, BadSeedLength, BadDigestLength, BadRandomizerLength, BadOutputLength, NoSuchRefusal, BadAnswersLength, NoSuchJob, BadStartLength}
 
--- the number of the first rule that is not met, and 0 where all are
+-- the number of the first rule that is not met, and 0 if all are
 abbrev pub first_refusal : List Rule → ℕ
 first_refusal [] = 0
 first_refusal (rule ∷ rules) = if rule.is_met then first_refusal rules else number rule.refusal
@@ -26,7 +26,7 @@ abbrev pub AreMet : List Rule → Type 0
 AreMet [] = ⊤
 AreMet (rule ∷ rules) = (rule.is_met ≡ true) × AreMet rules
 
--- that a number is one of something, and then the rules for what it is of
+-- the rule that a number is one of a list, and then the rules for its item
 abbrev pub numbered : {A : Type 0} → Option A → Refusal → (A → List Rule) → List Rule
 numbered None refusal rules = record { is_met = false; refusal = refusal } ∷ []
 numbered (Some value) refusal rules = rules value
@@ -145,12 +145,12 @@ abbrev pub hash_sign_start_rules : ℕ → ℕ → List ℕ → List ℕ → Lis
 hash_sign_start_rules set function sk ctx random out = in_set set (λ s. with_function function (λ _.
     secret s sk ∷ randomizer s random ∷ output (start_len (params s)) out ∷ context ctx ∷ []))
 
--- whether the start has its tag is judged after these
+-- whether the start has its tag is checked after these
 abbrev pub sign_job_rules : ℕ → ℕ → ℕ → List ℕ → List ℕ → ℕ → List ℕ → List Rule
 sign_job_rules set xmss fors sk start job out = cut_in set xmss fors (λ c.
     below job (jobs c) ∷ secret c.set sk ∷ begun c.set start ∷ output (len_of c job) out ∷ [])
 
--- whether the start has its tag, and then whether the answers fit together, is judged after these
+-- whether the start has its tag, and then whether the answers fit together, is checked after these
 abbrev pub sign_join_rules : ℕ → ℕ → ℕ → List ℕ → List ℕ → List ℕ → List ℕ → List Rule
 sign_join_rules set xmss fors sk start answers out = cut_in set xmss fors (λ c.
     secret c.set sk ∷ begun c.set start ∷ output (sig_len (params c.set)) out
@@ -164,7 +164,7 @@ keygen_job_rules set xmss sk_seed sk_prf pk_seed job out = cut_in set xmss 0 (λ
     below job (key_jobs c) ∷ seed c.set sk_seed ∷ seed c.set sk_prf ∷ seed c.set pk_seed
     ∷ output (2 * (params c.set).n) out ∷ [])
 
--- whether each node has its tag is judged after these
+-- whether each node has its tag is checked after these
 abbrev pub keygen_join_rules : ℕ → ℕ → List ℕ → List ℕ → List ℕ → List ℕ → List ℕ → List Rule
 keygen_join_rules set xmss sk_seed sk_prf pk_seed answers out = cut_in set xmss 0 (λ c.
     seed c.set sk_seed ∷ seed c.set sk_prf ∷ seed c.set pk_seed ∷ output (sk_len (params c.set)) out

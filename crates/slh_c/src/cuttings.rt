@@ -1,3 +1,4 @@
+//! The split depths that a caller of C passes, as `Levels` (ours).
 ghost use Rattle.std.specs.Prelude.{◌≡◌, List, Some, IfOk, IfErr, IfSome};
 ghost use Rattle.slh_jobs.specs.declared.levels.Levels.{Levels};
 ghost use Rattle.slh_c.specs.Cuttings.{levels_of};
@@ -11,7 +12,7 @@ use crate::refusal::Refusal;
 use slh_jobs::Levels;
 use slh_params::ParamSet;
 
-/// The trees of the set, cut by these levels. `None` where a level is above the height of its trees or above 8.
+/// The trees of the set, cut by these levels. `None` if a level is above the height of its trees or above 8.
 fn levels_of(set: ParamSet, xmss: u32, fors: u32) -> Option<Levels>
     ensures value { result ≡ levels_of set xmss fors }
     ensures set { IfSome result (λ levels. levels.set ≡ set) }

@@ -1,4 +1,4 @@
-//! Key generation as jobs for threads of the caller's own.
+//! Exports for key generation as jobs, for the caller's own threads (FIPS 205, Algorithm 18).
 ghost use Rattle.std.specs.Prelude.{◌≡◌, ◌≢◌, ◌↔◌, ◌*◌, ◌++◌, length, Some, IsOk, IfOk, IfErr};
 ghost use Rattle.slh_params.specs.Params.{sk_len};
 ghost use Rattle.slh_params.specs.ParamSet.{params};
@@ -16,9 +16,9 @@ use crate::refusal::{DONE, Refusal, or_refuse};
 use crate::rules::{self, judge};
 use slh_jobs::{Levels, key_answer_len, keygen_job, keygen_jobs, keygen_join};
 
-/// Writes how many jobs the generation of a key has where the XMSS tree of the top layer is cut by these levels, and
-/// the length of an answer in bytes. Refused, with nothing written, by `keygen_jobs_rules`: a number of no set, levels
-/// that are not valid.
+/// Writes the number of jobs of key generation, if the XMSS tree of the top layer is cut by these levels, and the
+/// length of an answer in bytes. Refused, with nothing written, by `keygen_jobs_rules`: a number of no set, levels that
+/// are not valid.
 #[unsafe(no_mangle)]
 pub extern "C" fn slh_keygen_jobs(
     set: u32,
@@ -106,10 +106,10 @@ fn join_levels(
     Ok(levels)
 }
 
-/// Writes the secret key, 4n bytes, of three seeds of n bytes each, from the answers of all jobs, put end to end in the
-/// order of the jobs: where each is what `slh_keygen_job` writes, the bytes of `slh_keygen`. Refused, with nothing
+/// Writes the secret key, 4n bytes, of three seeds of n bytes each, from the answers of all jobs, end to end in the
+/// order of the jobs. If each is that of `slh_keygen_job`, these are the bytes of `slh_keygen`. Refused, with nothing
 /// written, by `keygen_join_rules`: as `slh_keygen_jobs` is, and for a seed, an output or answers of another length;
-/// then where a node has not its tag.
+/// then if a node does not have its tag.
 #[unsafe(no_mangle)]
 pub extern "C" fn slh_keygen_join(
     set: u32,

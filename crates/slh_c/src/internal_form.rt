@@ -1,3 +1,4 @@
+//! Exports of the internal functions, for test vectors (FIPS 205, sections 9.2 and 9.3).
 ghost use Rattle.std.specs.Prelude.{◌≡◌, ◌≢◌, ◌↔◌, ◌≤◌, length};
 ghost use Rattle.slh_params.specs.Params.{pk_len};
 ghost use Rattle.slh_params.specs.ParamSet.{params};
@@ -40,8 +41,8 @@ pub extern "C" fn slh_sign_internal(
     DONE
 }
 
-/// Whether the bytes are a valid signature of M' as it is (FIPS 205, Algorithm 20). Invalid where they are not
-/// `sig_len`. Refused as `slh_verify` is, by `verify_rules`.
+/// Whether the bytes are a valid signature of M' as it is (FIPS 205, Algorithm 20). Invalid if they are not `sig_len`.
+/// Refused as `slh_verify` is, by `verify_rules`.
 #[unsafe(no_mangle)]
 pub extern "C" fn slh_verify_internal(set: u32, pk: &[u8], msg: &[u8], sig: &[u8]) -> u32
     ensures valid { (result ≡ DONE) ↔ InSet set (λ s.

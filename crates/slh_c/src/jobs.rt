@@ -1,4 +1,4 @@
-//! A signature as jobs for threads of the caller's own: how many jobs, and what each writes.
+//! Exports for a signature as jobs, for the caller's own threads: the number of jobs, and the work of each (ours).
 ghost use Rattle.std.specs.Prelude.{◌≡◌, ◌≢◌, ◌↔◌, ◌<◌, length, Some, IsOk, IfOk, IfErr};
 ghost use Rattle.slh_params.specs.ParamSet.{params};
 ghost use Rattle.slh_core.specs.Messages.{pure_message, pre_hash_message};
@@ -24,9 +24,9 @@ use slh_jobs::{
     Levels, answer_len, answer_start, answers_len, sign_job, sign_jobs, sign_start, start_len,
 };
 
-/// Writes how many jobs a signature has where its XMSS trees and its FORS trees are cut by these levels, the length of
-/// a start and that of the answers of all jobs, in bytes. Refused, with nothing written, by `sign_jobs_rules`: a number
-/// of no set, levels that are not valid.
+/// Writes the number of jobs of a signature, if its XMSS trees and its FORS trees are cut by these levels. Writes also
+/// the length of a start and that of the answers of all jobs, in bytes. Refused, with nothing written, by
+/// `sign_jobs_rules`: a number of no set, levels that are not valid.
 #[unsafe(no_mangle)]
 pub extern "C" fn slh_sign_jobs(
     set: u32,
@@ -48,8 +48,8 @@ pub extern "C" fn slh_sign_jobs(
     DONE
 }
 
-/// Writes where the answer of a job begins among the answers of all jobs, and its length, in bytes. Refused, with
-/// nothing written, by `answer_rules`: as `slh_sign_jobs` is, and for a number of no job.
+/// Writes the place of a job's answer among the answers of all jobs, and its length, in bytes. Refused, with nothing
+/// written, by `answer_rules`: as `slh_sign_jobs` is, and for a number of no job.
 #[unsafe(no_mangle)]
 pub extern "C" fn slh_answer_place(
     set: u32,
@@ -166,8 +166,8 @@ fn job_arguments(
 }
 
 /// Writes the answer of a job of the signature that `start` begins. Refused, with nothing written, by `sign_job_rules`:
-/// as `slh_answer_place` is, and for a key, a start or an output of another length; then where the start does not have
-/// its tag under this key.
+/// as `slh_answer_place` is, and for a key, a start or an output of another length; then if the start does not have its
+/// tag under this key.
 #[unsafe(no_mangle)]
 pub extern "C" fn slh_sign_job(
     set: u32,

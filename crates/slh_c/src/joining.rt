@@ -1,4 +1,4 @@
-//! The signature from the answers of its jobs.
+//! The export that joins the answers of all jobs to the signature (FIPS 205, Algorithms 22 and 23).
 ghost use Rattle.std.specs.Prelude.{◌≡◌, ◌≢◌, ◌↔◌, ℕ, List, length, Some, IfOk, IfErr, IsOk};
 ghost use Rattle.slh_params.specs.Params.{sig_len};
 ghost use Rattle.slh_params.specs.ParamSet.{params};
@@ -53,12 +53,12 @@ fn join_arguments(
     Ok((levels, sk))
 }
 
-/// Writes the signature that `start` begins, `sig_len` bytes, from the answers of all its jobs, put end to end in the
-/// order of the jobs: where each is what `slh_sign_job` writes, the bytes of `slh_sign` or `slh_hash_sign`. Whatever
-/// the answers are, what is written is a valid signature of the message that `start` was made of, under this key.
-/// Refused, with nothing written, by `sign_join_rules`: a number of no set, levels that are not valid, a key, a start,
-/// an output or answers of another length; then where the start does not have its tag under this key, and then where
-/// the answers don't fit together.
+/// Writes the signature that `start` begins, `sig_len` bytes, from the answers of all its jobs, end to end in the order
+/// of the jobs. If each is that of `slh_sign_job`, these are the bytes of `slh_sign` or `slh_hash_sign`. For any
+/// answers, the written bytes are a valid signature of the message of `start`, under this key. Refused, with nothing
+/// written, by `sign_join_rules`: a number of no set, levels that are not valid, a key, a start, an output or answers
+/// of another length. Then it is refused if the start does not have its tag under this key, and then if the answers
+/// don't fit together.
 #[unsafe(no_mangle)]
 pub extern "C" fn slh_sign_join(
     set: u32,

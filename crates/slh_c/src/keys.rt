@@ -1,3 +1,4 @@
+//! Exports for keys: their lengths, key generation (FIPS 205, section 9.1), the public part, and the check of a pair.
 ghost use Rattle.std.specs.Prelude.{◌≡◌, ◌≢◌, ◌↔◌, ◌≤◌, IsOk, IfOk, IfErr, length};
 ghost use Rattle.slh_params.specs.Params.{pk_len, sk_len, sig_len};
 ghost use Rattle.slh_params.specs.ParamSet.{params};
@@ -13,7 +14,7 @@ use crate::rules::{self, judge};
 use slh_core::{PublicKey, SecretKey, check_pair, keygen_internal};
 use slh_params::ParamSet;
 
-/// The public key of these bytes. Refused where they are not 2n.
+/// The public key of these bytes. Refused if they are not 2n.
 pub fn public_key(set: ParamSet, pk: &[u8]) -> Result<PublicKey, Refusal>
     ensures accepted { IsOk result ↔ (length pk.now ≡ pk_len (params set)) }
     ensures key { IfOk result (λ it. it ≡ key set pk.now) }
@@ -25,7 +26,7 @@ pub fn public_key(set: ParamSet, pk: &[u8]) -> Result<PublicKey, Refusal>
     }
 }
 
-/// The secret key of these bytes. Refused where they are not 4n.
+/// The secret key of these bytes. Refused if they are not 4n.
 pub fn secret_key(set: ParamSet, sk: &[u8]) -> Result<SecretKey, Refusal>
     ensures accepted { IsOk result ↔ (length sk.now ≡ sk_len (params set)) }
     ensures key { IfOk result (λ it. it ≡ key set sk.now) }
@@ -38,7 +39,7 @@ pub fn secret_key(set: ParamSet, sk: &[u8]) -> Result<SecretKey, Refusal>
 }
 
 /// Writes the lengths of a set's public keys, secret keys and signatures in bytes, and n. Refused, with nothing
-/// written, by `lengths_rules`: where the number is not a set's.
+/// written, by `lengths_rules`: if the number is not a set's.
 #[unsafe(no_mangle)]
 pub extern "C" fn slh_lengths(
     set: u32,

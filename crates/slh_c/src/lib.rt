@@ -1,6 +1,6 @@
 //! SLH-DSA (FIPS 205) with SHA-2 for C and for any language that calls C: keys, signing and verifying in the calling
-//! thread, without memory; and one signature or key as jobs for threads of the caller's own. `include/slh.h` declares
-//! the calls and says what a caller must uphold.
+//! thread, without memory. One signature or key can be computed as jobs, by threads of the caller. `c/include/slh.h`
+//! declares the calls, with the duties of a caller.
 //!
 //! Each call tests its numbers and lengths in the order of its rules (`specs/Rules`), and returns the number of the
 //! first that is not met. Else it calls `slh_core` or `slh_jobs`, and returns `DONE` or `INVALID`, or that a start does
@@ -9,6 +9,7 @@
 
 mod cuttings;
 mod generation;
+mod hardened;
 mod internal_form;
 mod jobs;
 mod joining;

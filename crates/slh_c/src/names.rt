@@ -1,3 +1,4 @@
+//! The export of the names of refusals (ours).
 ghost use Rattle.std.specs.Prelude.{◌≡◌, ◌≢◌, ◌-◌, ◌++◌, IsSomeAnd, length, replicate};
 ghost use Rattle.slh_c.specs.Refusals.{name, refusal_numbered};
 ghost use Rattle.slh_c.specs.Rules.{first_refusal, name_rules};

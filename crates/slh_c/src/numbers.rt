@@ -1,3 +1,4 @@
+//! Parameter sets and pre-hash functions by the numbers of the header (ours).
 ghost use Rattle.std.specs.Prelude.{◌≡◌, None, Some, IfOk, IfErr};
 ghost use Rattle.slh_c.specs.Numbers.{at_place, set_numbered, function_numbered};
 ghost use Rattle.slh_c.specs.declared.refusal.Refusal.TheVariants.{NoSuchFunction, NoSuchSet};
@@ -16,7 +17,7 @@ const FUNCTIONS: [PreHash; 6] = [
     PreHash::Sha512_256,
 ];
 
-/// The parameter set of a number. Refused where it is not a set's.
+/// The parameter set of a number. Refused if it is not a set's.
 #[tactic(auto, unfolding(crate::specs::Numbers::set_numbered))]
 pub fn set_of(number: u32) -> Result<ParamSet, Refusal>
     ensures set { IfOk result (λ set. set_numbered number ≡ Some set) }
@@ -25,7 +26,7 @@ pub fn set_of(number: u32) -> Result<ParamSet, Refusal>
     at_place(&ParamSet::all(), number).ok_or(Refusal::NoSuchSet)
 }
 
-/// The pre-hash function of a number. Refused where it is not a function's.
+/// The pre-hash function of a number. Refused if it is not a function's.
 #[tactic(auto, unfolding(crate::specs::Numbers::function_numbered))]
 pub fn function_of(number: u32) -> Result<PreHash, Refusal>
     ensures function { IfOk result (λ function. function_numbered number ≡ Some function) }

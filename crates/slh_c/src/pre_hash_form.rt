@@ -1,3 +1,4 @@
+//! Exports that sign and verify a message by its digest (FIPS 205, sections 10.2.2 and 10.3).
 ghost use Rattle.std.specs.Prelude.{◌≡◌, ◌≢◌, ◌↔◌, ◌≤◌, length};
 ghost use Rattle.slh_params.specs.Params.{pk_len};
 ghost use Rattle.slh_params.specs.ParamSet.{params};

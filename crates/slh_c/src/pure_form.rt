@@ -1,3 +1,4 @@
+//! Exports that sign and verify a message (FIPS 205, sections 10.2.1 and 10.3).
 ghost use Rattle.std.specs.Prelude.{◌≡◌, ◌≢◌, ◌↔◌, ◌≤◌, length};
 ghost use Rattle.slh_params.specs.Params.{pk_len};
 ghost use Rattle.slh_params.specs.ParamSet.{params};
@@ -46,8 +47,8 @@ pub extern "C" fn slh_sign(
 }
 
 /// Whether the bytes are a valid signature of a message under a context (FIPS 205, Algorithm 24). `pk` has 2n bytes.
-/// Invalid where the context has over 255 bytes or the signature not `sig_len`. Refused by `verify_rules`: a number
-/// that is not a set's, a key of another length.
+/// Invalid if the context has over 255 bytes or the signature not `sig_len`. Refused by `verify_rules`: a number that
+/// is not a set's, a key of another length.
 #[unsafe(no_mangle)]
 pub extern "C" fn slh_verify(set: u32, pk: &[u8], msg: &[u8], ctx: &[u8], sig: &[u8]) -> u32
     ensures valid { (result ≡ DONE) ↔ InSet set (λ s.

@@ -1,3 +1,4 @@
+//! The randomizer of the bytes that a caller of C passes (FIPS 205, section 9.2).
 ghost use Rattle.std.specs.Prelude.{◌≡◌, ◌↔◌, IsTrue, IsOk, IfOk, IfErr};
 ghost use Rattle.slh_params.specs.ParamSet.{params};
 ghost use Rattle.slh_core.specs.Keys.{Key, public_of, pk_seed};
@@ -10,7 +11,7 @@ use crate::refusal::Refusal;
 use slh_core::Randomizer;
 use slh_params::ParamSet;
 
-/// The randomizer of these bytes; no bytes mean the deterministic variant. Refused where they are neither 0 nor n.
+/// The randomizer of these bytes; no bytes mean the deterministic variant. Refused if they are neither 0 nor n.
 pub fn randomizer_of(set: ParamSet, bytes: &[u8]) -> Result<Randomizer<'_>, Refusal>
     ensures accepted { IsOk result ↔ IsTrue (randomizer set bytes.now).is_met }
     ensures len { IfOk result (λ it. HasLength it (params set).n) }

@@ -1,11 +1,12 @@
+//! The numbers that the exports return (ours).
 ghost use Rattle.std.specs.Prelude.{◌≡◌};
 ghost use Rattle.slh_c.specs.Refusals.{number, name, refusal_numbered};
 
-/// What a call returns that is done, or whose key or signature is valid.
+/// The result of a call that is done, or whose key or signature is valid.
 pub const DONE: u32 = 0;
 
-/// What a call returns whose key or signature is not valid. It is not 1, which OpenSSL and BoringSSL return where a
-/// signature is valid: a test `== 1` that was written for them would accept exactly the forgeries.
+/// The result of a call whose key or signature is not valid. It is not 1, which OpenSSL and BoringSSL return for a
+/// valid signature: a test `== 1` that was written for them would accept exactly the forgeries.
 pub const INVALID: u32 = 30;
 
 /// Why a call is refused.
@@ -27,7 +28,7 @@ pub enum Refusal {
     BadDigestLength,
     /// A randomizer that has neither 0 nor n bytes.
     BadRandomizerLength,
-    /// An output of another length than what is written.
+    /// An output of another length than the bytes to write.
     BadOutputLength,
     /// A number that is not a refusal's.
     NoSuchRefusal,
@@ -106,7 +107,7 @@ impl Refusal {
         }
     }
 
-    /// The refusal of a number. `None` where it is not a refusal's.
+    /// The refusal of a number. `None` if it is not a refusal's.
     #[tactic(auto, unfolding(crate::specs::Refusals::refusal_numbered))]
     pub fn from_number(number: u32) -> Option<Refusal>
         ensures { result ≡ refusal_numbered number }

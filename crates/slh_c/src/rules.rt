@@ -1,4 +1,4 @@
-//! What the calls ask of their arguments, rule by rule, as `specs/Rules` states it.
+//! The rules that the calls check of their arguments, in the order of `specs/Rules` (ours).
 ghost use Rattle.std.specs.Prelude.{◌≡◌, IfOk, IfErr};
 ghost use Rattle.slh_c.specs.Refusals.{number};
 ghost use Rattle.slh_c.specs.Rules.{first_refusal, AreMet};
@@ -9,7 +9,7 @@ use slh_core::PreHash;
 use slh_jobs::start_len;
 use slh_params::ParamSet;
 
-/// What is asked of an argument, and the refusal where it does not hold.
+/// A condition on an argument, and the refusal if it does not hold.
 #[derive(Clone, Copy)]
 pub struct Rule {
     pub is_met: bool,

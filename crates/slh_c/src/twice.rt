@@ -1,9 +1,9 @@
-//! Signing two times, so that one fault of memory or of the processor gives no signature. A one-time key that signs a
-//! value that was computed wrongly signs the right one another time, and then anyone can forge (`docs/JOBS.md`,
-//! "Faults"). Both signatures are proved to be the same, so `Fault` is returned only by a machine that fails.
+//! Exports that sign two times, so that one fault of memory or of the processor gives no signature (ours). If a
+//! one-time key signs a value that was computed wrongly, it signs the right one another time, and then anyone can forge
+//! (SECURITY.md, "Faults"). Both signatures are proved to be equal, so only a machine that fails returns `Fault`.
 //!
-//! Each run is a call of its own with the caller's arguments, and writes to another half of `scratch`: a value that is
-//! wrong in one run is not read in the other.
+//! Each run is a call of its own with the caller's arguments, and writes to another half of `scratch`. So a value that
+//! is wrong in one run is not read in the other.
 ghost use Rattle.std.specs.Prelude.{◌≡◌, ◌≢◌, ◌↔◌, IsTrue, length, replicate};
 ghost use Rattle.slh_core.specs.Keys.{public_of, IsGeneratedKey};
 ghost use Rattle.slh_core.specs.Messages.{pure_message, pre_hash_message};
@@ -41,8 +41,8 @@ fn release(are_done: bool, first: &[u8], second: &[u8], sig: &mut [u8]) -> u32
     }
 }
 
-/// Signs a message as `slh_sign` does, two times, and compares: the bytes are those of `slh_sign`. `scratch` has
-/// room for two signatures, and is zeros where this is done. Refused, with nothing written, by `sign_twice_rules`: as
+/// Signs a message as `slh_sign` does, two times, and compares: the bytes are those of `slh_sign`. `scratch` has room
+/// for two signatures, and is zeros after the call is done. Refused, with nothing written, by `sign_twice_rules`: as
 /// `slh_sign` is, and for a scratch of another length.
 #[unsafe(no_mangle)]
 #[tactic(auto, using(slh_params::proofs::Bounds::sig_len_high))]

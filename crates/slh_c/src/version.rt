@@ -1,3 +1,4 @@
+//! The export of the version (ours).
 ghost use Rattle.std.specs.Prelude.{◌≡◌};
 
 /// The library's version, that of the file `VERSION`, as one number: 1,000,000 times its first part, 1,000 times its

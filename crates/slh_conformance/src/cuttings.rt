@@ -1,4 +1,4 @@
-//! Cuttings of the trees of a signature, and the jobs of their ranges.
+//! Rows about cuttings of the trees of a signature, and the jobs of their ranges (ours).
 ghost use Rattle.std.specs.Prelude.{◌≡◌};
 
 use crate::row::Row;
@@ -107,7 +107,7 @@ pub fn job_row(row: &mut Row) {
     }
 }
 
-/// The same of key generation.
+/// As above, for key generation.
 pub fn keygen_job_row(row: &mut Row) {
     let Ok(cutting) = cutting_of(row) else {
         return row.refuse();

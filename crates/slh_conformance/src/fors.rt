@@ -1,11 +1,11 @@
-//! FORS.
+//! Rows about FORS (FIPS 205, section 8).
 
 use crate::row::Row;
 use crate::wots::{public_of, seeds_of};
 use slh_core::signing_steps::fors_sig_len;
 use slh_few::{ForsTree, fors_node, fors_pk_from_sig, fors_sign};
 use slh_params::ParamSet;
-use slh_tree::{Tree, root};
+use slh_tree::{Climbs, Tree, root};
 
 /// A set, SK.seed, PK.seed, a tree, a leaf, a number below k; the root of the FORS tree of this number.
 pub fn fors_root(row: &mut Row) {
@@ -42,7 +42,7 @@ pub fn fors_leaf(row: &mut Row) {
     }
 }
 
-/// A set, SK.seed, PK.seed, a tree, a leaf, a number below k, a height from 1 on, an index; the node there of the FORS
+/// A set, SK.seed, PK.seed, a tree, a leaf, a number below k, a height from 1 on, an index. The node there of the FORS
 /// tree of this number, of two given nodes.
 #[tactic(auto, using(slh_params::proofs::Bounds::a_high))]
 pub fn fors_join(row: &mut Row) {
@@ -61,7 +61,7 @@ pub fn fors_join(row: &mut Row) {
     }
 }
 
-/// A set, SK.seed, PK.seed, a tree, a leaf, a digest of at least `md_len` bytes, of which no more is signed; the
+/// A set, SK.seed, PK.seed, a tree, a leaf, a digest of at least `md_len` bytes, of which no more is signed. The
 /// SHA-256 of the signature, its first secret, and the key that it gives.
 pub fn fors_sign_row(row: &mut Row) {
     let set = row.set();

@@ -1,4 +1,4 @@
-//! The functions of tables by name.
+//! The functions of rows by their names (ours).
 
 use crate::row::Row;
 use crate::{

@@ -18,7 +18,7 @@ pub fn hmac_sha256_row(row: &mut Row) {
     row.is_bytes(&whole);
 }
 
-/// The same with SHA-512.
+/// As above, with SHA-512.
 pub fn hmac_sha512_row(row: &mut Row) {
     let (key, text) = (row.bytes(), row.bytes());
     let whole = hmac_sha512(&key, &[text.as_slice()]);
@@ -43,7 +43,7 @@ pub fn mgf1_sha256_row(row: &mut Row) {
     row.is_bytes(&whole[..len]);
 }
 
-/// The same with SHA-512.
+/// As above, with SHA-512.
 pub fn mgf1_sha512_row(row: &mut Row) {
     let seed = row.bytes();
     let len = row.below(131) as usize;
@@ -57,10 +57,10 @@ pub fn mgf1_sha512_row(row: &mut Row) {
     row.is_bytes(&whole[..len]);
 }
 
-/// A set, PK.seed, an address, a node; F.
+/// A set, PK.seed of any length, an address, a node; F.
 pub fn f_row(row: &mut Row) {
     let set = row.set();
-    let pk_seed = row.node(set);
+    let pk_seed = row.bytes();
     let adrs = adrs_of(row);
     let x = row.node(set);
     row.is_bytes(&f(set, &pk_seed, &adrs, &x));
@@ -88,11 +88,10 @@ pub fn t_row(row: &mut Row) {
     row.is_bytes(&stream.finish());
 }
 
-/// A set, PK.seed, SK.seed, an address; PRF.
+/// A set, PK.seed and SK.seed of any length, an address; PRF.
 pub fn prf_row(row: &mut Row) {
     let set = row.set();
-    let pk_seed = row.node(set);
-    let sk_seed = row.node(set);
+    let (pk_seed, sk_seed) = (row.bytes(), row.bytes());
     let adrs = adrs_of(row);
     row.is_bytes(&prf(set, &pk_seed, &sk_seed, &adrs));
 }

@@ -1,4 +1,4 @@
-//! Key files.
+//! Rows about key files (docs/FORMATS.md, ours).
 
 use crate::row::Row;
 use slh_core::{PublicKey, SecretKey};
@@ -62,7 +62,7 @@ pub fn read_secret_row(row: &mut Row) {
     }
 }
 
-/// The number of the refusal, or 0 where a key was read.
+/// The number of the refusal, or 0 if a key was read.
 fn status<K: Drop>(read: Result<K, FileFault>) -> u64 {
     match read {
         Ok(_) => 0,
@@ -81,7 +81,7 @@ pub fn read_public_cut(row: &mut Row) {
     }
 }
 
-/// The same of a secret key.
+/// As above, for a secret key.
 pub fn read_secret_cut(row: &mut Row) {
     let file = row.file();
     for len in 0..=file.as_bytes().len() {

@@ -1,4 +1,4 @@
-//! Keys.
+//! Rows about keys (FIPS 205, sections 9.1 and 10.1).
 ghost use Rattle.std.specs.Prelude.{◌≡◌};
 
 use crate::row::Row;
@@ -25,8 +25,8 @@ pub fn keygen_row(row: &mut Row) {
     row.is_true(check_pair(&sk));
 }
 
-/// A set, the draw at which a source that counts from 00 fails, or 0; where it fails the refusal and the draws made,
-/// and then the public key of the next three draws.
+/// A set, and the draw at which a source that counts from 00 fails, or 0. If it fails, the refusal and the draws made.
+/// Then the public key of the next three draws.
 pub fn keygen_from_source(row: &mut Row) {
     let set = row.set();
     let mut source = Counting::new(row.below(4) as u32);

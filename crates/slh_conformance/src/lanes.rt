@@ -1,11 +1,11 @@
-//! F, PRF, H, T, chains and SHA-256's compression in eight lanes.
+//! Rows about F, PRF, H, T, chains and SHA-256's compression in eight lanes (FIPS 205, section 11.2).
 ghost use Rattle.std.specs.Prelude.{◌<◌};
 
 use crate::params::adrs_of;
 use crate::row::Row;
 use slh_lanes::{
-    GROUP, LaneAdrs, LaneNodes, LaneStream, SeededLanes, SeededTreeLanes, Words, adrs_lanes,
-    compress, consecutive, lane_node, node_lanes, set_chains, set_hashes, set_lane,
+    GROUP, LaneAdrs, LaneNodes, LaneStream, SeededLanes, Words, adrs_lanes, compress, consecutive,
+    lane_node, node_lanes, set_chains, set_hashes, set_lane,
 };
 use slh_params::{Adrs, ParamSet};
 
@@ -44,7 +44,7 @@ fn nodes_backwards(nodes: &LaneNodes, set: ParamSet) -> LaneNodes {
     turned
 }
 
-/// The nodes of the two groups are the same, lane by lane.
+/// The nodes of the two groups are equal, lane by lane.
 fn are_same(row: &mut Row, x: &LaneNodes, y: &LaneNodes, set: ParamSet) {
     for j in 0..GROUP {
         let (x_node, y_node) = (lane_node(x, j, set.n()), lane_node(y, j, set.n()));
@@ -75,14 +75,22 @@ pub fn lanes_f(row: &mut Row) {
     let pk_seed = row.bytes();
     let adrs = adrs_of_lanes(row);
     let x = nodes_of(row, set);
-    are_nodes(row, &SeededLanes::new(set, &pk_seed).f(&adrs, &x), set);
+    let Some(lanes) = SeededLanes::new(set, &pk_seed) else {
+        return row.refuse();
+    };
+    are_nodes(row, &lanes.f(&adrs, &x), set);
 }
 
 /// A set, PK.seed, SK.seed, eight addresses; PRF in each lane, and in each of two groups at once.
 pub fn lanes_prf(row: &mut Row) {
     let set = row.set();
     let (pk_seed, sk_seed) = (row.bytes(), row.bytes());
-    let lanes = SeededLanes::new(set, &pk_seed);
+    let Some(lanes) = SeededLanes::new(set, &pk_seed) else {
+        return row.refuse();
+    };
+    if sk_seed.len() != set.n() {
+        return row.refuse();
+    }
     let at = adrs_of(row);
     let chains = numbers_from(row);
     let hashes = numbers_from(row);
@@ -103,7 +111,9 @@ pub fn lanes_h(row: &mut Row) {
     let pk_seed = row.bytes();
     let adrs = adrs_of_lanes(row);
     let (left, right) = (nodes_of(row, set), nodes_of(row, set));
-    let lanes = SeededTreeLanes::new(&SeededLanes::new(set, &pk_seed));
+    let Some(lanes) = SeededLanes::new(set, &pk_seed) else {
+        return row.refuse();
+    };
     are_nodes(row, &lanes.h(&adrs, &left, &right), set);
 }
 
@@ -115,7 +125,9 @@ pub fn lanes_t(row: &mut Row) {
     let adrs = adrs_of_lanes(row);
     let count = row.below(1 << 20);
     let (first, other) = (nodes_of(row, set), nodes_of(row, set));
-    let lanes = SeededTreeLanes::new(&SeededLanes::new(set, &pk_seed));
+    let Some(lanes) = SeededLanes::new(set, &pk_seed) else {
+        return row.refuse();
+    };
     let mut stream = LaneStream::new(&lanes, &adrs);
     for i in 0..count {
         stream.absorb(if i % 2 == 0 { &first } else { &other });
@@ -128,7 +140,9 @@ pub fn lanes_t(row: &mut Row) {
 pub fn lanes_chains(row: &mut Row) {
     let set = row.set();
     let pk_seed = row.bytes();
-    let lanes = SeededLanes::new(set, &pk_seed);
+    let Some(lanes) = SeededLanes::new(set, &pk_seed) else {
+        return row.refuse();
+    };
     let at = adrs_of(row);
     let chains = numbers_from(row);
     let hashes = numbers_from(row);
@@ -147,7 +161,7 @@ pub fn lanes_chains(row: &mut Row) {
     are_nodes(row, &lanes.chains_each(&adrs, &x, from, counts), set);
 }
 
-/// A hash value, a block; the hash value after it, in each lane where the others' blocks are zeros.
+/// A hash value, a block; the hash value after it, in each lane while the others' blocks are zeros.
 pub fn lanes_compress(row: &mut Row) {
     let (state, block, after) = (row.bytes(), row.bytes(), row.bytes());
     if state.len() != 32 || block.len() != 64 {

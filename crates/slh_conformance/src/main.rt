@@ -1,10 +1,15 @@
-//! Holds the library to tables of known values, which other implementations made.
+//! Compares the library with tables of known values, which other implementations of FIPS 205 made.
 //!
-//! Reads rows from standard input, each a line whose fields stand between tabs: the name of a function, its arguments
-//! and the values that it has to have. Lines that begin with `#` are comments. For each row it prints the function's
-//! name and `right`, or `differs` and the first value that was found instead, or `malformed` where the row has another
-//! number of fields or an argument that is none, or `unknown` where there is no function of the name.
-//! `tests/tables.sh` runs it over the tables of `vectors/tables`.
+//! The program reads rows from standard input. The fields of a row have tabs between them: the name of a function, its
+//! arguments, and the expected values. Lines that begin with `#` are comments. For each row it prints the function's
+//! name and one of these:
+//!
+//! - `right`;
+//! - `differs`, and the first other value that was found;
+//! - `malformed`, if the row has another number of fields, or an argument can't be read;
+//! - `unknown`, if no function has the name.
+//!
+//! `tests/tables.sh` runs it over the tables of `tests/vectors/tables`.
 #![tactic(auto, using(slh_params::proofs::Bounds::n_high))]
 
 mod cuttings;
@@ -29,7 +34,7 @@ use row::{Row, Verdict};
 use std::alloc::Global;
 use std::io;
 
-/// What is found of a row.
+/// The finding about a row.
 fn judge(alloc: Global, line: &str) -> Verdict {
     let mut row = Row::new(alloc, line);
     let function = row.text();

@@ -1,4 +1,4 @@
-//! Bits and addresses.
+//! Rows about bits and addresses (FIPS 205, sections 4.2 and 4.4).
 
 use crate::row::Row;
 use slh_params::{Adrs, AdrsType, base_2b, to_byte, to_int};
@@ -58,6 +58,7 @@ fn set_all(row: &mut Row, adrs: &mut Adrs) {
     adrs.set_layer(row.layer());
     adrs.set_tree(row.number());
     adrs.set_type_and_clear(type_of(row));
+    row.is_true(adrs.compressed()[10..] == [0; 12]);
     row.is_true((adrs.key_pair(), adrs.tree_index()) == (0, 0));
     adrs.set_key_pair(row.word());
     adrs.set_chain(row.word());

@@ -1,4 +1,4 @@
-//! A row of a table, which is read field by field from the left.
+//! A row of a table, which is read field by field from the left (ours).
 ghost use Rattle.std.specs.Prelude.{◌≡◌, ◌<◌, ◌≤◌, ◌^◌, ◌-◌, ◌%◌, IfSome, length};
 ghost use Rattle.slh_params.specs.Params.{h};
 ghost use Rattle.slh_params.specs.ParamSet.{params};
@@ -8,7 +8,7 @@ use slh_params::{Node, ParamSet, node_of};
 use std::alloc::Global;
 use std::fmt;
 
-/// What is still to be read of a row, and what was found so far.
+/// The rest of a row, and the finding so far.
 #[derive(Drop)]
 pub struct Row<'a> {
     alloc: Global,
@@ -18,7 +18,7 @@ pub struct Row<'a> {
     found: String,
 }
 
-/// What was found of a row.
+/// The finding about a row.
 #[derive(Drop)]
 pub enum Verdict {
     Right,
@@ -51,7 +51,7 @@ impl<'a> Row<'a> {
         }
     }
 
-    /// What was found, where the whole row is read.
+    /// The finding, after the whole row is read.
     pub fn verdict(self) -> Verdict {
         if self.malformed || self.rest.is_some() {
             Verdict::Malformed
@@ -62,7 +62,7 @@ impl<'a> Row<'a> {
         }
     }
 
-    /// Where memory comes from.
+    /// The source of memory.
     pub fn alloc(&self) -> Global {
         self.alloc
     }
@@ -228,7 +228,7 @@ impl<'a> Row<'a> {
         }
     }
 
-    /// What the row states without a field of its own.
+    /// The fact that the row states without a field.
     pub fn is_true(&mut self, found: bool) {
         if !found {
             self.differ("false");

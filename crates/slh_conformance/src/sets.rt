@@ -1,4 +1,4 @@
-//! Parameter sets, their names and their labels.
+//! Rows about parameter sets, their names and their labels (FIPS 205, section 11).
 
 use crate::row::Row;
 use slh_params::{ParamSet, RecordFault};
@@ -69,10 +69,14 @@ fn set_of_numbers(row: &mut Row) -> Result<ParamSet, RecordFault> {
     ParamSet::custom(n, lg_w, hp, d, a, k)
 }
 
-/// The numbers n, lg_w, h', d, a, k; the label of their set, or the first member that is invalid.
+/// The numbers n, lg_w, h', d, a, k; the label of their set, or the first member that is invalid. The set is equal to the
+/// one of this label.
 pub fn custom(row: &mut Row) {
     match set_of_numbers(row) {
-        Ok(set) => row.is_text(set.label().as_str()),
+        Ok(set) => {
+            row.is_true(ParamSet::from_label(set.label().as_str().as_bytes()) == Some(set));
+            row.is_text(set.label().as_str());
+        }
         Err(RecordFault::BadRecord { member }) => row.is_text(member),
     }
 }

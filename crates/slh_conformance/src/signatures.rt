@@ -1,4 +1,4 @@
-//! Signatures.
+//! Rows about signatures (FIPS 205, sections 9.2, 9.3 and 10).
 ghost use Rattle.std.specs.Prelude.{◌≡◌, IfSome, length};
 ghost use Rattle.slh_params.specs.Params.{sig_len};
 ghost use Rattle.slh_params.specs.ParamSet.{params};
@@ -62,8 +62,8 @@ fn random_of(row: &mut Row, set: ParamSet) -> Option<Node>
     }
 }
 
-/// A set, SK.seed, SK.prf, PK.seed, a way, a message, a context, a randomizer or nothing; the SHA-256 of the signature,
-/// and where they stand R and the last n bytes. The signature is valid, and it is not with the last bit flipped.
+/// A set, SK.seed, SK.prf, PK.seed, a way, a message, a context, a randomizer or nothing. The SHA-256 of the signature,
+/// and if the row has them, R and the last n bytes. The signature is valid, and it is not with the last bit flipped.
 pub fn sign_row(row: &mut Row) {
     let set = row.set();
     let sk = key_of(row, set);
@@ -85,7 +85,7 @@ pub fn sign_row(row: &mut Row) {
     }
 }
 
-/// The SHA-256 of a signature, and where they stand R and the last n bytes.
+/// The SHA-256 of a signature, and if the row has them, R and the last n bytes.
 fn check_ends(row: &mut Row, n: usize, sig: &[u8]) {
     row.is_digest(sig);
     if row.has_more() {
@@ -94,9 +94,9 @@ fn check_ends(row: &mut Row, n: usize, sig: &[u8]) {
     }
 }
 
-/// A set, SK.seed, SK.prf, PK.seed, three parts of a message; the SHA-256 of the deterministic signature of the message
-/// as it stands, of its FORS signature and of its hypertree signature. Both are the same for the randomizer PK.seed,
-/// and for the message in one part.
+/// A set, SK.seed, SK.prf, PK.seed, three parts of a message. The SHA-256 of the deterministic signature of the message
+/// as it is, of its FORS signature and of its hypertree signature. Both are the same for the randomizer PK.seed, and
+/// for the message in one part.
 pub fn sign_in_parts(row: &mut Row) {
     let set = row.set();
     let sk = key_of(row, set);

@@ -1,4 +1,4 @@
-//! A source of bytes that counts up and can fail.
+//! A source of bytes that counts up and can fail (ours).
 ghost use Rattle.std.specs.Prelude.{⊤};
 
 use slh_core::{RandomBytes, SourceFault};
@@ -13,7 +13,7 @@ pub struct Counting {
 }
 
 impl Counting {
-    /// The source before its first draw. It never fails where `fails_at` is 0.
+    /// The source before its first draw. It never fails if `fails_at` is 0.
     pub fn new(fails_at: u32) -> Counting {
         Counting {
             next: 0,

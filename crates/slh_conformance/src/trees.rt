@@ -1,9 +1,9 @@
-//! Paths, climbs and covers of a tree of known nodes.
+//! Rows about paths, roots and covers of a tree of known nodes (FIPS 205, sections 6 and 8).
 ghost use Rattle.std.specs.Prelude.{◌≡◌, ◌≤◌, ◌<◌, ◌^◌, ◌%◌, [], ◌∷◌, IfSome, slice_index, refl};
 
 use crate::row::Row;
 use slh_params::{Node, node_of};
-use slh_tree::{Cover, PathRec, Tree, climb, gather, hash_range, node, path, root};
+use slh_tree::{Climbs, Cover, PathRec, Tree, climb, gather, hash_range, node, path, root};
 use std::cell::Cell;
 
 /// A tree whose node (z, i) is the bytes z, i and the second bytes of the two children. It counts how often a leaf was
@@ -19,7 +19,7 @@ struct Example {
     ghost all: { leaves ≡ 2 ^ height },
 }
 
-impl Tree for Example {
+impl Climbs for Example {
     ghost tree = { λ t. record {
       height = t.height;
       width = 4;
@@ -33,14 +33,16 @@ impl Tree for Example {
         self.height
     }
 
+    fn join(&self, z: u32, i: u32, l: &Node, r: &Node) -> Node {
+        node_of(&[(z % 256) as u8, (i % 256) as u8, l[1], r[1]])
+    }
+}
+
+impl Tree for Example {
     fn leaf(&self, i: u32) -> Node {
         self.calls.set(self.calls.get().wrapping_add(1));
         self.asked.set(self.asked.get() | 1 << (i % 64));
         node_of(&[0, (i % 256) as u8, 0, 0])
-    }
-
-    fn join(&self, z: u32, i: u32, l: &Node, r: &Node) -> Node {
-        node_of(&[(z % 256) as u8, (i % 256) as u8, l[1], r[1]])
     }
 }
 
@@ -63,8 +65,8 @@ fn tree_and_leaf(row: &mut Row) -> Option<(Example, u32)>
     Some((tree, leaf))
 }
 
-/// A height, a leaf; its path and the root. The path is made from each other leaf once and never from the leaf itself,
-/// leads from it to the root, and comes from the covers of the leaves before and after any place.
+/// A height, a leaf; its path and the root. The path is made from each other leaf once and never from the leaf itself.
+/// It leads from it to the root, and comes from the covers of the leaves before and after any place.
 pub fn tree_leaf(row: &mut Row) {
     let Some((tree, idx)) = tree_and_leaf(row) else {
         return;
@@ -131,8 +133,8 @@ fn is_known(row: &mut Row, rec: &PathRec, height: u32) {
     }
 }
 
-/// A height, a leaf, the first leaf of a range and the one past its last leaf; for each height whether the node of the
-/// leaf's path is known, and height, index and bytes of each node of the range's cover.
+/// A height, a leaf, the first leaf of a range and the one past its last leaf. For each height whether the node of the
+/// leaf's path is known. Height, index and bytes of each node of the range's cover.
 pub fn tree_cover(row: &mut Row) {
     let Some((tree, idx)) = tree_and_leaf(row) else {
         return;
@@ -151,7 +153,7 @@ pub fn tree_cover(row: &mut Row) {
     }
 }
 
-/// A height, a leaf, two places; the root, and for each height whether the node of the leaf's path is known, from the
+/// A height, a leaf, two places. The root, and for each height whether the node of the leaf's path is known: from the
 /// covers of the leaves before, between and after the places.
 pub fn tree_gather(row: &mut Row) {
     let Some((tree, idx)) = tree_and_leaf(row) else {

@@ -1,4 +1,4 @@
-//! Verdicts on signatures that are not those of the message, the key or the form that they are held against.
+//! Rows about signatures of another message, key or form, which are invalid (FIPS 205, sections 9.3 and 10.3).
 
 use crate::keys::key_of;
 use crate::row::Row;
@@ -10,7 +10,7 @@ fn is_verdict(row: &mut Row, valid: bool) {
     row.is_text(if valid { "valid" } else { "invalid" });
 }
 
-/// A set, SK.seed, SK.prf, PK.seed, a way, a message and a context, and all these again; whether the signature of the
+/// A set, SK.seed, SK.prf, PK.seed, a way, a message and a context, and all these again. Whether the signature of the
 /// first message is valid for the second one. It is valid for the first one.
 pub fn verdict(row: &mut Row) {
     let set = row.set();
@@ -88,9 +88,9 @@ pub fn other_lengths(row: &mut Row) {
     row.is_true(!Way::Pieces.verify(&msg, b"", &sig, &pk));
 }
 
-/// A set, SK.seed, SK.prf, PK.seed, a message, a first byte, a step; at how many places the first bit of a byte of the
-/// pure signature was flipped: at R, at the FORS signature, and from the first byte on at each step. It is valid for
-/// none of these, and before and after them.
+/// A set, SK.seed, SK.prf, PK.seed, a message, a first byte, a step. The number of places at which the first bit of a
+/// byte of the pure signature was flipped: at R, at the FORS signature, and from the first byte on at each step. It is
+/// valid for none of these, and before and after them.
 pub fn flipped_bits(row: &mut Row) {
     let set = row.set();
     let sk = key_of(row, set);

@@ -1,4 +1,4 @@
-//! The ways in which a message is signed and verified.
+//! The forms in which a message is signed and verified (FIPS 205, sections 9 and 10).
 ghost use Rattle.std.specs.Prelude.{◌≡◌, IfSome, length};
 ghost use Rattle.slh_params.specs.Params.{sig_len};
 ghost use Rattle.slh_params.specs.ParamSet.{params};
@@ -15,13 +15,13 @@ use slh_core::{
 pub enum Way {
     /// As it stands: `internal`.
     Internal,
-    /// By `sign` and `verify`: `pure`.
+    /// `sign` and `verify`: `pure`.
     Pure,
-    /// By `sign`, and by a `Verifier` of two pieces: `pieces`.
+    /// `sign`, and a `Verifier` of two pieces: `pieces`.
     Pieces,
-    /// By `hash_sign` and `hash_verify`: the function's name.
+    /// `hash_sign` and `hash_verify`: the function's name.
     PreHash(PreHash),
-    /// By the methods of `Form`: `Form::Pure`, or the function's name after `Form::`.
+    /// The methods of `Form`: `Form::Pure`, or the function's name after `Form::`.
     Form(Form),
 }
 
@@ -60,8 +60,7 @@ fn verify_halves(msg: &[u8], ctx: &[u8], sig: &[u8], pk: &PublicKey) -> bool {
 }
 
 impl Way {
-    /// Signs a message under a context, which counts for nothing where it is signed as it stands. Whether that was
-    /// accepted.
+    /// Signs a message under a context, which is ignored if the message is signed as it is. Whether that was accepted.
     pub fn sign(
         self,
         msg: &[u8],

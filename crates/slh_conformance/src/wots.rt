@@ -1,4 +1,4 @@
-//! WOTS+.
+//! Rows about WOTS+ (FIPS 205, section 5).
 ghost use Rattle.std.specs.Prelude.{◌≡◌};
 
 use crate::row::Row;

@@ -1,4 +1,4 @@
-//! XMSS and the hypertree.
+//! Rows about XMSS and the hypertree (FIPS 205, sections 6 and 7).
 ghost use Rattle.std.specs.Prelude.{◌≡◌, ◌*◌};
 ghost use Rattle.slh_few.specs.Xmss.{xmss_sig_len};
 ghost use Rattle.slh_params.specs.ParamSet.{params};
@@ -61,9 +61,9 @@ fn ht_sig_len(set: ParamSet) -> usize
     set.d() as usize * xmss_sig_len(set)
 }
 
-/// A set, SK.seed, PK.seed, a tree and a leaf of layer 0, another leaf, a message of n bytes, and where it stands the
-/// SHA-256 of the signature. The root of the top tree verifies it, but not with the other leaf, and no other length of
-/// root does.
+/// A set, SK.seed, PK.seed, a tree and a leaf of layer 0, another leaf, a message of n bytes, and if the row has it,
+/// the SHA-256 of the signature. The root of the top tree verifies it, but not with the other leaf, and no other length
+/// of root does.
 #[tactic(auto, using(slh_params::proofs::Bounds::layer_bounds))]
 pub fn ht_sign_row(row: &mut Row) {
     let set = row.set();

@@ -7,6 +7,7 @@ pub mod PreHash
 pub mod PreHashing
 pub mod Messages
 pub mod Verifying
+pub mod Hardened
 -- cited by public clauses
 pub use Rattle.slh_params.specs.Params
 pub use Rattle.slh_params.specs.ParamSet

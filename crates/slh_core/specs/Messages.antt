@@ -27,7 +27,8 @@ abbrev pub form_with : Option PreHash → Form
 form_with None = forms.Pure
 form_with (Some function) = forms.PreHash function
 
--- what follows the context in M': the object identifier, of which the pure form has none, and the message or its digest
+-- the part of M' after the context: the object identifier, of which the pure form has none, and the message or its
+-- digest
 abbrev pub oid_bytes : Content → List ℕ
 oid_bytes (Message msg) = []
 oid_bytes (Digest oid digest) = oid

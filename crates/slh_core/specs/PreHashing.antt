@@ -1,4 +1,4 @@
--- What a `PreHasher` was fed: ours.
+-- The bytes that a `PreHasher` was fed: ours.
 use Rattle.std.specs.Prelude.{◌≡◌, ℕ, List}
 use Rattle.sha2.specs.Hashers.{Holds224, Holds256, Holds384, Holds512, Holds512_224, Holds512_256}
 use Rattle.slh_core.specs.declared.pre_hash.PreHash.{PreHash}

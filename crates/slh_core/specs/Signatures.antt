@@ -32,8 +32,8 @@ ht_sig_of sk digest pk_fors =
     let p = params sk.set in
     ht_sig p (sk_seed sk) (pk_seed (public_of sk)) pk_fors (idx_tree p digest) (idx_leaf p digest)
 
--- what follows R in the signature of a digest: its FORS signature, and the hypertree signature of the
--- FORS public key that this gives
+-- the part of the signature of a digest after R: its FORS signature, and the hypertree signature of the FORS public key
+-- that this gives
 unfoldable pub signature_of_digest : Key → List ℕ → List ℕ
 signature_of_digest sk digest =
     let sig_fors = fors_sig_of sk digest in

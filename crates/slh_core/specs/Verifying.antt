@@ -1,4 +1,4 @@
--- What a `Verifier` is of, and which message it was fed: ours, over FIPS 205, sections 10.3 and 11.2.
+-- The key and signature of a `Verifier`, and the message that it was fed: ours, over FIPS 205, sections 10.3 and 11.2.
 use Rattle.std.specs.Prelude.{◌≡◌, ℕ, ◌<◌, ◌≤◌, List, length, Option, None, Some}
 use Rattle.slh_params.specs.ParamSet.{params}
 use Rattle.slh_hash.specs.Stream.{HasMessage}

@@ -1,4 +1,4 @@
-//! The refusals of this crate.
+//! The refusals of this crate (ours).
 ghost use Rattle.std.specs.Prelude.{◌≡◌, codes};
 
 use thiserror::Error;

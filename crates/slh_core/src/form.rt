@@ -27,7 +27,7 @@ pub enum Form {
 }
 
 impl Form {
-    /// The pre-hash form with this function, or the pure form where there is none.
+    /// The pre-hash form with this function, or the pure form if there is none.
     pub fn with(prehash: Option<PreHash>) -> Form
         ensures { result ≡ form_with prehash }
     {
@@ -42,7 +42,7 @@ impl Form {
         ensures accepted { IsSome result ↔ (length ctx.now ≤ 255) }
         ensures bytes { IfSome result (λ message. bytes_of message ≡ message_in_form self ctx.now msg.now) }
     {
-        // No message is hashed for a context that is refused.
+        // This saves hashing a message for a context that is refused.
         if ctx.len() > MOST_CONTEXT_LEN {
             return None;
         }
@@ -55,7 +55,7 @@ impl Form {
     }
 
     /// Signs a message in this form, under a context (Algorithms 22 and 23), writing `sig_len` bytes. Refused, with
-    /// nothing written, where the context has over 255 bytes.
+    /// nothing written, if the context has over 255 bytes.
     pub fn sign(
         self,
         msg: &[u8],

@@ -2,11 +2,16 @@
 //! signing and verifying.
 #![tactic(auto, using(slh_params::proofs::Bounds::n_high))]
 
-pub use digest_parts::{DigestIndices, digest_indices};
+pub use digest_parts::{
+    DigestIndices, DigestIndices as Cut, digest_indices, digest_indices as cut_digest,
+};
 pub use fault::{KeyFault, KeygenFault, SignFault};
 pub use form::Form;
 pub use formatted_message::FormattedMessage;
 pub use generation::{check_pair, keygen_internal};
+pub use hardened::{
+    HARDENED_INVALID, HARDENED_VALID, hash_verify_digest_hardened, verify_hardened,
+};
 pub use message_digest::MessageDigest;
 pub use pre_hash::PreHash;
 pub use pre_hash_form::{hash_sign, hash_sign_digest, hash_verify, hash_verify_digest};
@@ -29,11 +34,13 @@ pub mod signing_steps {
     pub use crate::signing::randomized_digest;
 }
 
+mod comparing;
 mod digest_parts;
 mod fault;
 mod form;
 mod formatted_message;
 mod generation;
+mod hardened;
 mod layout;
 mod message_digest;
 mod pre_hash;

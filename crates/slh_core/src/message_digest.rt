@@ -22,7 +22,7 @@ impl Model for MessageDigest {
 }
 
 impl MessageDigest {
-    /// The digest that has these bytes. `None` where they are not `digest_len` of the function.
+    /// The digest that has these bytes. `None` if they are not `digest_len` of the function.
     pub fn from_bytes(function: PreHash, bytes: &[u8]) -> Option<MessageDigest>
         ensures accepted { IsSome result ↔ (length bytes.now ≡ digest_len function) }
         ensures digest { IfSome result (λ digest. digest ≡ record { function = function; bytes = bytes.now }) }

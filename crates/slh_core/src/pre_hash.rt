@@ -28,7 +28,7 @@ impl PreHash {
         }
     }
 
-    /// The function of this name. `None` where it is no function's; letter case counts.
+    /// The function of this name. `None` if it is no function's; letter case counts.
     #[tactic(auto, unfolding(crate::specs::PreHash::function_named))]
     pub fn from_name(text: &str) -> Option<PreHash>
         ensures named { result ≡ function_named text.now }

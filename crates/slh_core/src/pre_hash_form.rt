@@ -20,8 +20,8 @@ use crate::secret_key::SecretKey;
 use crate::signing::sign_internal;
 use crate::verifying::verify_internal;
 
-/// Signs a message by its digest, under a context (FIPS 205, Algorithm 23 after its pre-hash), writing
-/// `sig_len` bytes. Refused, with nothing written, where the context has over 255 bytes.
+/// Signs a message by its digest, under a context (FIPS 205, Algorithm 23 after its pre-hash), writing `sig_len` bytes.
+/// Refused, with nothing written, if the context has over 255 bytes.
 pub fn hash_sign_digest(
     digest: &MessageDigest,
     ctx: &[u8],
@@ -55,8 +55,8 @@ pub fn pre_hash_digest(msg: &[u8], function: PreHash) -> MessageDigest
     hasher.finish()
 }
 
-/// Signs a message by its digest under `function`, and under a context (FIPS 205, Algorithm 23), writing
-/// `sig_len` bytes. Refused, with nothing written, where the context has over 255 bytes.
+/// Signs a message by its digest under `function`, and under a context (FIPS 205, Algorithm 23), writing `sig_len`
+/// bytes. Refused, with nothing written, if the context has over 255 bytes.
 pub fn hash_sign(
     msg: &[u8],
     ctx: &[u8],

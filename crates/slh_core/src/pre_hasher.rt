@@ -1,4 +1,4 @@
-//! The running hash of a message that comes in pieces.
+//! The running hash of a message that comes in pieces (FIPS 205, section 10.2.2).
 ghost use Rattle.std.specs.Prelude.{◌≡◌, ◌++◌, ℕ, List, []};
 ghost use Rattle.slh_core.specs.PreHash.{PH};
 ghost use Rattle.slh_core.specs.PreHashing.{HasFed};

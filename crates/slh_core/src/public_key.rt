@@ -25,7 +25,7 @@ impl Model for PublicKey {
 }
 
 impl PublicKey {
-    /// The key of these bytes. Refused where they are not `pk_len`.
+    /// The key of these bytes. Refused if they are not `pk_len`.
     pub fn from_bytes(set: ParamSet, bytes: &[u8]) -> Result<PublicKey, KeyFault>
         ensures accepted { IsOk result ↔ (length bytes.now ≡ pk_len (params set)) }
         ensures key { IfOk result (λ key. key ≡ record { set = set; bytes = bytes.now }) }

@@ -13,8 +13,8 @@ use crate::public_key::PublicKey;
 use crate::randomizer::Randomizer;
 use crate::secret_key::SecretKey;
 
-/// Signs a message under a context (FIPS 205, Algorithm 22), writing `sig_len` bytes. Refused, with nothing
-/// written, where the context has over 255 bytes.
+/// Signs a message under a context (FIPS 205, Algorithm 22), writing `sig_len` bytes. Refused, with nothing written, if
+/// the context has over 255 bytes.
 pub fn sign(
     msg: &[u8],
     ctx: &[u8],

@@ -7,7 +7,7 @@ ghost use Rattle.slh_core.specs.Keys.{Key, sk_seed, sk_prf, public_of, pk_seed, 
 use crate::fault::KeyFault;
 use crate::public_key::PublicKey;
 use arrayvec::ArrayVec;
-use slh_few::Seeds;
+use slh_few::{Seeds, SigningContext};
 use slh_params::ParamSet;
 use std::marker::Model;
 
@@ -27,8 +27,7 @@ impl Model for SecretKey {
 }
 
 impl SecretKey {
-    /// The key of these bytes. Refused where they are not `sk_len`; whether PK.root belongs to the
-    /// seeds is not looked at.
+    /// The key of these bytes. Refused if they are not `sk_len`; whether PK.root belongs to the seeds is not looked at.
     pub fn from_bytes(set: ParamSet, bytes: &[u8]) -> Result<SecretKey, KeyFault>
         ensures accepted { IsOk result ↔ (length bytes.now ≡ sk_len (params set)) }
         ensures key { IfOk result (λ key. key ≡ record { set = set; bytes = bytes.now }) }
@@ -119,17 +118,18 @@ impl SecretKey {
         &self.public_bytes()[self.set.n()..]
     }
 
-    /// The set, SK.seed and PK.seed: what the trees of the key are made from.
-    pub fn seeds(&self) -> Seeds<'_>
-        ensures set { result.set ≡ self.now.set }
+    /// SK.seed with the midstates of PK.seed: what the trees of the key are made from.
+    pub fn signer(&self) -> SigningContext<'_>
+        ensures set { result.public.set ≡ self.now.set }
         ensures sk_seed { result.sk_seed.now ≡ sk_seed self.now }
-        ensures pk_seed { result.pk_seed.now ≡ pk_seed (public_of self.now) }
+        ensures pk_seed { result.public.pk_seed.now ≡ pk_seed (public_of self.now) }
     {
-        Seeds {
+        let seeds = Seeds {
             set: self.set,
             sk_seed: self.sk_seed(),
             pk_seed: self.pk_seed(),
-        }
+        };
+        SigningContext::new(&seeds)
     }
 
     /// The public key that belongs to this key.

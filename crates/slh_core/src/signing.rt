@@ -11,7 +11,6 @@ use crate::digest_parts::{MOST_DIGEST_LEN, digest_indices};
 use crate::layout::fors_sig_len;
 use crate::randomizer::Randomizer;
 use crate::secret_key::SecretKey;
-use slh_few::{Public, fors_pk_from_sig, fors_sign, ht_sign};
 use slh_hash::{h_msg, prf_msg};
 use slh_params::Node;
 
@@ -23,17 +22,16 @@ fn sign_digest(sk: &SecretKey, digest: &[u8], out: &mut [u8])
     ensures { out.new ≡ signature_of_digest sk.now digest.now }
 {
     let set = sk.set();
-    let seeds = sk.seeds();
-    let public = Public {
-        set,
-        pk_seed: seeds.pk_seed,
-    };
+    let signer = sk.signer();
     let md = &digest[..set.md_len()];
     let indices = digest_indices(set, digest);
     let (sig_fors, sig_ht) = out.split_at_mut(fors_sig_len(set));
-    fors_sign(&seeds, indices.idx_tree, indices.idx_leaf, md, sig_fors);
-    let pk_fors = fors_pk_from_sig(&public, indices.idx_tree, indices.idx_leaf, md, sig_fors);
-    ht_sign(&seeds, indices.idx_tree, indices.idx_leaf, &pk_fors, sig_ht);
+    let (idx_tree, idx_leaf) = (indices.idx_tree, indices.idx_leaf);
+    signer.fors_sign(idx_tree, idx_leaf, md, sig_fors);
+    let pk_fors = signer
+        .public
+        .fors_pk_from_sig(idx_tree, idx_leaf, md, sig_fors);
+    signer.ht_sign(idx_tree, idx_leaf, &pk_fors, sig_ht);
 }
 
 /// R for the message of the parts put end to end, n bytes; its digest of m bytes under R is written into

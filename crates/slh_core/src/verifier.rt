@@ -42,8 +42,8 @@ impl<'a> Verifier<'a> {
         }
     }
 
-    /// Whether the signature is valid for the pieces put end to end under the context (FIPS 205, Algorithm 24), as
-    /// `verify` has it: false where the signature is not of the set's length, or the context has over 255 bytes.
+    /// Whether the signature is valid for the pieces put end to end under the context (FIPS 205, Algorithm 24), as by
+    /// `verify`. It is false if the signature has another length than the set's, or the context has over 255 bytes.
     #[tactic(auto, unfolding(crate::specs::Verifying::IsVerifierOf))]
     pub fn finish(self) -> bool
         ensures { (pk : Key) (ctx sig msg : List ℕ) → IsVerifierOf self.entry pk ctx sig msg

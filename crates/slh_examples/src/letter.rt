@@ -11,7 +11,7 @@ use slh_core::{PublicKey, Randomizer, SecretKey, SignFault, sign, verify};
 
 /// Signs a letter under the context of its department, which tells its signatures from those of others. `random` are n
 /// fresh random bytes for each signature. `sig` has the `sig_len` bytes of the key's set. Refused, with nothing
-/// written, where the context has over 255 bytes.
+/// written, if the context has over 255 bytes.
 pub fn sign_letter(
     sk: &SecretKey,
     department: &[u8],

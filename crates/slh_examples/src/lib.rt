@@ -1,4 +1,4 @@
-//! Callers of the library, each proved, to copy from: docs/CALLING.md shows them.
+//! Callers of the library, each proved, to copy from: crates/slh_examples/README.md shows them.
 #![tactic(auto, using(slh_params::proofs::Bounds::bounds))]
 
 mod key;

@@ -29,7 +29,7 @@ fn item<'a>(pk: &'a PublicKey, signed: &Signed<'a>) -> VerifyItem<'a>
     }
 }
 
-/// Whether both messages are signed by the key, by two workers. Refused where a growth of memory was refused.
+/// Whether both messages are signed by the key, by two workers. Refused if a growth of memory was refused.
 pub fn both_valid<R: Threads + Sync, A: Allocator + Clone + Send + Sync>(
     rt: &R,
     alloc: A,

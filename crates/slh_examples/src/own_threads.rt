@@ -128,7 +128,7 @@ fn answer_all<R: Threads + Sync>(rt: &R, begun: &Begun, threads: u32, answers: &
 }
 
 /// Signs a message with no context under a generated key, as jobs of that many threads, this one among them. The bytes
-/// are those that one thread writes. Refused, with nothing written, where memory for the answers was refused.
+/// are those that one thread writes. Refused, with nothing written, if memory for the answers was refused.
 pub fn sign_by_own_threads<R: Threads + Sync, A: Allocator>(
     rt: &R,
     alloc: A,

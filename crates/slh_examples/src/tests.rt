@@ -141,8 +141,8 @@ fn letters(rt: HostRuntime) -> Result<(), Fail> {
     Ok(())
 }
 
-/// The secret key, the randomizer and the SHA-256 of the signature of an empty message under the context fc89fd046fd7ce,
-/// from `vectors/slh-dsa-sha2-128f.json`.
+/// The secret key, the randomizer and the SHA-256 of the signature of an empty message under the context
+/// fc89fd046fd7ce, from `tests/vectors/slh-dsa-sha2-128f.json`.
 const RANDOMIZED: (&str, &[u8; 16], &str) = (
     concat!(
         "f3c1a9ca44d1f82d3de52aaf58f6b254e1a2dd90db1a31c916e88d1fca3767fe",

@@ -24,7 +24,7 @@ fn whole_trees(sk: &SecretKey) -> Cutting
 }
 
 /// Signs a message with no context by that many workers. The bytes are those that one thread writes. Refused, with
-/// nothing written, where a growth of memory was refused.
+/// nothing written, if a growth of memory was refused.
 pub fn sign_by_threads<R: Threads + Sync, A: Allocator + Clone + Send + Sync>(
     rt: &R,
     alloc: A,
@@ -55,7 +55,7 @@ pub fn sign_by_threads<R: Threads + Sync, A: Allocator + Clone + Send + Sync>(
 }
 
 /// Signs a message with no context by that many workers, unless another thread raises the flag: then each worker ends
-/// after its current job. Refused, with nothing written, where a growth of memory was refused or the flag was raised.
+/// after its current job. Refused, with nothing written, if a growth of memory was refused or the flag was raised.
 pub fn sign_unless_stopped<R: Threads + Sync, A: Allocator + Clone + Send + Sync>(
     rt: &R,
     alloc: A,

@@ -11,8 +11,8 @@ ghost use Rattle.slh_jobs.specs.Tags.{start_len};
 use slh_core::SecretKey;
 use slh_jobs::{JobFault, Levels, sign_join};
 
-/// Joins the answers of all jobs, where two runs of the jobs, on different processors, wrote the same bytes.
-/// Refused, with nothing written, where they did not, and where `sign_join` refuses.
+/// Joins the answers of all jobs, if two runs of the jobs, on different processors, wrote equal bytes. Refused, with
+/// nothing written, if they did not, and if `sign_join` refuses.
 pub fn join_of_two_runs(
     levels: &Levels,
     sk: &SecretKey,

@@ -37,3 +37,9 @@ front_parts f n (suc k) xs h =
 
 pub all_parts : (f : ℕ → List ℕ) (n k : ℕ) (xs : List ℕ) → length xs ≡ k * n → ((c : ℕ) → c < k → part n xs c ≡ f c) → xs ≡ end_to_end f k
 all_parts f n k xs long h = sym (take_all (k * n) xs (omega (arith, long))) ∙ front_parts f n k xs h
+
+-- one of so many parts is within them
+pub part_within : (c n count size : ℕ) → c < count → size ≡ count * n → c * n + n ≤ size
+part_within c n count size lt e =
+    let up : (c + 1) * n ≤ count * n = mul-le-mul_right n (let le : c + 1 ≤ count = omega arith in le) in
+    omega (arith, up, e)

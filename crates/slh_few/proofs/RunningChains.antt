@@ -9,7 +9,7 @@ use Rattle.slh_params.specs.Params.{Params}
 use Rattle.slh_lanes.specs.Lanes.{value_at}
 use Rattle.slh_lanes.proofs.Columns.{splat_lane}
 use Rattle.slh_few.specs.Parts.{part}
-use Rattle.slh_few.specs.RunningChains.{EndAt, IsSameChain}
+use Rattle.slh_few.specs.RunningChains.{EndAt, IsSameChain, StaysWithin}
 use Rattle.slh_few.specs.Wots.{chain}
 use Rattle.slh_few.specs.declared.lanes.chains.RunningChains.{RunningChains}
 use Rattle.slh_few.specs.declared.place.Place.{Place}
@@ -107,3 +107,61 @@ pub all_taken : (f : ℕ → List ℕ) (n : ℕ) (out next : List ℕ) (running 
     → (c : ℕ) → IsTaken f n out running c → part n next c ≡ f c
 all_taken f n out next running written kept c (inl there) = kept c there
 all_taken f n out next running written kept c (inr lane) = rw lane.2 at (written lane.0 lane.1)
+
+-- where no lane takes another chain, what was taken stays so
+pub taken_kept : (f : ℕ → List ℕ) (n : ℕ) (out next : List ℕ) (old new : RunningChains) → new.numbers ≡ old.numbers
+    → ((c : ℕ) → part n out c ≡ f c → part n next c ≡ f c)
+    → (c : ℕ) → IsTaken f n out old c → IsTaken f n next new c
+taken_kept f n out next old new same kept c (inl there) = inl (kept c there)
+taken_kept f n out next old new same kept c (inr lane) = inr (lane.0, lane.1, ap (λ (v : List ℕ). slice_index v lane.0) same ∙ lane.2)
+
+-- ---- one of several groups
+
+module _ (f : ℕ → List ℕ) (p : Params) (pk : List ℕ) (at : Place) where
+  -- a group of chains of so many, none of which runs past 255 steps, and each of which will be at its end
+  pub record Runs (count : ℕ) (running : RunningChains) (nodes : List (List ℕ)) : Type 0 where
+    pub within : StaysWithin 255 running
+    pub below : (j : ℕ) → j < 8 → slice_index running.numbers j < count
+    pub ends : EndAt f p pk at running nodes
+
+  -- a group after one of its chains gave way to another
+  pub record Turned (count number : ℕ) (out out' : List ℕ) (old new : RunningChains) (next : List (List ℕ)) : Type 0 where
+    pub runs : Runs count new next
+    pub kept : (c : ℕ) → part p.n out c ≡ f c → part p.n out' c ≡ f c
+    pub taken : (c : ℕ) → IsTaken f p.n out old c → IsTaken f p.n out' new c
+    pub there : IsTaken f p.n out' new number
+
+  -- an ended chain is written, and its lane has the next
+  pub turned : (count m : ℕ) → m ≡ p.n → (old new : RunningChains) (nodes next : List (List ℕ)) (out out' : List ℕ) (j number step left : ℕ) (x : List ℕ)
+      → j < 8 → slice_index old.left j ≡ 0 → Runs count old nodes
+      → slice_index new.numbers j ≡ number → slice_index new.steps j ≡ step → slice_index new.left j ≡ left
+      → ((i : ℕ) → i < 8 → i ≢ j → IsSameChain old new i)
+      → value_at next j m ≡ x → ((i n : ℕ) → i < 8 → i ≢ j → value_at next i n ≡ value_at nodes i n)
+      → part m out' (slice_index old.numbers j) ≡ value_at nodes j m
+      → ((c : ℕ) → c ≢ slice_index old.numbers j → part m out' c ≡ part m out c)
+      → number < count → step + left ≤ 255 → chain p pk at number x step left ≡ f number
+      → Turned count number out out' old new next
+  turned count m e old new nodes next out out' j number step left x lane none runs en es el same ex others put parts low room end =
+      let q : ℕ = slice_index old.numbers j in
+      let written : part p.n out' q ≡ f q =
+      ap (λ k. part k out' q) (sym e) ∙ put ∙ ap (value_at nodes j) e ∙ ended f p pk at old nodes j lane none runs.ends in
+      let kept : (c : ℕ) → part p.n out c ≡ f c → part p.n out' c ≡ f c = λ c held. elim (cases_eq c q) [
+        | inl here ↦ ap (part p.n out') here ∙ written ∙ ap f (sym here)
+        | inr other ↦ ap (λ k. part k out' c) (sym e) ∙ parts c other ∙ ap (λ k. part k out c) e ∙ held
+      ] in
+      record {
+        runs = record {
+          within = λ i lt. elim (cases_eq i j) [
+            | inl here ↦ rw here (omega (arith, es, el, room))
+            | inr other ↦ let s = same i lt other in omega (arith, s.step, s.left, runs.within i lt)
+          ];
+          below = λ i lt. elim (cases_eq i j) [
+            | inl here ↦ rw here (omega (arith, en, low))
+            | inr other ↦ omega (arith, (same i lt other).number, runs.below i lt)
+          ];
+          ends = ends_put f p pk at old new nodes next j number step left x en es el same (ap (value_at next j) (sym e) ∙ ex) (λ i lt ne. others i p.n lt ne) end runs.ends;
+        };
+        kept = kept;
+        taken = taken_put f p.n out out' old new j written kept (λ i lt ne. (same i lt ne).number);
+        there = inr (j, lane, en);
+      }

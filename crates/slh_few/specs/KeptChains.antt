@@ -1,31 +1,31 @@
--- Values of a key's chains that are kept from the making of the key until it signs: ours. Each set keeps at most 16
--- values of a chain, so that those of a key are about as long as 16 WOTS+ signatures.
+-- Checkpoints of a key's chains, stored from the making of the key until it signs: ours. Each set has at most 16
+-- checkpoints of a chain, so that those of a key are about as long as 16 WOTS+ signatures.
 use Rattle.std.specs.Prelude.{ℕ, ◌*◌, ◌/◌, ◌%◌, List}
 use Rattle.slh_params.specs.Params.{Params, ceil_div, w, len}
 use Rattle.slh_few.specs.Parts.{end_to_end, part}
 use Rattle.slh_few.specs.Wots.{chain, digit, secret}
 use Rattle.slh_few.specs.declared.place.Place.{Place}
 
--- how many steps lie between two kept values of a chain: 1 where w is 4 or 16, and 16 where w is 256
+-- the number of steps between two checkpoints of a chain: 1 if w is 4 or 16, and 16 if w is 256
 unfoldable pub spacing : Params → ℕ
 spacing p = ceil_div (w p) 16
 
--- how many values of a chain are kept
+-- the number of checkpoints of a chain
 unfoldable pub kept_count : Params → ℕ
 kept_count p = w p / spacing p
 
--- the length of the kept values of one chain, and of all chains of a key
+-- the length of the checkpoints of one chain, and of all chains of a key
 abbrev pub kept_chain_len : Params → ℕ
 kept_chain_len p = kept_count p * p.n
 
 abbrev pub kept_chains_len : Params → ℕ
 kept_chains_len p = len p * kept_chain_len p
 
--- kept value j of chain c
+-- checkpoint j of chain c
 abbrev pub kept_value : Params → List ℕ → List ℕ → Place → ℕ → ℕ → List ℕ
 kept_value p sk_seed pk_seed at c j = chain p pk_seed at c (secret p sk_seed pk_seed at c) 0 (j * spacing p)
 
--- the kept values of chain c
+-- the checkpoints of chain c
 unfoldable pub kept_chain : Params → List ℕ → List ℕ → Place → ℕ → List ℕ
 kept_chain p sk_seed pk_seed at c = end_to_end (kept_value p sk_seed pk_seed at c) (kept_count p)
 
@@ -43,6 +43,6 @@ run_from_kept p pk_seed at c kept steps =
 abbrev pub chain_from_kept : Params → List ℕ → Place → List ℕ → List ℕ → ℕ → List ℕ
 chain_from_kept p pk_seed at kept m c = run_from_kept p pk_seed at c (part (kept_chain_len p) kept c) (digit p m c)
 
--- the signature of a message that given values make; by the key's own values, the key's signature
+-- the signature of a message from given values; from the key's values, the key's signature
 unfoldable pub wots_sig_from : Params → List ℕ → Place → List ℕ → List ℕ → List ℕ
 wots_sig_from p pk_seed at kept m = end_to_end (chain_from_kept p pk_seed at kept m) (len p)

@@ -1,23 +1,15 @@
--- The ends of the chains of eight keys in lanes, and T of these keys, in lanes or one after the other: ours.
-use Rattle.std.specs.Prelude.{◌≡◌, ℕ, ◌+◌, ◌<◌, List, slice_index_or}
-use Rattle.slh_params.specs.Address.{Address, WOTS_PK}
+-- The ends of the chains of eight keys in lanes, and T of these keys: ours.
+use Rattle.std.specs.Prelude.{◌≡◌, ℕ, ◌+◌, ◌<◌, List}
+use Rattle.slh_params.specs.Address.{WOTS_PK}
 use Rattle.slh_params.specs.Params.{Params}
-use Rattle.slh_hash.specs.Stream.{HasAbsorbed}
-use Rattle.slh_hash.specs.declared.t_stream.TStream.{TStream}
 use Rattle.slh_lanes.specs.Lanes.{value_at}
 use Rattle.slh_lanes.specs.LaneStreams.{HasAbsorbedAt}
+use Rattle.slh_lanes.specs.declared.lane_stream.LaneStream.{LaneStream}
 use Rattle.slh_lanes.specs.declared.words.TheConstants.{GROUP}
 use Rattle.slh_few.specs.Parts.{end_to_end}
 use Rattle.slh_few.specs.Wots.{wots_address, chain, secret, whole_chain}
 use Rattle.slh_few.specs.Xmss.{place}
 use Rattle.slh_few.specs.declared.place.Place.{Place}
-use Rattle.slh_few.specs.declared.lanes.key_streams.KeyStreams.{KeyStreams}
-use Rattle.slh_few.specs.declared.lanes.key_streams.KeyStreams.TheVariants.{Lanes, Alone}
-
--- T of key j has absorbed x, under these parameters, this PK.seed and this address
-abbrev pub HasAbsorbedKey : KeyStreams → ℕ → Params → List ℕ → Address → List ℕ → Type 0
-HasAbsorbedKey (Lanes s) j p pk_seed adrs x = HasAbsorbedAt s j p pk_seed adrs x
-HasAbsorbedKey (Alone ss) j p pk_seed adrs x = (d : TStream) → HasAbsorbed (slice_index_or ss j d) p pk_seed adrs x
 
 -- the key in lane j of the eight from this place on
 abbrev pub key_at : Place → ℕ → Place
@@ -38,7 +30,7 @@ AreEnds p sk_seed pk_seed at c ends =
     (j : ℕ) → j < GROUP → value_at ends j p.n ≡ whole_chain p sk_seed pk_seed (key_at at j) c
 
 -- T of each of these keys has absorbed the ends of its first k chains
-abbrev pub HaveAbsorbedEnds : Params → List ℕ → List ℕ → Place → ℕ → KeyStreams → Type 0
-HaveAbsorbedEnds p sk_seed pk_seed at k streams =
-    (j : ℕ) → j < GROUP → HasAbsorbedKey streams j p pk_seed (wots_address (key_at at j) WOTS_PK 0 0)
+abbrev pub HaveAbsorbedEnds : Params → List ℕ → List ℕ → Place → ℕ → LaneStream → Type 0
+HaveAbsorbedEnds p sk_seed pk_seed at k stream =
+    (j : ℕ) → j < GROUP → HasAbsorbedAt stream j p pk_seed (wots_address (key_at at j) WOTS_PK 0 0)
     (end_to_end (whole_chain p sk_seed pk_seed (key_at at j)) k)

@@ -10,8 +10,8 @@ abbrev pub AreParents : MerkleTree → ℕ → ℕ → ℕ → List ℕ → List
 AreParents t n z first below nodes = (j : ℕ) (d : ArrayVec ℕ) → j < length nodes
     → (slice_index_or nodes j d).items ≡ t.join z (first + j) (part n below (2 * (first + j))) (part n below (2 * (first + j) + 1))
 
--- The bytes were the nodes of the height below end to end. Now as many as `count` nodes of height z stand in place of
--- the first of them.
+-- The bytes were the nodes of the height below end to end. Now as many as `count` nodes of height z are in place of the
+-- first of them.
 pub record AreJoined (t : MerkleTree) (n z : ℕ) (below : List ℕ) (count : ℕ) (bytes : List ℕ) : Type 0 where
   pub joined : (i : ℕ) → i < count → part n bytes i ≡ t.join z i (part n below (2 * i)) (part n below (2 * i + 1))
   pub others : (i : ℕ) → count ≤ i → part n bytes i ≡ part n below i

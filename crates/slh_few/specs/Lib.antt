@@ -6,14 +6,13 @@ pub mod Wots
 pub mod RunningChains
 pub mod KeptChains
 pub mod Xmss
+pub mod HashContext
 pub mod KeyStreams
 pub mod SignedValues
 pub mod Hypertree
 pub mod Fors
-pub mod ForsHashes
 pub mod ForsRoots
 pub mod Trees
-pub mod SeededTrees
 pub mod Paths
 -- cited by public clauses
 pub use Rattle.slh_params.specs.Bits

@@ -6,9 +6,9 @@ ghost use Rattle.slh_tree.specs.Tree.{node};
 ghost use Rattle.slh_tree.specs.declared.cover.Placed.{Placed};
 ghost use Rattle.slh_tree.specs.Cover.{IsCover, IsNodeOf, first_leaf, past_leaf};
 ghost use Rattle.slh_tree.specs.Record.{Gains, LiesInRange};
-ghost use Rattle.slh_few.specs.Trees.{fors_tree_of};
+ghost use Rattle.slh_few.specs.Trees.{fors_nodes_of};
 
-use crate::seeded_trees::SeededForsTree;
+use crate::fors_tree::ForsNodes;
 use arrayvec::ArrayVec;
 use slh_params::Node;
 use slh_tree::{Cover, PathRec, Placed, Tree, parent};
@@ -36,15 +36,15 @@ pub(crate) fn block_height(lo: u32, hi: u32) -> Option<u32>
     }
 }
 
-impl<'s, 'h> SeededForsTree<'s, 'h> {
+impl<'c, 'a> ForsNodes<'c, 'a> {
     /// The node of height `z` over the record's leaf. The record gains the nodes of its path below that height.
-    #[tactic(auto, unfolding(crate::specs::Trees::fors_tree_of))]
+    #[tactic(auto, unfolding(crate::specs::Trees::fors_nodes_of))]
     fn node_over_own_leaf(&self, z: u32, rec: &mut PathRec) -> Node
-        requires height { z ≤ (params self.now.tree.seeds.set).a }
-        requires index { rec.old.leaf < 2 ^ (params self.now.tree.seeds.set).a }
-        requires same_height { rec.old.height ≡ (params self.now.tree.seeds.set).a }
-        ensures node { result.items ≡ node (fors_tree_of self.now.tree) z (rec.old.leaf / 2 ^ z) }
-        ensures gained { Gains (fors_tree_of self.now.tree) (λ j. j < z) rec.old rec.new }
+        requires height { z ≤ (params self.now.signer.now.public.set).a }
+        requires index { rec.old.leaf < 2 ^ (params self.now.signer.now.public.set).a }
+        requires same_height { rec.old.height ≡ (params self.now.signer.now.public.set).a }
+        ensures node { result.items ≡ node (fors_nodes_of self.now) z (rec.old.leaf / 2 ^ z) }
+        ensures gained { Gains (fors_nodes_of self.now) (λ j. j < z) rec.old rec.new }
     {
         let leaf = rec.leaf();
         let mut node = self.leaf(leaf);
@@ -61,15 +61,15 @@ impl<'s, 'h> SeededForsTree<'s, 'h> {
         node
     }
 
-    /// The node of height `z` at index `i`. The record gains the nodes of its path that lie in it.
+    /// The node of height `z` at index `i`. The record gains the nodes of its path that are in it.
     fn noted_node(&self, z: u32, i: u32, rec: &mut PathRec) -> Placed
-        requires height { z ≤ (params self.now.tree.seeds.set).a }
-        requires within { past_leaf z i ≤ 2 ^ (params self.now.tree.seeds.set).a }
-        requires same_height { rec.old.height ≡ (params self.now.tree.seeds.set).a }
-        ensures node { result.node.items ≡ node (fors_tree_of self.now.tree) z i }
+        requires height { z ≤ (params self.now.signer.now.public.set).a }
+        requires within { past_leaf z i ≤ 2 ^ (params self.now.signer.now.public.set).a }
+        requires same_height { rec.old.height ≡ (params self.now.signer.now.public.set).a }
+        ensures node { result.node.items ≡ node (fors_nodes_of self.now) z i }
         ensures z { result.z ≡ z }
         ensures i { result.i ≡ i }
-        ensures gained { Gains (fors_tree_of self.now.tree)
+        ensures gained { Gains (fors_nodes_of self.now)
             (LiesInRange (first_leaf z i) (past_leaf z i) rec.old.leaf) rec.old rec.new }
     {
         let node = if rec.leaf() >> z == i {
@@ -82,18 +82,19 @@ impl<'s, 'h> SeededForsTree<'s, 'h> {
         placed
     }
 
-    /// What `hash_range` of `slh_tree` gives of the leaves from `lo` to `hi`, those below a node of height `z`.
-    #[tactic(auto, unfolding(crate::specs::Trees::fors_tree_of))]
+    /// The cover that `hash_range` of `slh_tree` returns for the leaves from `lo` to `hi`, which are those below a node
+    /// of height `z`.
+    #[tactic(auto, unfolding(crate::specs::Trees::fors_nodes_of))]
     pub(crate) fn hash_block(&self, z: u32, lo: u32, hi: u32, rec: &mut PathRec) -> Cover
-        requires height { z ≤ (params self.now.tree.seeds.set).a }
-        requires within { hi ≤ 2 ^ (params self.now.tree.seeds.set).a }
+        requires height { z ≤ (params self.now.signer.now.public.set).a }
+        requires within { hi ≤ 2 ^ (params self.now.signer.now.public.set).a }
         requires from { first_leaf z (lo / 2 ^ z) ≡ lo }
         requires to { past_leaf z (lo / 2 ^ z) ≡ hi }
-        requires same_height { rec.old.height ≡ (params self.now.tree.seeds.set).a }
-        ensures cover { IsCover (fors_tree_of self.now.tree) lo hi result.nodes.items }
+        requires same_height { rec.old.height ≡ (params self.now.signer.now.public.set).a }
+        ensures cover { IsCover (fors_nodes_of self.now) lo hi result.nodes.items }
         ensures lo { result.lo ≡ lo }
         ensures hi { result.hi ≡ hi }
-        ensures gained { Gains (fors_tree_of self.now.tree) (LiesInRange lo hi rec.old.leaf) rec.old rec.new }
+        ensures gained { Gains (fors_nodes_of self.now) (LiesInRange lo hi rec.old.leaf) rec.old rec.new }
     {
         let mut nodes = ArrayVec::new();
         nodes.push(self.noted_node(z, lo >> z, rec));

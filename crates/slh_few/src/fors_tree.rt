@@ -1,29 +1,18 @@
 //! The trees of FORS (FIPS 205, section 8.2).
-ghost use Rattle.std.specs.Prelude.{◌≡◌, ℕ, List, ◌+◌, ◌-◌, ◌*◌, ◌^◌, ◌≤◌, ◌<◌, length};
+ghost use Rattle.std.specs.Prelude.{[], ◌≡◌, ◌+◌, ◌-◌, ◌*◌, ◌^◌, ◌≤◌, ◌<◌, length};
 ghost use Rattle.slh_params.specs.Address.{address};
 ghost use Rattle.slh_params.specs.AdrsType.{type_number};
 ghost use Rattle.slh_params.specs.ParamSet.{params};
-ghost use Rattle.slh_hash.specs.Seeded.{IsSeeded};
-ghost use Rattle.slh_hash.specs.Stream.{IsSeededTree};
 ghost use Rattle.slh_few.specs.Fors.{fors_tree, fors_secret};
 ghost use Rattle.slh_few.specs.declared.fors_parts.TheConstants.{MOST_TREES};
 
+use crate::context::{HashContext, SigningContext};
 use crate::fors_parts::MOST_TREES;
+use crate::levels::{LevelTree, joined_in_turn};
+use crate::nodes::first_nodes;
 use crate::place::Seeds;
-use slh_hash::{SeededHash, SeededTreeHash};
-use slh_lanes::SeededLanes;
 use slh_params::{Adrs, AdrsType, Node};
-use slh_tree::{Leaves, Tree};
-
-/// One of the k FORS trees of a key pair.
-#[derive(Drop)]
-pub struct ForsTree<'a> {
-    pub(crate) seeds: Seeds<'a>,
-    pub(crate) idx_tree: u64,
-    pub(crate) idx_leaf: u32,
-    pub(crate) tree_no: u32,
-    ghost small: { tree_no < MOST_TREES },
-}
+use slh_tree::{Climbs, Leaves, Tree};
 
 /// The FORS address of a type, a height and an index.
 pub(crate) fn fors_adrs(
@@ -55,6 +44,189 @@ pub(crate) fn index_in_forest(tree_no: u32, levels: u32, index: u32) -> u32
     tree_no * (1 << levels) + index
 }
 
+/// The place of a FORS tree: tree `tree_no` of the key at leaf `idx_leaf` of tree `idx_tree`.
+#[derive(Clone, Copy)]
+pub struct ForsPlace {
+    pub idx_tree: u64,
+    pub idx_leaf: u32,
+    pub tree_no: u32,
+}
+
+impl ForsPlace {
+    /// The address of a type of node `i` of a height at which the tree has 2 ^ `levels` nodes.
+    pub(crate) fn adrs(&self, kind: AdrsType, height: u32, levels: u32, i: u32) -> Adrs
+        requires tree { self.now.tree_no < MOST_TREES }
+        requires levels { levels ≤ 14 }
+        requires index { i < 2 ^ levels }
+        ensures { let t = self.now in
+            result ≡ address 0 t.idx_tree (type_number kind) t.idx_leaf height (t.tree_no * 2 ^ levels + i) }
+    {
+        let index = index_in_forest(self.tree_no, levels, i);
+        fors_adrs(self.idx_tree, self.idx_leaf, kind, height, index)
+    }
+}
+
+/// The nodes of a FORS tree above its leaves, which verifying needs.
+#[derive(Drop)]
+pub struct ForsJoins<'c, 'a> {
+    pub context: &'c HashContext<'a>,
+    pub at: ForsPlace,
+    ghost small: { at.tree_no < MOST_TREES },
+}
+
+impl<'a> HashContext<'a> {
+    ghost use Rattle.slh_few.specs.Trees.{fors_joins_of};
+
+    /// Tree `tree_no` of the FORS key at leaf `idx_leaf` of tree `idx_tree`, above its leaves: of height a, with nodes
+    /// of n bytes.
+    #[tactic(auto, unfolding(crate::specs::Trees::fors_joins_of))]
+    pub fn fors_joins(&self, idx_tree: u64, idx_leaf: u32, tree_no: u32) -> ForsJoins<'_, 'a>
+        requires { tree_no < (params self.now.set).k }
+        ensures { let p = params self.now.set in let pk_seed = self.now.pk_seed.now in
+            fors_joins_of result ≡ fors_tree p [] pk_seed idx_tree idx_leaf tree_no }
+    {
+        let at = ForsPlace {
+            idx_tree,
+            idx_leaf,
+            tree_no,
+        };
+        ForsJoins { context: self, at }
+    }
+}
+
+impl<'c, 'a> Climbs for ForsJoins<'c, 'a> {
+    ghost use Rattle.slh_few.specs.Trees.{fors_joins_of, fors_joins-lawful};
+
+    ghost tree = { fors_joins_of };
+
+    ghost lawful = { fors_joins-lawful };
+
+    #[tactic(auto, using(slh_params::proofs::Bounds::a_low, slh_params::proofs::Bounds::a_high), unfolding(crate::specs::Trees::fors_joins_of))]
+    fn height(&self) -> u32 {
+        self.context.set.a()
+    }
+
+    #[tactic(auto, unfolding(crate::specs::Trees::fors_joins_of))]
+    fn join(&self, z: u32, i: u32, l: &Node, r: &Node) -> Node {
+        let levels = self.context.set.a() - z;
+        let adrs = self.at.adrs(AdrsType::ForsTree, z, levels, i);
+        self.context.h(&adrs, l, r)
+    }
+}
+
+/// So many nodes of a level at least are joined in lanes: fewer are joined one after another.
+const LEAST_IN_LANES: u32 = 3;
+
+impl<'c, 'a> LevelTree for ForsJoins<'c, 'a> {
+    #[tactic(auto, unfolding(crate::specs::Trees::fors_joins_of))]
+    fn parents(&self, z: u32, first: u32, count: u32, n: usize, below: &[u8]) -> Leaves {
+        if LEAST_IN_LANES <= count
+            && let Some(lanes) = self.context.lanes()
+        {
+            self.at
+                .parents_from_lanes(lanes, z, first, count as usize, below)
+        } else {
+            joined_in_turn(self, z, first, count, n, below)
+        }
+    }
+}
+
+/// One of the k FORS trees of a key pair, under a signer's context.
+#[derive(Drop)]
+pub struct ForsNodes<'c, 'a> {
+    pub(crate) signer: &'c SigningContext<'a>,
+    pub(crate) at: ForsPlace,
+    ghost small: { at.tree_no < MOST_TREES },
+}
+
+impl<'a> SigningContext<'a> {
+    ghost use Rattle.slh_few.specs.Trees.{fors_nodes_of};
+
+    /// Tree `tree_no` of the FORS key at leaf `idx_leaf` of tree `idx_tree`: of height a, with nodes of n bytes.
+    #[tactic(auto, unfolding(crate::specs::Trees::fors_nodes_of))]
+    pub fn fors_nodes(&self, idx_tree: u64, idx_leaf: u32, tree_no: u32) -> ForsNodes<'_, 'a>
+        requires { tree_no < (params self.now.public.set).k }
+        ensures { let p = params self.now.public.set in let pk_seed = self.now.public.pk_seed.now in
+            fors_nodes_of result ≡ fors_tree p self.now.sk_seed.now pk_seed idx_tree idx_leaf tree_no }
+    {
+        let at = ForsPlace {
+            idx_tree,
+            idx_leaf,
+            tree_no,
+        };
+        ForsNodes { signer: self, at }
+    }
+}
+
+impl<'c, 'a> ForsNodes<'c, 'a> {
+    /// The secret of leaf `i` (Algorithm 14).
+    pub(crate) fn secret(&self, i: u32) -> Node
+        requires { i < 2 ^ (params self.now.signer.now.public.set).a }
+        ensures value { let t = self.now in let p = params t.signer.now.public.set in
+            result.items ≡ fors_secret p t.signer.now.sk_seed.now t.signer.now.public.pk_seed.now
+            t.at.idx_tree t.at.idx_leaf (t.at.tree_no * 2 ^ p.a + i) }
+        ensures len { length result.items ≡ (params self.now.signer.now.public.set).n }
+    {
+        let levels = self.signer.public.set.a();
+        let adrs = self.at.adrs(AdrsType::ForsPrf, 0, levels, i);
+        self.signer.prf(&adrs)
+    }
+}
+
+impl<'c, 'a> Climbs for ForsNodes<'c, 'a> {
+    ghost use Rattle.slh_few.specs.Trees.{fors_nodes_of, fors_nodes-lawful};
+
+    ghost tree = { fors_nodes_of };
+
+    ghost lawful = { fors_nodes-lawful };
+
+    #[tactic(auto, using(slh_params::proofs::Bounds::a_low, slh_params::proofs::Bounds::a_high), unfolding(crate::specs::Trees::fors_nodes_of))]
+    fn height(&self) -> u32 {
+        self.signer.public.set.a()
+    }
+
+    #[tactic(auto, unfolding(crate::specs::Trees::fors_nodes_of, crate::specs::Trees::fors_joins_of))]
+    fn join(&self, z: u32, i: u32, l: &Node, r: &Node) -> Node {
+        let joins = ForsJoins {
+            context: &self.signer.public,
+            at: self.at,
+        };
+        joins.join(z, i, l, r)
+    }
+}
+
+impl<'c, 'a> Tree for ForsNodes<'c, 'a> {
+    #[tactic(auto, unfolding(crate::specs::Trees::fors_nodes_of))]
+    fn leaf(&self, i: u32) -> Node {
+        let public = &self.signer.public;
+        let adrs = self.at.adrs(AdrsType::ForsTree, 0, public.set.a(), i);
+        public.f(&adrs, &self.secret(i))
+    }
+
+    #[tactic(auto, unfolding(crate::specs::Trees::fors_nodes_of))]
+    fn leaves(&self, first: u32, count: u32) -> Leaves {
+        if let Some(lanes) = self.signer.lanes() {
+            let leaves = self.at.leaf_lanes(lanes, self.signer.sk_seed, first);
+            return first_nodes(&leaves, self.signer.public.set.n(), count as usize);
+        }
+        // For the prover: a tree has a height of at most 14.
+        let _highest = self.height();
+        let mut leaves = Leaves::new();
+        for j in 0..count {
+            leaves.push(self.leaf(first + j));
+        }
+        leaves
+    }
+}
+
+/// One of the k FORS trees of a key pair, by its seeds. Each call makes the midstates anew.
+#[derive(Drop)]
+pub struct ForsTree<'a> {
+    pub(crate) seeds: Seeds<'a>,
+    pub(crate) at: ForsPlace,
+    ghost small: { at.tree_no < MOST_TREES },
+}
+
 impl<'a> ForsTree<'a> {
     ghost use Rattle.slh_few.specs.Trees.{fors_tree_of};
 
@@ -67,77 +239,16 @@ impl<'a> ForsTree<'a> {
             let pk_seed = seeds.now.pk_seed.now in
             fors_tree_of result ≡ fors_tree p sk_seed pk_seed idx_tree idx_leaf tree_no }
     {
-        Self::at(seeds, idx_tree, idx_leaf, tree_no)
-    }
-
-    /// Tree `tree_no` of the FORS key at leaf `idx_leaf` of tree `idx_tree`, by its fields.
-    pub(crate) fn at(seeds: &Seeds<'a>, idx_tree: u64, idx_leaf: u32, tree_no: u32) -> Self
-        requires { tree_no < (params seeds.now.set).k }
-        ensures seeds { result.seeds ≡ seeds.now }
-        ensures idx_tree { result.idx_tree ≡ idx_tree }
-        ensures idx_leaf { result.idx_leaf ≡ idx_leaf }
-        ensures tree_no { result.tree_no ≡ tree_no }
-    {
-        ForsTree {
-            seeds: *seeds,
+        let at = ForsPlace {
             idx_tree,
             idx_leaf,
             tree_no,
-        }
-    }
-
-    /// The secret of leaf `i` (Algorithm 14).
-    pub(crate) fn secret(&self, seeded: &SeededHash, i: u32) -> Node
-        requires { i < 2 ^ (params self.now.seeds.set).a }
-        ensures value { let p = params self.now.seeds.set in let sk_seed = self.now.seeds.sk_seed.now in
-            (pk_seed : List ℕ) → IsSeeded seeded.now p pk_seed → result.items
-            ≡ fors_secret p sk_seed pk_seed self.now.idx_tree self.now.idx_leaf
-            (self.now.tree_no * 2 ^ p.a + i) }
-        ensures len { let p = params self.now.seeds.set in
-            (pk_seed : List ℕ) → IsSeeded seeded.now p pk_seed → length result.items ≡ p.n }
-    {
-        let index = index_in_forest(self.tree_no, self.seeds.set.a(), i);
-        seeded.prf(
-            self.seeds.sk_seed,
-            &fors_adrs(self.idx_tree, self.idx_leaf, AdrsType::ForsPrf, 0, index),
-        )
-    }
-
-    /// Leaf `i`: F of its secret.
-    pub(crate) fn leaf_from(&self, seeded: &SeededHash, i: u32) -> Node
-        requires { i < 2 ^ (params self.now.seeds.set).a }
-        ensures { let p = params self.now.seeds.set in let sk_seed = self.now.seeds.sk_seed.now in
-            (pk_seed : List ℕ) → IsSeeded seeded.now p pk_seed → result.items
-            ≡ (fors_tree p sk_seed pk_seed self.now.idx_tree self.now.idx_leaf self.now.tree_no).leaf i }
-    {
-        let index = index_in_forest(self.tree_no, self.seeds.set.a(), i);
-        let adrs = fors_adrs(self.idx_tree, self.idx_leaf, AdrsType::ForsTree, 0, index);
-        seeded.f(&adrs, &self.secret(seeded, i))
-    }
-
-    /// Node `i` of height `z`: H of its two children.
-    pub(crate) fn join_from(
-        &self,
-        seeded: &SeededTreeHash,
-        z: u32,
-        i: u32,
-        l: &Node,
-        r: &Node,
-    ) -> Node
-        requires height { z ≤ (params self.now.seeds.set).a }
-        requires index { i < 2 ^ ((params self.now.seeds.set).a - z) }
-        ensures { let p = params self.now.seeds.set in let sk_seed = self.now.seeds.sk_seed.now in
-            (pk_seed : List ℕ) → IsSeededTree seeded.now p pk_seed → result.items
-            ≡ (fors_tree p sk_seed pk_seed self.now.idx_tree self.now.idx_leaf self.now.tree_no).join z i
-            l.now.items r.now.items }
-    {
-        let index = index_in_forest(self.tree_no, self.seeds.set.a() - z, i);
-        let adrs = fors_adrs(self.idx_tree, self.idx_leaf, AdrsType::ForsTree, z, index);
-        seeded.h(&adrs, l, r)
+        };
+        ForsTree { seeds: *seeds, at }
     }
 }
 
-impl<'a> Tree for ForsTree<'a> {
+impl<'a> Climbs for ForsTree<'a> {
     ghost use Rattle.slh_few.specs.Trees.{fors_tree_of, fors-lawful};
 
     ghost tree = { fors_tree_of };
@@ -149,21 +260,25 @@ impl<'a> Tree for ForsTree<'a> {
         self.seeds.set.a()
     }
 
-    #[tactic(auto, unfolding(crate::specs::Trees::fors_tree_of))]
-    fn leaf(&self, i: u32) -> Node {
-        let seeded = SeededHash::new(self.seeds.set, self.seeds.pk_seed);
-        self.leaf_from(&seeded, i)
-    }
-
-    #[tactic(auto, unfolding(crate::specs::Trees::fors_tree_of))]
-    fn leaves(&self, first: u32, count: u32) -> Leaves {
-        let lanes = SeededLanes::new(self.seeds.set, self.seeds.pk_seed);
-        self.leaves_from(&lanes, first, count)
-    }
-
-    #[tactic(auto, unfolding(crate::specs::Trees::fors_tree_of))]
+    #[tactic(auto, unfolding(crate::specs::Trees::fors_tree_of, crate::specs::Trees::fors_joins_of))]
     fn join(&self, z: u32, i: u32, l: &Node, r: &Node) -> Node {
-        let seeded = SeededTreeHash::new(self.seeds.set, self.seeds.pk_seed);
-        self.join_from(&seeded, z, i, l, r)
+        let context = HashContext::new(self.seeds.set, self.seeds.pk_seed);
+        let joins = ForsJoins {
+            context: &context,
+            at: self.at,
+        };
+        joins.join(z, i, l, r)
+    }
+}
+
+impl<'a> Tree for ForsTree<'a> {
+    #[tactic(auto, unfolding(crate::specs::Trees::fors_tree_of, crate::specs::Trees::fors_nodes_of))]
+    fn leaf(&self, i: u32) -> Node {
+        let signer = SigningContext::new(&self.seeds);
+        let nodes = ForsNodes {
+            signer: &signer,
+            at: self.at,
+        };
+        nodes.leaf(i)
     }
 }

@@ -9,11 +9,9 @@ ghost use Rattle.slh_few.specs.Hypertree.{place_above, layer_place, ht_sig, ht_r
 ghost use Rattle.slh_few.specs.Parts.{part};
 ghost use Rattle.slh_few.specs.declared.hypertree.TheConstants.{MOST_XMSS_SIG_LEN};
 
+use crate::context::{HashContext, SigningContext};
 use crate::place::{Place, Public, Seeds};
-use crate::seeded_trees::SeededXmssTree;
 use crate::wots::MOST_WOTS_SIG_LEN;
-use crate::xmss::{sign_tree, xmss_pk_from_sig, xmss_sign};
-use slh_hash::SeededTreeHash;
 use slh_params::{Node, ParamSet, copy_of};
 use slh_tree::climb;
 
@@ -30,8 +28,8 @@ fn place_above(set: ParamSet, at: Place, layer: u8) -> Place
     }
 }
 
-/// The place at a layer: the tree there that is above leaf `idx_leaf` of tree `idx_tree` of layer 0,
-/// and the leaf of it (Algorithm 12, lines 7 and 8).
+/// The place at a layer (Algorithm 12, lines 7 and 8): the tree there that is above leaf `idx_leaf` of tree `idx_tree`
+/// of layer 0, and its leaf.
 pub fn layer_place(set: ParamSet, idx_tree: u64, idx_leaf: u32, layer: u8) -> Place
     requires leaf { idx_leaf < 2 ^ (params set).hp }
     ensures place { result ≡ layer_place (params set) idx_tree idx_leaf layer }
@@ -51,13 +49,15 @@ pub fn layer_place(set: ParamSet, idx_tree: u64, idx_leaf: u32, layer: u8) -> Pl
 /// At least the layers of any set.
 pub const MOST_LAYERS: usize = 65;
 
-/// The places of all d layers, from layer 0 on: the trees that stand above leaf `idx_leaf` of tree `idx_tree` of layer
-/// 0, and the leaf of each (Algorithm 12, lines 7 and 8). What stands after the d-th is not read.
+/// The places of all d layers, from layer 0 on (Algorithm 12, lines 7 and 8): the trees above leaf `idx_leaf` of tree
+/// `idx_tree` of layer 0, and the leaf of each. After the d-th, the place at layer 0 is repeated.
 pub fn layer_places(set: ParamSet, idx_tree: u64, idx_leaf: u32) -> [Place; MOST_LAYERS]
     requires { idx_leaf < 2 ^ (params set).hp }
     ensures few { (params set).d ≤ MOST_LAYERS }
     ensures places { (l : ℕ) (place : Place) → l < (params set).d
         → slice_index_or result l place ≡ layer_place (params set) idx_tree idx_leaf l }
+    ensures rest { (l : ℕ) (place : Place) → (params set).d ≤ l → l < MOST_LAYERS
+        → slice_index_or result l place ≡ layer_place (params set) idx_tree idx_leaf 0 }
 {
     let mut at = Place {
         layer: 0,
@@ -84,47 +84,76 @@ pub fn xmss_sig_len(set: ParamSet) -> usize
     (set.len() + set.hp() as usize) * set.n()
 }
 
-/// Writes the signature of one layer from `start` on.
-fn put_layer(seeds: &Seeds, at: Place, msg: &Node, out: &mut [u8], start: usize)
-    requires pair { at.pair < 2 ^ (params seeds.now.set).hp }
-    requires msg { length msg.now.items ≡ (params seeds.now.set).n }
-    requires out { start + xmss_sig_len (params seeds.now.set) ≤ length out.old }
-    ensures { let p = params seeds.now.set in let sk_seed = seeds.now.sk_seed.now in
-        let pk_seed = seeds.now.pk_seed.now in
-        take (start + xmss_sig_len p) out.new ≡ take start out.old
-        ++ xmss_sig p sk_seed pk_seed at msg.now.items }
-{
-    let end = start + xmss_sig_len(seeds.set);
-    xmss_sign(seeds, at, msg, &mut out[start..end]);
+impl<'a> SigningContext<'a> {
+    /// Writes the signature of one layer from `start` on.
+    fn put_layer(&self, at: Place, msg: &Node, out: &mut [u8], start: usize)
+        requires pair { at.pair < 2 ^ (params self.now.public.set).hp }
+        requires msg { length msg.now.items ≡ (params self.now.public.set).n }
+        requires out { start + xmss_sig_len (params self.now.public.set) ≤ length out.old }
+        ensures { let p = params self.now.public.set in let pk_seed = self.now.public.pk_seed.now in
+            take (start + xmss_sig_len p) out.new ≡ take start out.old
+            ++ xmss_sig p self.now.sk_seed.now pk_seed at msg.now.items }
+    {
+        let end = start + xmss_sig_len(self.public.set);
+        self.xmss_sign(at, msg, &mut out[start..end]);
+    }
+
+    /// Writes the signature of one layer from `start` on, and gives the root of the layer's tree, which the next layer
+    /// signs.
+    fn sign_layer(&self, at: Place, msg: &Node, out: &mut [u8], start: usize) -> Node
+        requires pair { at.pair < 2 ^ (params self.now.public.set).hp }
+        requires msg { length msg.now.items ≡ (params self.now.public.set).n }
+        requires out { start + xmss_sig_len (params self.now.public.set) ≤ length out.old }
+        ensures written { let p = params self.now.public.set in let pk_seed = self.now.public.pk_seed.now in
+            take (start + xmss_sig_len p) out.new ≡ take start out.old
+            ++ xmss_sig p self.now.sk_seed.now pk_seed at msg.now.items }
+        ensures root { let p = params self.now.public.set in let sk_seed = self.now.sk_seed.now in
+            let pk_seed = self.now.public.pk_seed.now in
+            result.items ≡ xmss_pk_from_sig p pk_seed at msg.now.items (xmss_sig p sk_seed pk_seed at msg.now.items) }
+        ensures len { length result.items ≡ (params self.now.public.set).n }
+    {
+        let set = self.public.set;
+        let end = start + xmss_sig_len(set);
+        let sig = &mut out[start..end];
+        let leaf = self.sign_tree(at, msg, sig);
+        let (_wots, auth) = sig.split_at(set.len() * set.n());
+        let tree = self.xmss_nodes(at.layer, at.tree);
+        climb(&tree, at.pair, &leaf, auth)
+    }
+
+    /// Writes the signature of a message of n bytes by leaf `idx_leaf` of tree `idx_tree` (Algorithm 12). These are the
+    /// XMSS signatures of layers 0 to d - 1, (h + d * len) * n bytes. The root that it gives is that of the top tree.
+    pub fn ht_sign(&self, idx_tree: u64, idx_leaf: u32, msg: &Node, out: &mut [u8])
+        requires tree { idx_tree < 2 ^ (h (params self.now.public.set) - (params self.now.public.set).hp) }
+        requires leaf { idx_leaf < 2 ^ (params self.now.public.set).hp }
+        requires msg { length msg.now.items ≡ (params self.now.public.set).n }
+        requires out { length out.old ≡ (params self.now.public.set).d * xmss_sig_len (params self.now.public.set) }
+        ensures signature { let p = params self.now.public.set in let pk_seed = self.now.public.pk_seed.now in
+            out.new ≡ ht_sig p self.now.sk_seed.now pk_seed msg.now.items idx_tree idx_leaf }
+        ensures key { let p = params self.now.public.set in let pk_seed = self.now.public.pk_seed.now in
+            ht_root_from_sig p pk_seed msg.now.items idx_tree idx_leaf out.new
+            ≡ root_of (xmss_tree p self.now.sk_seed.now pk_seed (p.d - 1) 0) }
+    {
+        let set = self.public.set;
+        let size = xmss_sig_len(set);
+        let top = set.d() as u8 - 1;
+        let mut at = Place {
+            layer: 0,
+            tree: idx_tree,
+            pair: idx_leaf,
+        };
+        let mut root = copy_of(msg);
+        for layer in 0..top {
+            root = self.sign_layer(at, &root, out, layer as usize * size);
+            at = place_above(set, at, layer + 1);
+        }
+        // Nothing signs the root of the top tree, so it is not computed.
+        self.put_layer(at, &root, out, top as usize * size);
+    }
 }
 
-/// Writes the signature of one layer from `start` on, and gives the root of the layer's tree, which the next layer
-/// signs.
-fn sign_layer(seeds: &Seeds, at: Place, msg: &Node, out: &mut [u8], start: usize) -> Node
-    requires pair { at.pair < 2 ^ (params seeds.now.set).hp }
-    requires msg { length msg.now.items ≡ (params seeds.now.set).n }
-    requires out { start + xmss_sig_len (params seeds.now.set) ≤ length out.old }
-    ensures written { let p = params seeds.now.set in let sk_seed = seeds.now.sk_seed.now in
-        let pk_seed = seeds.now.pk_seed.now in
-        take (start + xmss_sig_len p) out.new ≡ take start out.old
-        ++ xmss_sig p sk_seed pk_seed at msg.now.items }
-    ensures root { let p = params seeds.now.set in let sk_seed = seeds.now.sk_seed.now in
-        let pk_seed = seeds.now.pk_seed.now in
-        result.items ≡ xmss_pk_from_sig p pk_seed at msg.now.items (xmss_sig p sk_seed pk_seed at msg.now.items) }
-    ensures len { length result.items ≡ (params seeds.now.set).n }
-{
-    let end = start + xmss_sig_len(seeds.set);
-    let sig = &mut out[start..end];
-    let leaf = sign_tree(seeds, at, msg, sig);
-    let (_wots, auth) = sig.split_at(seeds.set.len() * seeds.set.n());
-    let joins = SeededTreeHash::new(seeds.set, seeds.pk_seed);
-    let tree = SeededXmssTree::new(&joins, seeds, at.layer, at.tree);
-    climb(&tree, at.pair, &leaf, auth)
-}
-
-/// Writes the signature of a message of n bytes by leaf `idx_leaf` of tree `idx_tree`: the XMSS
-/// signatures of layers 0 to d - 1, (h + d * len) * n bytes (Algorithm 12).
-/// The root that it gives is that of the top tree.
+/// Writes the signature of a message of n bytes by leaf `idx_leaf` of tree `idx_tree` (Algorithm 12). These are the
+/// XMSS signatures of layers 0 to d - 1, (h + d * len) * n bytes. The root that it gives is that of the top tree.
 pub fn ht_sign(seeds: &Seeds, idx_tree: u64, idx_leaf: u32, msg: &Node, out: &mut [u8])
     requires tree { idx_tree < 2 ^ (h (params seeds.now.set) - (params seeds.now.set).hp) }
     requires leaf { idx_leaf < 2 ^ (params seeds.now.set).hp }
@@ -138,45 +167,39 @@ pub fn ht_sign(seeds: &Seeds, idx_tree: u64, idx_leaf: u32, msg: &Node, out: &mu
         ht_root_from_sig p pk_seed msg.now.items idx_tree idx_leaf out.new
         ≡ root_of (xmss_tree p sk_seed pk_seed (p.d - 1) 0) }
 {
-    let size = xmss_sig_len(seeds.set);
-    let top = seeds.set.d() as u8 - 1;
-    let mut at = Place {
-        layer: 0,
-        tree: idx_tree,
-        pair: idx_leaf,
-    };
-    let mut root = copy_of(msg);
-    for layer in 0..top {
-        root = sign_layer(seeds, at, &root, out, layer as usize * size);
-        at = place_above(seeds.set, at, layer + 1);
-    }
-    // Nothing signs the root of the top tree, so it is not computed.
-    put_layer(seeds, at, &root, out, top as usize * size);
+    SigningContext::new(seeds).ht_sign(idx_tree, idx_leaf, msg, out);
 }
 
 /// The root that layer `layer` of a signature gives.
-fn root_from(public: &Public, at: Place, msg: &Node, sig: &[u8], layer: usize) -> Node
-    requires pair { at.pair < 2 ^ (params public.now.set).hp }
-    requires msg { length msg.now.items ≡ (params public.now.set).n }
+fn root_from(context: &HashContext, at: Place, msg: &Node, sig: &[u8], layer: usize) -> Node
+    requires pair { at.pair < 2 ^ (params context.now.set).hp }
+    requires msg { length msg.now.items ≡ (params context.now.set).n }
     requires layer { layer < 256 }
-    requires sig { let p = params public.now.set in
+    requires sig { let p = params context.now.set in
         layer * xmss_sig_len p + xmss_sig_len p ≤ length sig.now }
-    ensures value { let p = params public.now.set in let pk_seed = public.now.pk_seed.now in
+    ensures value { let p = params context.now.set in let pk_seed = context.now.pk_seed.now in
         result.items ≡ xmss_pk_from_sig p pk_seed at msg.now.items (part (xmss_sig_len p) sig.now layer) }
-    ensures len { length result.items ≡ (params public.now.set).n }
+    ensures len { length result.items ≡ (params context.now.set).n }
 {
-    let size = xmss_sig_len(public.set);
+    let size = xmss_sig_len(context.set);
     let start = layer * size;
-    xmss_pk_from_sig(public, at, msg, &sig[start..start + size])
+    context.xmss_pk_from_sig(at, msg, &sig[start..start + size])
 }
 
-/// The root of the top tree that a signature gives (Algorithm 13, lines 1 to 12).
-fn ht_root_from_sig(public: &Public, idx_tree: u64, idx_leaf: u32, msg: &Node, sig: &[u8]) -> Node
-    requires leaf { idx_leaf < 2 ^ (params public.now.set).hp }
-    requires msg { length msg.now.items ≡ (params public.now.set).n }
-    requires sig { let p = params public.now.set in
+/// The root of the top tree that a signature of a message of n bytes gives, of (h + d * len) * n bytes itself (Algorithm
+/// 13, lines 1 to 12).
+pub fn ht_root_from_sig(
+    context: &HashContext,
+    idx_tree: u64,
+    idx_leaf: u32,
+    msg: &Node,
+    sig: &[u8],
+) -> Node
+    requires leaf { idx_leaf < 2 ^ (params context.now.set).hp }
+    requires msg { length msg.now.items ≡ (params context.now.set).n }
+    requires sig { let p = params context.now.set in
         length sig.now ≡ p.d * xmss_sig_len p }
-    ensures { let p = params public.now.set in let pk_seed = public.now.pk_seed.now in
+    ensures { let p = params context.now.set in let pk_seed = context.now.pk_seed.now in
         result.items ≡ ht_root_from_sig p pk_seed msg.now.items idx_tree idx_leaf sig.now }
 {
     let mut at = Place {
@@ -185,11 +208,33 @@ fn ht_root_from_sig(public: &Public, idx_tree: u64, idx_leaf: u32, msg: &Node, s
         pair: idx_leaf,
     };
     let mut root = copy_of(msg);
-    for layer in 0..public.set.d() as u8 {
-        root = root_from(public, at, &root, sig, layer as usize);
-        at = place_above(public.set, at, layer + 1);
+    for layer in 0..context.set.d() as u8 {
+        root = root_from(context, at, &root, sig, layer as usize);
+        at = place_above(context.set, at, layer + 1);
     }
     root
+}
+
+impl<'a> HashContext<'a> {
+    /// Whether a signature of a message of n bytes, of (h + d * len) * n bytes itself, gives this root of the top tree
+    /// (Algorithm 13).
+    pub fn ht_verify(
+        &self,
+        root: &[u8],
+        idx_tree: u64,
+        idx_leaf: u32,
+        msg: &Node,
+        sig: &[u8],
+    ) -> bool
+        requires leaf { idx_leaf < 2 ^ (params self.now.set).hp }
+        requires msg { length msg.now.items ≡ (params self.now.set).n }
+        requires sig { let p = params self.now.set in length sig.now ≡ p.d * xmss_sig_len p }
+        ensures { let p = params self.now.set in let pk_seed = self.now.pk_seed.now in
+            IsTrue result ↔ ht_root_from_sig p pk_seed msg.now.items idx_tree idx_leaf sig.now ≡ root.now }
+    {
+        let node = ht_root_from_sig(self, idx_tree, idx_leaf, msg, sig);
+        node.as_slice() == root
+    }
 }
 
 /// Whether a signature of a message of n bytes, of (h + d * len) * n bytes itself, gives this root
@@ -209,6 +254,6 @@ pub fn ht_verify(
     ensures { let p = params public.now.set in let pk_seed = public.now.pk_seed.now in
         IsTrue result ↔ ht_root_from_sig p pk_seed msg.now.items idx_tree idx_leaf sig.now ≡ root.now }
 {
-    let node = ht_root_from_sig(public, idx_tree, idx_leaf, msg, sig);
-    node.as_slice() == root
+    let context = HashContext::new(public.set, public.pk_seed);
+    context.ht_verify(root, idx_tree, idx_leaf, msg, sig)
 }

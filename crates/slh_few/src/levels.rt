@@ -1,4 +1,4 @@
-//! The nodes of a tree level by level, where all leaves are there: each level takes the place of the one below it.
+//! The nodes of a tree level by level, from all its leaves (FIPS 205, Algorithm 9): each level replaces the one below.
 ghost use Rattle.std.specs.Prelude.{◌≡◌, ℕ, List, ◌+◌, ◌-◌, ◌*◌, ◌^◌, ◌<◌, ◌≤◌, length};
 ghost use Rattle.slh_tree.specs.Climb.{path};
 ghost use Rattle.slh_tree.specs.Tree.{root};
@@ -7,12 +7,12 @@ ghost use Rattle.slh_few.specs.Parts.{part};
 
 use crate::nodes::{node_at, part_at, put_part};
 use slh_params::Node;
-use slh_tree::{Leaves, MOST_LEAVES, Tree};
+use slh_tree::{Climbs, Leaves, MOST_LEAVES};
 
 /// A tree that makes several nodes of one level at once.
-pub trait LevelTree: Tree {
-    /// The nodes of height `z` from index `first` on, as many as `count`, from the nodes of the height below, which
-    /// stand end to end, each of `n` bytes.
+pub trait LevelTree: Climbs {
+    /// The nodes of height `z` from index `first` on, as many as `count`, from the nodes of the height below, end to
+    /// end, each of `n` bytes.
     fn parents(&self, z: u32, first: u32, count: u32, n: usize, below: &[u8]) -> Leaves
         requires low { 1 ≤ z }
         requires high { z ≤ (Self.tree self.now).height }
@@ -26,7 +26,7 @@ pub trait LevelTree: Tree {
 }
 
 /// The nodes that `parents` gives, joined one after another.
-pub(crate) fn joined_in_turn<T: Tree>(
+pub(crate) fn joined_in_turn<T: Climbs>(
     tree: &T,
     z: u32,
     first: u32,
@@ -92,8 +92,8 @@ fn put_level<T: LevelTree>(tree: &T, z: u32, n: usize, nodes: &mut [u8])
     }
 }
 
-/// Writes the path of leaf `idx`, as `path` of `slh_tree` does, and returns the root: from all leaves of the tree, which
-/// stand end to end in `nodes`, each of `n` bytes. The nodes above them take their place.
+/// Writes the path of leaf `idx`, as `path` of `slh_tree` does, and returns the root. The leaves of the tree are end to
+/// end in `nodes`, each of `n` bytes. `nodes` is scratch: it holds nodes above them afterwards.
 pub fn path_from_leaves<T: LevelTree>(
     tree: &T,
     idx: u32,

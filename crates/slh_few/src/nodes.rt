@@ -1,4 +1,4 @@
-//! Nodes as byte strings, and as parts of them.
+//! Nodes as byte strings, and as parts of them (ours).
 ghost use Rattle.std.specs.Prelude.{◌≡◌, ◌≢◌, ℕ, ◌+◌, ◌*◌, ◌≤◌, length};
 ghost use Rattle.slh_params.specs.Bits.{AllBytes};
 ghost use Rattle.slh_few.specs.LaneValues.{HasValues};

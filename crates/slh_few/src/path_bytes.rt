@@ -1,4 +1,4 @@
-//! Paths as bytes of a signature.
+//! Authentication paths as bytes of a signature (FIPS 205, sections 6 and 8.3).
 ghost use Rattle.std.specs.Prelude.{◌≡◌, ℕ, ◌+◌, ◌*◌, ◌<◌, ◌≤◌, ◌++◌, length, take};
 ghost use Rattle.slh_few.specs.Parts.{end_to_end};
 ghost use Rattle.slh_few.specs.Paths.{node_bytes};

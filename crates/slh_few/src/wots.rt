@@ -5,17 +5,16 @@ ghost use Rattle.slh_params.specs.AdrsType.{type_number};
 ghost use Rattle.slh_params.specs.Params.{Params, len, w};
 ghost use Rattle.slh_params.specs.ParamSet.{params};
 ghost use Rattle.slh_hash.specs.Hash.{T};
-ghost use Rattle.slh_hash.specs.Seeded.{IsSeeded};
 ghost use Rattle.slh_few.specs.Parts.{end_to_end, part};
 ghost use Rattle.slh_few.specs.Wots.{wots_address, chain as chain_of, secret, whole_chain, wots_pk, wots_sig, wots_pk_from_sig};
 ghost use Rattle.slh_few.specs.Xmss.{wots_sig_len};
 ghost use Rattle.slh_few.specs.declared.wots.TheConstants.{MOST_WOTS_SIG_LEN};
 
-use crate::lanes::{ChainNumbers, MOST_DIGITS, run_secrets, run_values};
+use crate::context::{HashContext, SigningContext};
+use crate::lanes::{ChainNumbers, MOST_DIGITS, run_secrets_in_lanes, run_values};
 use crate::nodes::{node_at, put_part};
 use crate::place::{Place, Public, Seeds};
 use crate::wots_digits::{MOST_CHAINS, digits_of};
-use slh_hash::{SeededHash, TStream};
 use slh_params::{Adrs, AdrsType, Node, ParamSet, copy_of};
 
 /// The WOTS+ address of a type at a place: a chain, and a step of it.
@@ -37,7 +36,7 @@ pub(crate) const MOST_STEPS: u32 = 256 - 1;
 
 /// Runs chain `c` on from `x`, which is its value after `from` steps.
 pub(crate) fn run_chain(
-    seeded: &SeededHash,
+    context: &HashContext,
     at: Place,
     c: u32,
     x: Node,
@@ -45,16 +44,15 @@ pub(crate) fn run_chain(
     steps: u32,
 ) -> Node
     requires { from + steps ≤ MOST_STEPS }
-    ensures value { (p : Params) (pk_seed : List ℕ) → IsSeeded seeded.now p pk_seed → result.items
-        ≡ chain_of p pk_seed at c x.items from steps }
-    ensures len { (p : Params) (pk_seed : List ℕ) → IsSeeded seeded.now p pk_seed → length x.items ≡ p.n
-        → length result.items ≡ p.n }
+    ensures value { let p = params context.now.set in let pk_seed = context.now.pk_seed.now in
+        result.items ≡ chain_of p pk_seed at c x.items from steps }
+    ensures len { length x.items ≡ (params context.now.set).n → length result.items ≡ (params context.now.set).n }
 {
     let mut adrs = wots_adrs(at, AdrsType::WotsHash, c, 0);
     let mut node = x;
     for step in 0..steps {
         adrs.set_hash(from + step);
-        node = seeded.f(&adrs, &node);
+        node = context.f(&adrs, &node);
     }
     node
 }
@@ -71,45 +69,107 @@ pub fn chain(public: &Public, at: Place, chain_no: u32, x: &Node, from: u32, ste
         ≡ chain_of p pk_seed at chain_no (chain_of p pk_seed at chain_no x.now.items from first)
         (from + first) rest }
 {
-    let seeded = SeededHash::new(public.set, public.pk_seed);
-    run_chain(&seeded, at, chain_no, copy_of(x), from, steps)
+    let context = HashContext::new(public.set, public.pk_seed);
+    run_chain(&context, at, chain_no, copy_of(x), from, steps)
 }
 
 /// At least the length of a signature in any set, and so of a value of each chain of a key: of 32 bytes each.
 pub(crate) const MOST_WOTS_SIG_LEN: usize = MOST_CHAINS * 32;
 
 /// T over the ends of all chains: the public key, n bytes (Algorithm 6, lines 10 to 13).
-pub(crate) fn compressed_ends(public: &Public, at: Place, ends: &[u8]) -> Node
-    requires { length ends.now ≡ len (params public.now.set) * (params public.now.set).n }
-    ensures value { let p = params public.now.set in
-        result.items ≡ T p public.now.pk_seed.now (wots_address at WOTS_PK 0 0) ends.now }
-    ensures len { length result.items ≡ (params public.now.set).n }
+pub(crate) fn compressed_ends(context: &HashContext, at: Place, ends: &[u8]) -> Node
+    requires { length ends.now ≡ len (params context.now.set) * (params context.now.set).n }
+    ensures value { let p = params context.now.set in
+        result.items ≡ T p context.now.pk_seed.now (wots_address at WOTS_PK 0 0) ends.now }
+    ensures len { length result.items ≡ (params context.now.set).n }
 {
     let adrs = wots_adrs(at, AdrsType::WotsPk, 0, 0);
-    let mut stream = TStream::new(public.set, public.pk_seed, &adrs);
-    for c in 0..public.set.len() {
-        stream.absorb(&node_at(ends, public.set.n(), c));
+    context.t(&adrs, ends, context.set.len())
+}
+
+/// The secret of chain `c` of the key at a place, n bytes.
+fn wots_secret(signer: &SigningContext, at: Place, c: u32) -> Node
+    ensures value { let p = params signer.now.public.set in let pk_seed = signer.now.public.pk_seed.now in
+        result.items ≡ secret p signer.now.sk_seed.now pk_seed at c }
+    ensures len { length result.items ≡ (params signer.now.public.set).n }
+{
+    signer.prf(&wots_adrs(at, AdrsType::WotsPrf, c, 0))
+}
+
+/// Writes the value of each chain of a key after its number of steps from its secret, one chain after another.
+fn run_secrets_alone(signer: &SigningContext, at: Place, counts: &ChainNumbers, out: &mut [u8])
+    requires steps { (c : ℕ) → slice_index counts.now c ≤ MOST_STEPS }
+    requires out { length out.old ≡ len (params signer.now.public.set) * (params signer.now.public.set).n }
+    ensures { let p = params signer.now.public.set in let sk_seed = signer.now.sk_seed.now in
+        let pk_seed = signer.now.public.pk_seed.now in
+        out.new ≡ end_to_end
+        (λ c. chain_of p pk_seed at c (secret p sk_seed pk_seed at c) 0 (slice_index counts.now c)) (len p) }
+{
+    let set = signer.public.set;
+    let n = set.n();
+    for c in 0..set.len() {
+        let secret = wots_secret(signer, at, c as u32);
+        let value = run_chain(&signer.public, at, c as u32, secret, 0, counts[c]);
+        put_part(out, n, c, &value);
     }
-    stream.finish()
+}
+
+/// Writes the value of each chain of a key after its number of steps from its secret. If a seed does not have n bytes,
+/// one chain is run after another.
+pub(crate) fn run_secrets(signer: &SigningContext, at: Place, counts: &ChainNumbers, out: &mut [u8])
+    requires steps { (c : ℕ) → slice_index counts.now c ≤ MOST_STEPS }
+    requires out { length out.old ≡ len (params signer.now.public.set) * (params signer.now.public.set).n }
+    ensures { let p = params signer.now.public.set in let sk_seed = signer.now.sk_seed.now in
+        let pk_seed = signer.now.public.pk_seed.now in
+        out.new ≡ end_to_end
+        (λ c. chain_of p pk_seed at c (secret p sk_seed pk_seed at c) 0 (slice_index counts.now c)) (len p) }
+{
+    match signer.lanes() {
+        None => run_secrets_alone(signer, at, counts, out),
+        Some(lanes) => run_secrets_in_lanes(lanes, signer.sk_seed, at, counts, out),
+    }
+}
+
+impl<'a> SigningContext<'a> {
+    /// The public key at a place: n bytes (Algorithm 6).
+    #[tactic(auto, using(crate::proofs::Checksum::chain_bounds))]
+    pub fn wots_pk(&self, at: Place) -> Node
+        ensures value { let p = params self.now.public.set in let pk_seed = self.now.public.pk_seed.now in
+            result.items ≡ wots_pk p self.now.sk_seed.now pk_seed at }
+        ensures len { length result.items ≡ (params self.now.public.set).n }
+    {
+        let set = self.public.set;
+        let mut buffer = [0; MOST_WOTS_SIG_LEN];
+        let ends = &mut buffer[..wots_sig_len(set)];
+        let last = [set.w() - 1; MOST_DIGITS];
+        run_secrets(self, at, &last, ends);
+        compressed_ends(&self.public, at, ends)
+    }
+
+    /// Writes the signature of a message of n bytes: len * n bytes (Algorithm 7).
+    /// The key that it gives is the public key.
+    #[tactic(auto, using(crate::proofs::Checksum::chain_bounds))]
+    pub fn wots_sign(&self, at: Place, msg: &Node, out: &mut [u8])
+        requires msg { length msg.now.items ≡ (params self.now.public.set).n }
+        requires out { length out.old ≡ len (params self.now.public.set) * (params self.now.public.set).n }
+        ensures signature { let p = params self.now.public.set in let pk_seed = self.now.public.pk_seed.now in
+            out.new ≡ wots_sig p self.now.sk_seed.now pk_seed at msg.now.items }
+        ensures key { let p = params self.now.public.set in let pk_seed = self.now.public.pk_seed.now in
+            wots_pk_from_sig p pk_seed at msg.now.items out.new ≡ wots_pk p self.now.sk_seed.now pk_seed at }
+    {
+        let digits = digits_of(self.public.set, msg);
+        run_secrets(self, at, &digits, out);
+    }
 }
 
 /// The public key at a place: n bytes (Algorithm 6).
-#[tactic(auto, using(crate::proofs::Checksum::chain_bounds))]
 pub fn wots_pk(seeds: &Seeds, at: Place) -> Node
     ensures value { let p = params seeds.now.set in let sk_seed = seeds.now.sk_seed.now in
         let pk_seed = seeds.now.pk_seed.now in
         result.items ≡ wots_pk p sk_seed pk_seed at }
     ensures len { length result.items ≡ (params seeds.now.set).n }
 {
-    let mut buffer = [0; MOST_WOTS_SIG_LEN];
-    let ends = &mut buffer[..wots_sig_len(seeds.set)];
-    let last = [seeds.set.w() - 1; MOST_DIGITS];
-    run_secrets(seeds, at, &last, ends);
-    let public = Public {
-        set: seeds.set,
-        pk_seed: seeds.pk_seed,
-    };
-    compressed_ends(&public, at, ends)
+    SigningContext::new(seeds).wots_pk(at)
 }
 
 /// The length of a signature: len * n bytes.
@@ -122,7 +182,6 @@ pub fn wots_sig_len(set: ParamSet) -> usize
 
 /// Writes the signature of a message of n bytes: len * n bytes (Algorithm 7).
 /// The key that it gives is the public key.
-#[tactic(auto, using(crate::proofs::Checksum::chain_bounds))]
 pub fn wots_sign(seeds: &Seeds, at: Place, msg: &Node, out: &mut [u8])
     requires msg { length msg.now.items ≡ (params seeds.now.set).n }
     requires out { length out.old ≡ len (params seeds.now.set) * (params seeds.now.set).n }
@@ -132,7 +191,7 @@ pub fn wots_sign(seeds: &Seeds, at: Place, msg: &Node, out: &mut [u8])
     ensures key { wots_pk_from_sig (params seeds.now.set) seeds.now.pk_seed.now at msg.now.items out.new
         ≡ wots_pk (params seeds.now.set) seeds.now.sk_seed.now seeds.now.pk_seed.now at }
 {
-    run_secrets(seeds, at, &digits_of(seeds.set, msg), out);
+    SigningContext::new(seeds).wots_sign(at, msg, out);
 }
 
 /// How many steps each chain has left from its digit to its end, with zeros after them.
@@ -150,10 +209,10 @@ fn steps_left(set: ParamSet, digits: &ChainNumbers) -> ChainNumbers
     left
 }
 
-/// Writes the value that each chain of a key has when it is run on from the value given, each from its own step and by
-/// its own number of steps, one chain after another (Algorithm 8, lines 8 to 11).
+/// Runs each chain of a key on from its value and step, by its number of steps, one chain after another, and writes the
+/// values that are reached (Algorithm 8, lines 8 to 11).
 pub(crate) fn run_values_alone(
-    public: &Public,
+    context: &HashContext,
     at: Place,
     values: &[u8],
     from: &ChainNumbers,
@@ -161,23 +220,42 @@ pub(crate) fn run_values_alone(
     out: &mut [u8],
 )
     requires steps { (c : ℕ) → c < MOST_DIGITS → slice_index from.now c + slice_index counts.now c ≤ MOST_STEPS }
-    requires values { length values.now ≡ len (params public.now.set) * (params public.now.set).n }
-    requires out { length out.old ≡ len (params public.now.set) * (params public.now.set).n }
-    ensures { let p = params public.now.set in let pk_seed = public.now.pk_seed.now in
+    requires values { length values.now ≡ len (params context.now.set) * (params context.now.set).n }
+    requires out { length out.old ≡ len (params context.now.set) * (params context.now.set).n }
+    ensures { let p = params context.now.set in let pk_seed = context.now.pk_seed.now in
         out.new ≡ end_to_end (λ c. chain_of p pk_seed at c (part p.n values.now c)
         (slice_index from.now c) (slice_index counts.now c)) (len p) }
 {
-    let seeded = SeededHash::new(public.set, public.pk_seed);
-    let n = public.set.n();
-    for c in 0..public.set.len() {
+    let set = context.set;
+    let n = set.n();
+    for c in 0..set.len() {
         let value = node_at(values, n, c);
-        let end = run_chain(&seeded, at, c as u32, value, from[c], counts[c]);
+        let end = run_chain(context, at, c as u32, value, from[c], counts[c]);
         put_part(out, n, c, &end);
     }
 }
 
+impl<'a> HashContext<'a> {
+    /// The public key that a signature of a message of n bytes gives: n bytes (Algorithm 8).
+    #[tactic(auto, using(crate::proofs::Checksum::chain_bounds))]
+    pub fn wots_pk_from_sig(&self, at: Place, msg: &Node, sig: &[u8]) -> Node
+        requires msg { length msg.now.items ≡ (params self.now.set).n }
+        requires sig { length sig.now ≡ len (params self.now.set) * (params self.now.set).n }
+        ensures value { let p = params self.now.set in let pk_seed = self.now.pk_seed.now in
+            result.items ≡ wots_pk_from_sig p pk_seed at msg.now.items sig.now }
+        ensures len { length result.items ≡ (params self.now.set).n }
+    {
+        let set = self.set;
+        let digits = digits_of(set, msg);
+        let left = steps_left(set, &digits);
+        let mut buffer = [0; MOST_WOTS_SIG_LEN];
+        let ends = &mut buffer[..wots_sig_len(set)];
+        run_values(self, at, sig, &digits, &left, ends);
+        compressed_ends(self, at, ends)
+    }
+}
+
 /// The public key that a signature of a message of n bytes gives: n bytes (Algorithm 8).
-#[tactic(auto, using(crate::proofs::Checksum::chain_bounds))]
 pub fn wots_pk_from_sig(public: &Public, at: Place, msg: &Node, sig: &[u8]) -> Node
     requires msg { length msg.now.items ≡ (params public.now.set).n }
     requires sig { length sig.now ≡ len (params public.now.set) * (params public.now.set).n }
@@ -185,10 +263,5 @@ pub fn wots_pk_from_sig(public: &Public, at: Place, msg: &Node, sig: &[u8]) -> N
         result.items ≡ wots_pk_from_sig p pk_seed at msg.now.items sig.now }
     ensures len { length result.items ≡ (params public.now.set).n }
 {
-    let digits = digits_of(public.set, msg);
-    let left = steps_left(public.set, &digits);
-    let mut buffer = [0; MOST_WOTS_SIG_LEN];
-    let ends = &mut buffer[..wots_sig_len(public.set)];
-    run_values(public, at, sig, &digits, &left, ends);
-    compressed_ends(public, at, ends)
+    HashContext::new(public.set, public.pk_seed).wots_pk_from_sig(at, msg, sig)
 }

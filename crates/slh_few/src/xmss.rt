@@ -6,17 +6,111 @@ ghost use Rattle.slh_tree.specs.Tree.{node, root as root_of};
 ghost use Rattle.slh_few.specs.Wots.{wots_pk};
 ghost use Rattle.slh_few.specs.Xmss.{xmss_tree, xmss_sig, xmss_pk_from_sig, xmss_sig_len};
 
-use crate::lanes::{can_give_leaf, sign_giving_leaf};
+use crate::context::{HashContext, SigningContext};
+use crate::lanes::sign_giving_leaf;
 use crate::place::{Place, Public, Seeds};
-use crate::seeded_trees::SeededXmssTree;
-use crate::wots::{wots_pk, wots_pk_from_sig, wots_sign};
-use slh_hash::SeededTreeHash;
+use crate::xmss_tree::XmssJoins;
 use slh_params::Node;
 use slh_tree::{climb, node, path};
 
-/// xmss_node (Algorithm 9): the node of height `z` at index `i` of tree `tree` of layer `layer`, n bytes, from its own
-/// leaves alone.
-#[tactic(auto, unfolding(crate::specs::Trees::xmss_tree_of))]
+impl<'a> SigningContext<'a> {
+    /// xmss_node (Algorithm 9): the node of height `z` at index `i` of tree `tree` of layer `layer`, n bytes, from the
+    /// leaves below it.
+    pub fn xmss_node(&self, layer: u8, tree: u64, z: u32, i: u32) -> Node
+        requires height { z ≤ (params self.now.public.set).hp }
+        requires within { past_leaf z i ≤ 2 ^ (params self.now.public.set).hp }
+        ensures value { let p = params self.now.public.set in let pk_seed = self.now.public.pk_seed.now in
+            result.items ≡ node (xmss_tree p self.now.sk_seed.now pk_seed layer tree) z i }
+        ensures len { length result.items ≡ (params self.now.public.set).n }
+    {
+        node(&self.xmss_nodes(layer, tree), z, i)
+    }
+
+    /// Writes the signature as `xmss_sign` does. The leaf that signs is not made. It is for trees of fewer than eight
+    /// leaves, and for seeds that do not have n bytes.
+    fn sign_alone(&self, at: Place, msg: &Node, out: &mut [u8])
+        requires pair { at.pair < 2 ^ (params self.now.public.set).hp }
+        requires msg { length msg.now.items ≡ (params self.now.public.set).n }
+        requires out { length out.old ≡ xmss_sig_len (params self.now.public.set) }
+        ensures { let p = params self.now.public.set in let pk_seed = self.now.public.pk_seed.now in
+            out.new ≡ xmss_sig p self.now.sk_seed.now pk_seed at msg.now.items }
+    {
+        let set = self.public.set;
+        let (wots, auth) = out.split_at_mut(set.len() * set.n());
+        self.wots_sign(at, msg, wots);
+        path(&self.xmss_nodes(at.layer, at.tree), at.pair, auth);
+    }
+
+    /// Writes the signature as `xmss_sign` does, and gives the leaf that signs. None of its chains is computed twice.
+    pub(crate) fn sign_tree(&self, at: Place, msg: &Node, out: &mut [u8]) -> Node
+        requires pair { at.pair < 2 ^ (params self.now.public.set).hp }
+        requires msg { length msg.now.items ≡ (params self.now.public.set).n }
+        requires out { length out.old ≡ xmss_sig_len (params self.now.public.set) }
+        ensures signature { let p = params self.now.public.set in let pk_seed = self.now.public.pk_seed.now in
+            out.new ≡ xmss_sig p self.now.sk_seed.now pk_seed at msg.now.items }
+        ensures leaf { let p = params self.now.public.set in let pk_seed = self.now.public.pk_seed.now in
+            result.items ≡ wots_pk p self.now.sk_seed.now pk_seed at }
+    {
+        let set = self.public.set;
+        if EIGHT_LEAVES <= set.hp()
+            && let Some(lanes) = self.lanes()
+        {
+            return sign_giving_leaf(self, lanes, at, msg, out);
+        }
+        self.sign_alone(at, msg, out);
+        let (wots, _auth) = out.split_at(set.len() * set.n());
+        self.public.wots_pk_from_sig(at, msg, wots)
+    }
+
+    /// Writes the signature of a message of n bytes: that of the leaf's WOTS+ key, then the leaf's path,
+    /// (len + h') * n bytes (Algorithm 10). The root that the signature gives is the tree's.
+    pub fn xmss_sign(&self, at: Place, msg: &Node, out: &mut [u8])
+        requires pair { at.pair < 2 ^ (params self.now.public.set).hp }
+        requires msg { length msg.now.items ≡ (params self.now.public.set).n }
+        requires out { length out.old ≡ xmss_sig_len (params self.now.public.set) }
+        ensures signature { let p = params self.now.public.set in let pk_seed = self.now.public.pk_seed.now in
+            out.new ≡ xmss_sig p self.now.sk_seed.now pk_seed at msg.now.items }
+        ensures key { let p = params self.now.public.set in let pk_seed = self.now.public.pk_seed.now in
+            xmss_pk_from_sig p pk_seed at msg.now.items out.new
+            ≡ root_of (xmss_tree p self.now.sk_seed.now pk_seed at.layer at.tree) }
+    {
+        if EIGHT_LEAVES <= self.public.set.hp()
+            && let Some(lanes) = self.lanes()
+        {
+            sign_giving_leaf(self, lanes, at, msg, out);
+        } else {
+            self.sign_alone(at, msg, out);
+        }
+    }
+}
+
+/// The height of a tree of eight leaves: from it on, the leaf that signs is made together with seven others.
+const EIGHT_LEAVES: u32 = 3;
+
+impl<'a> HashContext<'a> {
+    /// The root that a signature of a message of n bytes gives: n bytes (Algorithm 11).
+    #[tactic(auto, unfolding(crate::specs::Trees::xmss_joins_of))]
+    pub fn xmss_pk_from_sig(&self, at: Place, msg: &Node, sig: &[u8]) -> Node
+        requires pair { at.pair < 2 ^ (params self.now.set).hp }
+        requires msg { length msg.now.items ≡ (params self.now.set).n }
+        requires sig { length sig.now ≡ xmss_sig_len (params self.now.set) }
+        ensures value { let p = params self.now.set in let pk_seed = self.now.pk_seed.now in
+            result.items ≡ xmss_pk_from_sig p pk_seed at msg.now.items sig.now }
+        ensures len { length result.items ≡ (params self.now.set).n }
+    {
+        let (wots, auth) = sig.split_at(self.set.len() * self.set.n());
+        let leaf = self.wots_pk_from_sig(at, msg, wots);
+        let joins = XmssJoins {
+            context: self,
+            layer: at.layer,
+            tree: at.tree,
+        };
+        climb(&joins, at.pair, &leaf, auth)
+    }
+}
+
+/// xmss_node (Algorithm 9): the node of height `z` at index `i` of tree `tree` of layer `layer`, n bytes, from the
+/// leaves below it.
 pub fn xmss_node(seeds: &Seeds, layer: u8, tree: u64, z: u32, i: u32) -> Node
     requires height { z ≤ (params seeds.now.set).hp }
     requires within { past_leaf z i ≤ 2 ^ (params seeds.now.set).hp }
@@ -25,49 +119,7 @@ pub fn xmss_node(seeds: &Seeds, layer: u8, tree: u64, z: u32, i: u32) -> Node
         result.items ≡ node (xmss_tree p sk_seed pk_seed layer tree) z i }
     ensures len { length result.items ≡ (params seeds.now.set).n }
 {
-    let joins = SeededTreeHash::new(seeds.set, seeds.pk_seed);
-    node(&SeededXmssTree::new(&joins, seeds, layer, tree), z, i)
-}
-
-/// Writes the signature as `xmss_sign` does. The leaf that signs is not made. It is for trees of fewer than eight
-/// leaves, for which `can_give_leaf` is false.
-fn sign_alone(seeds: &Seeds, at: Place, msg: &Node, out: &mut [u8])
-    requires pair { at.pair < 2 ^ (params seeds.now.set).hp }
-    requires msg { length msg.now.items ≡ (params seeds.now.set).n }
-    requires out { length out.old ≡ xmss_sig_len (params seeds.now.set) }
-    ensures { let p = params seeds.now.set in let sk_seed = seeds.now.sk_seed.now in
-        let pk_seed = seeds.now.pk_seed.now in
-        out.new ≡ xmss_sig p sk_seed pk_seed at msg.now.items }
-{
-    let (wots, auth) = out.split_at_mut(seeds.set.len() * seeds.set.n());
-    wots_sign(seeds, at, msg, wots);
-    let joins = SeededTreeHash::new(seeds.set, seeds.pk_seed);
-    let tree = SeededXmssTree::new(&joins, seeds, at.layer, at.tree);
-    path(&tree, at.pair, auth);
-}
-
-/// Writes the signature as `xmss_sign` does, and gives the leaf that signs. None of its chains is computed twice.
-pub(crate) fn sign_tree(seeds: &Seeds, at: Place, msg: &Node, out: &mut [u8]) -> Node
-    requires pair { at.pair < 2 ^ (params seeds.now.set).hp }
-    requires msg { length msg.now.items ≡ (params seeds.now.set).n }
-    requires out { length out.old ≡ xmss_sig_len (params seeds.now.set) }
-    ensures signature { let p = params seeds.now.set in let sk_seed = seeds.now.sk_seed.now in
-        let pk_seed = seeds.now.pk_seed.now in
-        out.new ≡ xmss_sig p sk_seed pk_seed at msg.now.items }
-    ensures leaf { let p = params seeds.now.set in let sk_seed = seeds.now.sk_seed.now in
-        let pk_seed = seeds.now.pk_seed.now in
-        result.items ≡ wots_pk p sk_seed pk_seed at }
-{
-    if can_give_leaf(seeds.set) {
-        return sign_giving_leaf(seeds, at, msg, out);
-    }
-    sign_alone(seeds, at, msg, out);
-    let public = Public {
-        set: seeds.set,
-        pk_seed: seeds.pk_seed,
-    };
-    let (wots, _auth) = out.split_at(seeds.set.len() * seeds.set.n());
-    wots_pk_from_sig(&public, at, msg, wots)
+    SigningContext::new(seeds).xmss_node(layer, tree, z, i)
 }
 
 /// Writes the signature of a message of n bytes: that of the leaf's WOTS+ key, then the leaf's path,
@@ -83,11 +135,7 @@ pub fn xmss_sign(seeds: &Seeds, at: Place, msg: &Node, out: &mut [u8])
         let pk_seed = seeds.now.pk_seed.now in
         xmss_pk_from_sig p pk_seed at msg.now.items out.new ≡ root_of (xmss_tree p sk_seed pk_seed at.layer at.tree) }
 {
-    if can_give_leaf(seeds.set) {
-        sign_giving_leaf(seeds, at, msg, out);
-    } else {
-        sign_alone(seeds, at, msg, out);
-    }
+    SigningContext::new(seeds).xmss_sign(at, msg, out);
 }
 
 /// The root that a signature of a message of n bytes gives: n bytes (Algorithm 11).
@@ -99,10 +147,5 @@ pub fn xmss_pk_from_sig(public: &Public, at: Place, msg: &Node, sig: &[u8]) -> N
         result.items ≡ xmss_pk_from_sig p pk_seed at msg.now.items sig.now }
     ensures len { length result.items ≡ (params public.now.set).n }
 {
-    let (wots, auth) = sig.split_at(public.set.len() * public.set.n());
-    let leaf = wots_pk_from_sig(public, at, msg, wots);
-    let seeds = public.without_secret();
-    let joins = SeededTreeHash::new(public.set, public.pk_seed);
-    let tree = SeededXmssTree::new(&joins, &seeds, at.layer, at.tree);
-    climb(&tree, at.pair, &leaf, auth)
+    HashContext::new(public.set, public.pk_seed).xmss_pk_from_sig(at, msg, sig)
 }

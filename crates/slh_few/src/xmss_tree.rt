@@ -1,24 +1,191 @@
 //! The trees of XMSS (FIPS 205, section 6.1).
-ghost use Rattle.std.specs.Prelude.{◌≡◌, ℕ, List, ◌+◌, ◌*◌, ◌<◌};
+ghost use Rattle.std.specs.Prelude.{◌≡◌, ◌+◌, ◌≤◌, ◌<◌, ◌↔◌, ◌⊎◌, IsTrue, length};
 ghost use Rattle.slh_params.specs.ParamSet.{params};
-ghost use Rattle.slh_hash.specs.Stream.{IsSeededTree};
-ghost use Rattle.slh_few.specs.Trees.{xmss_tree_of};
-ghost use Rattle.slh_few.specs.Wots.{wots_pk};
-ghost use Rattle.slh_few.specs.Xmss.{xmss_tree};
+ghost use Rattle.slh_tree.specs.Leaves.{AreLeavesFrom};
+ghost use Rattle.slh_few.specs.Xmss.{AreKeysFrom, xmss_tree};
 
-use crate::lanes::wots_pks;
+use crate::context::{HashContext, SigningContext};
+use crate::lanes::{Nothing, eight_keys};
+use crate::levels::{LevelTree, joined_in_turn};
 use crate::place::{Place, Seeds};
 use crate::wots::wots_pk;
-use slh_hash::SeededTreeHash;
-use slh_params::{Adrs, AdrsType, Node};
-use slh_tree::{Leaves, Tree};
+use slh_lanes::GROUP;
+use slh_params::{Adrs, AdrsType, Node, copy_of};
+use slh_tree::{Climbs, Leaves, Tree};
 
-/// One tree of a layer of the hypertree. Its leaves are WOTS+ public keys (Algorithm 9).
+/// The nodes of an XMSS tree above its leaves, which verifying needs: tree `tree` of layer `layer`.
+#[derive(Drop)]
+pub struct XmssJoins<'c, 'a> {
+    pub context: &'c HashContext<'a>,
+    pub layer: u8,
+    pub tree: u64,
+}
+
+impl<'c, 'a> Climbs for XmssJoins<'c, 'a> {
+    ghost use Rattle.slh_few.specs.Trees.{xmss_joins_of, xmss_joins-lawful};
+
+    ghost tree = { xmss_joins_of };
+
+    ghost lawful = { xmss_joins-lawful };
+
+    #[tactic(auto, using(slh_params::proofs::Bounds::hp_low, slh_params::proofs::Bounds::hp_high), unfolding(crate::specs::Trees::xmss_joins_of))]
+    fn height(&self) -> u32 {
+        self.context.set.hp()
+    }
+
+    #[tactic(auto, unfolding(crate::specs::Trees::xmss_joins_of))]
+    fn join(&self, z: u32, i: u32, l: &Node, r: &Node) -> Node {
+        let mut adrs = Adrs::zero();
+        adrs.set_layer(self.layer);
+        adrs.set_tree(self.tree);
+        adrs.set_type_and_clear(AdrsType::Tree);
+        adrs.set_tree_height(z);
+        adrs.set_tree_index(i);
+        self.context.h(&adrs, l, r)
+    }
+}
+
+impl<'c, 'a> LevelTree for XmssJoins<'c, 'a> {
+    fn parents(&self, z: u32, first: u32, count: u32, n: usize, below: &[u8]) -> Leaves {
+        joined_in_turn(self, z, first, count, n, below)
+    }
+}
+
+/// One tree of a layer of the hypertree under a signer's context. Its leaves are WOTS+ public keys (Algorithm 9), of
+/// which some, one after another, may be known before.
+#[derive(Drop)]
+pub struct XmssNodes<'c, 'a> {
+    signer: &'c SigningContext<'a>,
+    layer: u8,
+    tree: u64,
+    first: u32,
+    known: Leaves,
+    ghost own: { let p = params signer.now.public.set in
+        AreLeavesFrom (xmss_tree p signer.now.sk_seed.now signer.now.public.pk_seed.now layer tree) first known.items },
+}
+
+impl<'a> SigningContext<'a> {
+    ghost use Rattle.slh_few.specs.Trees.{xmss_nodes_of};
+
+    /// Tree `tree` of layer `layer`: of height h', with nodes of n bytes.
+    pub fn xmss_nodes(&self, layer: u8, tree: u64) -> XmssNodes<'_, 'a>
+        ensures { let p = params self.now.public.set in let pk_seed = self.now.public.pk_seed.now in
+            xmss_nodes_of result ≡ xmss_tree p self.now.sk_seed.now pk_seed layer tree }
+    {
+        let at = Place {
+            layer,
+            tree,
+            pair: 0,
+        };
+        self.xmss_nodes_knowing(at, Leaves::new())
+    }
+
+    /// The tree over a place, of which the leaves from the place on are `known`.
+    #[tactic(auto, unfolding(crate::specs::Trees::xmss_nodes_of))]
+    pub(crate) fn xmss_nodes_knowing(&self, at: Place, known: Leaves) -> XmssNodes<'_, 'a>
+        requires { let p = params self.now.public.set in let pk_seed = self.now.public.pk_seed.now in
+            AreKeysFrom p self.now.sk_seed.now pk_seed at known.items }
+        ensures { let p = params self.now.public.set in let pk_seed = self.now.public.pk_seed.now in
+            xmss_nodes_of result ≡ xmss_tree p self.now.sk_seed.now pk_seed at.layer at.tree }
+    {
+        XmssNodes {
+            signer: self,
+            layer: at.layer,
+            tree: at.tree,
+            first: at.pair,
+            known,
+        }
+    }
+}
+
+impl<'c, 'a> XmssNodes<'c, 'a> {
+    /// Whether leaf `i` was made before.
+    fn knows(&self, i: u32) -> bool
+        ensures { IsTrue result ↔ (self.now.first ≤ i) × (i < self.now.first + length self.now.known.items) }
+    {
+        self.first <= i && i - self.first < self.known.len() as u32
+    }
+
+    /// Whether none of the leaves from `first` on, as many as `count`, was made before.
+    fn knows_none(&self, first: u32, count: u32) -> bool
+        requires { 0 < count }
+        ensures { IsTrue result ↔ ((first + count ≤ self.now.first)
+            ⊎ (self.now.first + length self.now.known.items ≤ first)) }
+    {
+        if self.first <= first {
+            self.known.len() as u32 <= first - self.first
+        } else {
+            count <= self.first - first
+        }
+    }
+}
+
+impl<'c, 'a> Climbs for XmssNodes<'c, 'a> {
+    ghost use Rattle.slh_few.specs.Trees.{xmss_nodes_of, xmss_nodes-lawful};
+
+    ghost tree = { xmss_nodes_of };
+
+    ghost lawful = { xmss_nodes-lawful };
+
+    #[tactic(auto, using(slh_params::proofs::Bounds::hp_low, slh_params::proofs::Bounds::hp_high), unfolding(crate::specs::Trees::xmss_nodes_of))]
+    fn height(&self) -> u32 {
+        self.signer.public.set.hp()
+    }
+
+    #[tactic(auto, unfolding(crate::specs::Trees::xmss_nodes_of, crate::specs::Trees::xmss_joins_of))]
+    fn join(&self, z: u32, i: u32, l: &Node, r: &Node) -> Node {
+        let joins = XmssJoins {
+            context: &self.signer.public,
+            layer: self.layer,
+            tree: self.tree,
+        };
+        joins.join(z, i, l, r)
+    }
+}
+
+impl<'c, 'a> Tree for XmssNodes<'c, 'a> {
+    #[tactic(auto, unfolding(crate::specs::Trees::xmss_nodes_of))]
+    fn leaf(&self, i: u32) -> Node {
+        if self.knows(i) {
+            copy_of(&self.known[(i - self.first) as usize])
+        } else {
+            self.signer.wots_pk(Place {
+                layer: self.layer,
+                tree: self.tree,
+                pair: i,
+            })
+        }
+    }
+
+    #[tactic(auto, unfolding(crate::specs::Trees::xmss_nodes_of))]
+    fn leaves(&self, first: u32, count: u32) -> Leaves {
+        // For the prover: a tree has a height of at most 14.
+        let _highest = self.height();
+        if count == GROUP as u32
+            && self.knows_none(first, count)
+            && let Some(lanes) = self.signer.lanes()
+        {
+            let at = Place {
+                layer: self.layer,
+                tree: self.tree,
+                pair: first,
+            };
+            return eight_keys(lanes, self.signer.sk_seed, at, &Nothing, &mut []);
+        }
+        let mut leaves = Leaves::new();
+        for j in 0..count {
+            leaves.push(self.leaf(first + j));
+        }
+        leaves
+    }
+}
+
+/// One tree of a layer of the hypertree, by its seeds. Each call makes the midstates anew.
 #[derive(Drop)]
 pub struct XmssTree<'a> {
-    pub(crate) seeds: Seeds<'a>,
-    pub(crate) layer: u8,
-    pub(crate) tree: u64,
+    seeds: Seeds<'a>,
+    layer: u8,
+    tree: u64,
 }
 
 impl<'a> XmssTree<'a> {
@@ -31,43 +198,15 @@ impl<'a> XmssTree<'a> {
             let pk_seed = seeds.now.pk_seed.now in
             xmss_tree_of result ≡ xmss_tree p sk_seed pk_seed layer tree }
     {
-        Self::at(seeds, layer, tree)
-    }
-
-    pub(crate) fn at(seeds: &Seeds<'a>, layer: u8, tree: u64) -> Self
-        ensures { result ≡ record { seeds = seeds.now; layer = layer; tree = tree } }
-    {
         XmssTree {
             seeds: *seeds,
             layer,
             tree,
         }
     }
-
-    /// Node `i` of height `z`: H of its two children.
-    pub(crate) fn join_from(
-        &self,
-        seeded: &SeededTreeHash,
-        z: u32,
-        i: u32,
-        l: &Node,
-        r: &Node,
-    ) -> Node
-        ensures { let p = params self.now.seeds.set in let sk_seed = self.now.seeds.sk_seed.now in
-            (pk_seed : List ℕ) → IsSeededTree seeded.now p pk_seed → result.items
-            ≡ (xmss_tree p sk_seed pk_seed self.now.layer self.now.tree).join z i l.now.items r.now.items }
-    {
-        let mut adrs = Adrs::zero();
-        adrs.set_layer(self.layer);
-        adrs.set_tree(self.tree);
-        adrs.set_type_and_clear(AdrsType::Tree);
-        adrs.set_tree_height(z);
-        adrs.set_tree_index(i);
-        seeded.h(&adrs, l, r)
-    }
 }
 
-impl<'a> Tree for XmssTree<'a> {
+impl<'a> Climbs for XmssTree<'a> {
     ghost use Rattle.slh_few.specs.Trees.{xmss_tree_of, xmss-lawful};
 
     ghost tree = { xmss_tree_of };
@@ -79,33 +218,26 @@ impl<'a> Tree for XmssTree<'a> {
         self.seeds.set.hp()
     }
 
+    #[tactic(auto, unfolding(crate::specs::Trees::xmss_tree_of, crate::specs::Trees::xmss_joins_of))]
+    fn join(&self, z: u32, i: u32, l: &Node, r: &Node) -> Node {
+        let context = HashContext::new(self.seeds.set, self.seeds.pk_seed);
+        let joins = XmssJoins {
+            context: &context,
+            layer: self.layer,
+            tree: self.tree,
+        };
+        joins.join(z, i, l, r)
+    }
+}
+
+impl<'a> Tree for XmssTree<'a> {
     #[tactic(auto, unfolding(crate::specs::Trees::xmss_tree_of))]
     fn leaf(&self, i: u32) -> Node {
-        wots_pk(
-            &self.seeds,
-            Place {
-                layer: self.layer,
-                tree: self.tree,
-                pair: i,
-            },
-        )
-    }
-
-    #[tactic(auto, unfolding(crate::specs::Trees::xmss_tree_of))]
-    fn leaves(&self, first: u32, count: u32) -> Leaves {
-        // For the prover: a tree has a height of at most 14.
-        let _highest = self.height();
         let at = Place {
             layer: self.layer,
             tree: self.tree,
-            pair: first,
+            pair: i,
         };
-        wots_pks(&self.seeds, at, count)
-    }
-
-    #[tactic(auto, unfolding(crate::specs::Trees::xmss_tree_of))]
-    fn join(&self, z: u32, i: u32, l: &Node, r: &Node) -> Node {
-        let seeded = SeededTreeHash::new(self.seeds.set, self.seeds.pk_seed);
-        self.join_from(&seeded, z, i, l, r)
+        wots_pk(&self.seeds, at)
     }
 }

@@ -1,4 +1,4 @@
--- What the hashers of H, T_l, HMAC and H_msg hold. Ours, over FIPS 205, section 11.2.
+-- The states of the hashers of H, T_l, HMAC and H_msg. Ours, over FIPS 205, section 11.2.
 use Rattle.std.specs.Prelude.{◌≡◌, ℕ, ◌-◌, List, ◌++◌, true, false, ◌==◌}
 use Rattle.sha2.specs.Hashers.{Holds256, Holds512}
 use Rattle.slh_params.specs.Address.{Address}

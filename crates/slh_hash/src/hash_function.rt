@@ -1,4 +1,4 @@
-//! What HMAC, MGF1 and the message hashes ask of a hash function.
+//! The trait of the hash functions over which HMAC, MGF1 and the message hashes run (FIPS 205, section 11.2).
 ghost use Rattle.std.specs.Prelude.{◌≡◌, ◌++◌, ◌≤◌, ℕ, List, [], length};
 ghost use Rattle.sha2.specs.Hashers.{Holds256, Holds512};
 ghost use Rattle.slh_hash.specs.HashFunctions.{HashFunction, IsSized, SHA_256, SHA_512, sized_256, sized_512};

@@ -1,6 +1,7 @@
 //! The message hashes PRF_msg and H_msg (FIPS 205, section 11.2).
 ghost use Rattle.std.specs.Prelude.{◌≡◌, ◌≤◌, ◌^◌, ◌++◌, ℕ, List, [], length};
-ghost use Rattle.slh_hash.specs.Keyed.{joined, PRF_msg, H_msg};
+ghost use Rattle.slh_hash.specs.HashFunctions.{category_function};
+ghost use Rattle.slh_hash.specs.Keyed.{joined, mgf1, PRF_msg, h_msg_seed, H_msg};
 ghost use Rattle.slh_hash.specs.Stream.{HasMessage};
 ghost use Rattle.slh_params.specs.Params.{Params, m};
 ghost use Rattle.slh_params.specs.ParamSet.{params};
@@ -51,11 +52,13 @@ impl<'a> HMsg<'a> {
         self.inner.update(piece);
     }
 
-    /// Writes the digest of the pieces put end to end, where `out` has m bytes.
+    /// Writes the digest of the pieces put end to end: H_msg if `out` has m bytes, else as many bytes of that MGF1 as
+    /// `out` has.
     pub fn finish(self, out: &mut [u8])
         requires { length out.old ≤ 2 ^ 32 }
         ensures { (p : Params) (r pk_seed pk_root msg : List ℕ) → HasMessage self.entry p r pk_seed pk_root msg
-            → length out.old ≡ m p → out.new ≡ H_msg p r pk_seed pk_root msg }
+            → out.new
+            ≡ mgf1 (category_function p) (h_msg_seed (category_function p) r pk_seed pk_root msg) (length out.old) }
     {
         let HMsg { r, pk_seed, inner } = self;
         inner.put_mgf1(r, pk_seed, out);
@@ -63,7 +66,7 @@ impl<'a> HMsg<'a> {
 }
 
 /// H_msg (section 11.2): the digest of a message, whose bytes are the parts put end to end. `out` has m bytes.
-#[tactic(auto, using(slh_params::proofs::Bounds::m_high))]
+#[tactic(auto, using(slh_params::proofs::Bounds::m_high), unfolding(crate::specs::Keyed::H_msg))]
 pub fn h_msg(
     set: ParamSet,
     r: &[u8],

@@ -1,18 +1,18 @@
--- What files, sources and sinks do, seen from outside.
+-- The effects of files, sources and sinks, seen from outside.
 use Rattle.std.specs.Prelude.{◌≡◌, ◌<◌, ◌≤◌, ◌-◌, ◌^◌, ◌⊎◌, ℕ, List, Option, Some, None, Result, MatchResult, take, drop, length, ⊤}
 use Rattle.std.specs.Io.KnownBytes.{Appends, Consumes}
 
--- a source: the bytes that are left in it, where they are known, and how often it has failed
+-- a source: the bytes that are left in it, if they are known, and how often it has failed
 pub record SourceState : Type 0 where
   pub left : Option (List ℕ)
   pub failures : ℕ
 
--- a sink: the bytes that were put into it, where they are known, and how often it has failed
+-- a sink: the bytes that were put into it, if they are known, and how often it has failed
 pub record SinkState : Type 0 where
   pub contents : Option (List ℕ)
   pub failures : ℕ
 
--- files: the bytes at a path, where they are known, and how often one has failed
+-- files: the bytes at a path, if they are known, and how often one has failed
 pub record FilesState : Type 0 where
   pub bytes_at : List ℕ → Option (List ℕ)
   pub failures : ℕ
@@ -43,6 +43,6 @@ abbrev pub EndsBy : Option (List ℕ) → ℕ → Type 0
 EndsBy None at = ⊤
 EndsBy (Some whole) at = length whole ≤ at
 
--- a text was put, or a prefix of it where a write failed
+-- a text was put, or a prefix of it if a write failed
 abbrev pub Puts : {T E : Type 0} → Option (List ℕ) → Option (List ℕ) → Result T E → List ℕ → Type 0
 Puts old new r text = MatchResult r (λ _. Appends old new text) (λ _. LetsThrough old new text)

@@ -1,7 +1,7 @@
--- Where an open file stands.
+-- The position of an open file.
 use Rattle.std.specs.Prelude.{◌≡◌, ℕ, List, drop, Option, Some, IfSome}
 
--- of known bytes, those from a place on are what is left to read
+-- of known bytes, those from a place on are left to read
 abbrev pub IsLeftFrom : Option (List ℕ) → ℕ → Option (List ℕ) → Type 0
 IsLeftFrom known at left = IfSome known (λ whole. left ≡ Some (drop at whole))
 

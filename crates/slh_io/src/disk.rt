@@ -1,3 +1,4 @@
+//! Files that are read by pieces through an opener, with a count of failures.
 ghost use Rattle.std.specs.Prelude.{◌≡◌, ◌↔◌, ◌+◌, ◌<◌, ◌≤◌, ◌^◌, IsTrue, IsOk, IfOk, OnOk, MatchResult, IfSome, IsSomeAnd, length, take};
 ghost use Rattle.std.specs.Io.{ReadsAtMost};
 ghost use Rattle.std.specs.Io.KnownBytes.{ReadConsumes};
@@ -61,16 +62,16 @@ impl<O: Opener> Disk<O> {
         }
     }
 
-    /// Reads the file at `path` from place `at` on, and goes on where the last read of that file ended.
+    /// Reads the file at `path` from place `at` on. A read that begins at the end of the last one continues it.
     fn read(&mut self, path: &str, at: u64, out: &mut [u8]) -> io::Result<usize>
         requires within { at + length out.old ≤ 2 ^ 30 + 1 }
         ensures bound { ReadsAtMost result out.new }
         ensures bytes { IfOk result (λ n. HasPart (O.bytes_at self.old.opener path.now) at (take n out.new)) }
         ensures end { IfOk result (λ n. n ≡ 0 → 0 < length out.new → EndsBy (O.bytes_at self.old.opener path.now) at) }
-        // The next read of the file begins where this one ended.
+        // The next read of the file begins at the end of this one.
         ensures place { IfOk result (λ n.
             IsSomeAnd self.new.current (λ f. (f.path.items ≡ path.now) × (f.at ≡ at + n))) }
-        // Where the file is open at that place, it is not opened again.
+        // If the file is open at that place, it is not opened again.
         ensures goes_on { IfSome self.old.current (λ f. f.path.items ≡ path.now → f.at ≡ at → 0 < at
             → IsSomeAnd self.new.current (λ g.
             ReadConsumes (O.File.remaining f.file) (O.File.remaining g.file) result out.new)) }

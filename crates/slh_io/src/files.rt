@@ -1,3 +1,4 @@
+//! The trait of files that are read by pieces.
 ghost use Rattle.std.specs.Prelude.{◌≡◌, ◌+◌, ◌<◌, ◌≤◌, ◌^◌, length, take, IfOk};
 ghost use Rattle.slh_io.specs.Devices.{CountsFailure, FilesState, HasPart, EndsBy};
 
@@ -5,11 +6,11 @@ use super::source::FetchFault;
 
 /// Files that are read by pieces.
 pub trait Files {
-    // What contracts know of the files.
+    // The state of the files, for contracts.
     ghost state: { Self → FilesState };
 
-    /// Writes the bytes of the file at `path` from place `at` on to the beginning of `out`, and says how many: 0 only
-    /// at the end of the file, or where `out` is empty.
+    /// Writes the bytes of the file at `path` from place `at` on to the beginning of `out`, and returns their number.
+    /// It is 0 only at the end of the file, or if `out` is empty.
     fn fetch(&mut self, path: &str, at: u64, out: &mut [u8]) -> Result<usize, FetchFault>
         requires within { at + length out.old ≤ 2 ^ 30 + 1 }
         ensures count { IfOk result (λ n. n ≤ length out.new) }

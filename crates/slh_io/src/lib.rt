@@ -1,5 +1,5 @@
-//! What a program reads and writes: files, a source of bytes and sinks for bytes, as traits that tell contracts
-//! which bytes were handed out or taken, and the loops over them.
+//! Files, a source of bytes and sinks for bytes, as traits, and the loops over them. Contracts state the bytes that
+//! each gave or took.
 #![tactic(auto)]
 
 pub use disk::Disk;

@@ -1,3 +1,4 @@
+//! Sinks for bytes, and writing a whole buffer.
 ghost use Rattle.std.specs.Prelude.{◌≡◌, ◌<◌, ◌≤◌, length, IfOk, OnOk, OnErr};
 ghost use Rattle.std.specs.Io.KnownBytes.{Appends, WriteAppends};
 ghost use Rattle.slh_io.specs.Devices.{CountsFailure, LetsThrough, SinkState};
@@ -9,12 +10,12 @@ use std::io::Write;
 #[derive(Clone, Copy, Debug, PartialEq, Eq)]
 pub struct WriteFault;
 
-/// What takes bytes, in any pieces.
+/// A sink, which takes bytes in any pieces.
 pub trait Sink {
-    // What contracts know of the sink.
+    // The state of the sink, for contracts.
     ghost state: { Self → SinkState };
 
-    /// Takes a prefix of the bytes, and says how many; at least one, unless there are none.
+    /// Takes a prefix of the bytes, and returns their number; at least one, unless there are none.
     fn put(&mut self, bytes: &[u8]) -> Result<usize, WriteFault>
         ensures count { IfOk result (λ n. n ≤ length bytes.now) }
         ensures some { 0 < length bytes.now → IfOk result (λ n. 0 < n) }
@@ -22,7 +23,7 @@ pub trait Sink {
         ensures failed { CountsFailure (state self.old).failures (state self.new).failures result };
 }
 
-/// Puts all the bytes, or a prefix of them where a write failed.
+/// Puts all the bytes, or a prefix of them if a write failed.
 pub fn put_all<W: Sink>(output: &mut W, bytes: &[u8]) -> Result<(), WriteFault>
     ensures ok { OnOk result (Appends (W.state output.old).contents (W.state output.new).contents bytes.now) }
     ensures err { OnErr result (LetsThrough (W.state output.old).contents (W.state output.new).contents bytes.now) }
@@ -55,7 +56,7 @@ impl<W> Writer<W> {
         }
     }
 
-    /// What was written to.
+    /// The writer below.
     pub fn into_inner(self) -> W
         ensures { result ≡ self.writer }
     {

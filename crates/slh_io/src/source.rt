@@ -1,3 +1,4 @@
+//! Sources of bytes, and reading a buffer full.
 ghost use Rattle.std.specs.Prelude.{◌≡◌, ◌<◌, ◌≤◌, length, take, IfOk};
 ghost use Rattle.std.specs.Io.KnownBytes.{Consumes, IsAtEnd, ReadConsumes};
 ghost use Rattle.slh_io.specs.Devices.{CountsFailure, SourceState, TakesAtMost};
@@ -9,20 +10,20 @@ use std::io::Read;
 #[derive(Clone, Copy, Debug, PartialEq, Eq)]
 pub struct FetchFault;
 
-/// What hands out bytes, in any pieces.
+/// A source, which gives bytes in any pieces.
 pub trait Source {
-    // What contracts know of the source.
+    // The state of the source, for contracts.
     ghost state: { Self → SourceState };
 
-    /// Writes the next bytes to the beginning of `out`, and says how many: 0 only at the end, or where `out` is empty.
+    /// Writes the next bytes to the beginning of `out`, and returns their number: 0 only at the end, or if `out` is
+    /// empty.
     fn take(&mut self, out: &mut [u8]) -> Result<usize, FetchFault>
         ensures count { IfOk result (λ n. n ≤ length out.new) }
         ensures bytes { ReadConsumes (state self.old).left (state self.new).left result out.new }
         ensures failed { CountsFailure (state self.old).failures (state self.new).failures result };
 }
 
-/// Fills the buffer, or takes what is left where that is less, and says how many bytes it took. It refuses where a
-/// read failed.
+/// Fills the buffer, or takes the rest if that is less, and returns the number of bytes. It refuses if a read failed.
 pub fn take_up_to<S: Source>(input: &mut S, room: &mut [u8]) -> Result<usize, FetchFault>
     ensures count { IfOk result (λ n. n ≤ length room.new) }
     ensures bytes { IfOk result (λ n. Consumes (S.state input.old).left (S.state input.new).left (take n room.new)) }

@@ -1,3 +1,4 @@
+//! Texts and decimal numbers, written to a sink.
 ghost use Rattle.std.specs.Prelude.{◌≡◌, ◌++◌};
 ghost use Rattle.std.specs.Fmt.{decimal};
 ghost use Rattle.slh_io.specs.Devices.{CountsFailure, Puts};
@@ -12,7 +13,7 @@ fn put_bytes<W: Sink>(output: &mut W, bytes: &[u8]) -> Result<(), WriteFault>
     put_all(output, bytes)
 }
 
-/// Puts a text, or a prefix of it where a write failed. It takes no memory.
+/// Puts a text, or a prefix of it if a write failed. It takes no memory.
 pub fn put_text<W: Sink>(output: &mut W, text: &str) -> Result<(), WriteFault>
     ensures puts { Puts (W.state output.old).contents (W.state output.new).contents result text.now }
     ensures failed { CountsFailure (W.state output.old).failures (W.state output.new).failures result }
@@ -33,7 +34,7 @@ fn put_decimal<W: Sink>(output: &mut W, n: u64) -> Result<(), WriteFault>
     put_bytes(output, &[b'0' + (n % 10) as u8])
 }
 
-/// Puts a text, a number in decimal digits and a text, or a prefix of these where a write failed. It takes no memory.
+/// Puts a text, a number in decimal digits and a text, or a prefix of these if a write failed. It takes no memory.
 pub fn put_number<W: Sink>(
     output: &mut W,
     before: &str,
@@ -49,7 +50,7 @@ pub fn put_number<W: Sink>(
     put_bytes(output, after.as_bytes())
 }
 
-/// Puts two texts, or a prefix of these where a write failed. It takes no memory.
+/// Puts two texts, or a prefix of these if a write failed. It takes no memory.
 #[tactic(auto, using(crate::proofs::Texts::ended, crate::proofs::Texts::stopped))]
 pub fn put_two<W: Sink>(output: &mut W, first: &str, second: &str) -> Result<(), WriteFault>
     ensures puts { Puts (W.state output.old).contents (W.state output.new).contents result (first.now ++ second.now) }

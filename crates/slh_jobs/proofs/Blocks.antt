@@ -8,7 +8,7 @@ use Rattle.slh_tree.specs.Tree.{MerkleTree, node, sibling}
 use Rattle.slh_tree.specs.Cover.{first_leaf, past_leaf, IsNodeOf}
 use Rattle.slh_tree.specs.declared.cover.Cover.{Cover}
 use Rattle.slh_tree.specs.declared.cover.Placed.{Placed}
-use Rattle.slh_tree.specs.Record.{KnownPath, Gains, LiesInRange}
+use Rattle.slh_tree.specs.Record.{KnownPath, LiesInRange}
 use Rattle.slh_tree.proofs.Blocks.{lies_inside, first_left_half, past_right_half}
 use Rattle.slh_tree.proofs.Branch.{half_shr, xor_even, xor_odd}
 use Rattle.slh_subtrees.specs.Gathered.{IsHashed}
@@ -72,21 +72,6 @@ pub hashed-knows :
     z ≤ t.height →
     Knows t v z r
 hashed-knows t v z c r is from to low = λ j lt. is.inside j (omega arith) (rw (from, to) (inside_block v z j lt))
-
--- and so does a record that gained the nodes of the range
-pub gained-knows :
-    (t : MerkleTree) (v z lo hi : ℕ) (old new : KnownPath) →
-    lo ≡ first_leaf z (v / 2 ^ z) →
-    hi ≡ past_leaf z (v / 2 ^ z) →
-    z ≤ t.height →
-    old.height ≡ t.height →
-    old.leaf ≡ v →
-    Gains t (LiesInRange lo hi old.leaf) old new →
-    Knows t v z new
-gained-knows t v z lo hi old new from to low height leaf gained = λ j lt.
-    let In : ℕ → Type 0 = λ x. LiesInRange lo hi x j in
-    let inside : LiesInRange lo hi old.leaf j = subst In (sym leaf) (rw (from, to) (inside_block v z j lt)) in
-    gained.noted j (omega (arith, height)) inside ∙ ap (λ x. Some (sibling t x j)) leaf
 
 -- the one node of the cover of a block is the tree's
 pub block-node :

@@ -1,4 +1,4 @@
--- What an `AllAnswers` stands for: ours.
+-- The view of an `AllAnswers`: ours.
 use Rattle.std.specs.Prelude.{ℕ, ◌*◌, List}
 use Rattle.slh_params.specs.Params.{Params}
 use Rattle.slh_params.specs.ParamSet.{params}
@@ -9,9 +9,9 @@ use Rattle.slh_subtrees.specs.declared.range.JobTree.TheVariants.{Xmss}
 use Rattle.slh_jobs.specs.Joined.{answers_given}
 use Rattle.slh_jobs.specs.declared.all_answers.AllAnswers.{AllAnswers}
 
--- the parameters, what its trees are made from, and what its answers say of them
+-- the parameters, the inputs of its trees, and the values that its answers give for them
 abbrev pub params_in : AllAnswers → Params
-params_in x = params x.signing.trees.seeds.set
+params_in x = params x.signing.trees.signer.now.public.set
 
 abbrev pub source_in : AllAnswers → TreeSource
 source_in x = source_of x.signing.trees

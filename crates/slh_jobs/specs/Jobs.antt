@@ -74,7 +74,7 @@ job_at c n =
     let z = below (shape_of c (tree_at c n)) in
     record { tree = tree_at c n; lo = first_leaf z (range_at c n); hi = past_leaf z (range_at c n) }
 
--- where the answer of a job begins among all answers end to end, and its length
+-- the place of a job's answer among all answers end to end, and its length
 abbrev pub start_of : Levels → ℕ → ℕ
 start_of c n =
     if nat_lt n (xmss_jobs c) then n * answer_len (xmss_shape c)
@@ -94,7 +94,7 @@ r_in p start = take p.n start
 abbrev pub digest_in : Params → List ℕ → List ℕ
 digest_in p start = take (m p) (drop p.n start)
 
--- what the trees of the signature are made from
+-- the inputs of the trees of the signature
 abbrev pub source : Levels → Key → List ℕ → TreeSource
 source c sk start =
     let p = params_of c in
@@ -113,14 +113,14 @@ abbrev pub tag_of : Levels → Key → List ℕ → ℕ → List ℕ → List �
 tag_of c sk start n node =
     tag (params_of c) (sk_seed sk) (sk_prf sk) (pk_seed (public_of sk)) (OfAnswer start c.xmss c.fors n node)
 
--- the HMAC has the key of the tags, and of the text of an answer's tag what stands before the number
+-- the HMAC has the key of the tags, and the part before the number of the text of an answer's tag
 abbrev pub HoldsFront : CategoryHmac → Levels → Key → List ℕ → Type 0
 HoldsFront hmac c sk start =
     IsKeyed hmac (params_of c) (tag_key (sk_seed sk) (sk_prf sk) (pk_seed (public_of sk)))
     (head 2 (params_of c) ++ start ++ (c.xmss ∷ c.fors ∷ []))
 
--- what follows the path in the answer of the range of the leaf that signs: what is kept of the chains of the leaf's key,
--- or the secret
+-- the part after the path, in the answer of the range of the leaf that signs: the checkpoints of the leaf's key, or the
+-- secret
 abbrev pub rest_of : TreeSource → JobTree → List ℕ
 rest_of s (Xmss l) = chains_of s l
 rest_of s (Fors j) = secret_of s j
@@ -130,7 +130,7 @@ abbrev pub rest_len : Params → JobTree → ℕ
 rest_len p (Xmss l) = kept_chains_len p
 rest_len p (Fors j) = p.n
 
--- the answer of range r of a tree, where `tag` gives the tag of a job's node
+-- the answer of range r of a tree, if `tag` gives the tag of a job's node
 abbrev pub tree_answer : Levels → TreeSource → (ℕ → List ℕ → List ℕ) → JobTree → ℕ → List ℕ
 tree_answer c s tag tree r =
     range_answer (tree_of s tree) (shape_of c tree) (leaf_of s tree) (rest_of s tree) (tag (first_job c tree + r)) r

@@ -1,4 +1,4 @@
--- What is made of the answers of all jobs, whatever bytes they are: ours.
+-- The results of the answers of all jobs, for any bytes: ours.
 use Rattle.std.specs.Prelude.{◌≡◌, ℕ, ◌+◌, ◌*◌, ◌/◌, ◌^◌, ◌<◌, List, ◌++◌, drop}
 use Rattle.slh_params.specs.ParamSet.{params}
 use Rattle.slh_tree.specs.Tree.{root as root_of}
@@ -23,12 +23,12 @@ abbrev pub answers_of_kind : Levels → List ℕ → JobTree → List ℕ
 answers_of_kind c bytes (Xmss l) = bytes
 answers_of_kind c bytes (Fors j) = fors_answers c bytes
 
--- what follows the path in the answer of the range of a tree's signing leaf
+-- the part after the path, in the answer of the range of a tree's signing leaf
 abbrev pub rest_in : Levels → TreeSource → List ℕ → JobTree → List ℕ
 rest_in c s bytes tree =
     rest_given (shape_of c tree) (answers_of_kind c bytes tree) (first_of_kind c tree + leaf_of s tree / 2 ^ below (shape_of c tree))
 
--- what the answers say of the trees
+-- the values that the answers give for the trees
 abbrev pub answers_given : Levels → TreeSource → List ℕ → TreeAnswers
 answers_given c s bytes = record {
   root = λ tree. root_of (upper_given (tree_of s tree) (shape_of c tree) (answers_of_kind c bytes tree) (first_of_kind c tree));

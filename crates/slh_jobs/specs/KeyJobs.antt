@@ -25,7 +25,7 @@ key_tree c sk_seed pk_seed = xmss_tree (params_of c) sk_seed pk_seed ((params_of
 abbrev pub key_tag : Levels → List ℕ → List ℕ → List ℕ → ℕ → List ℕ → List ℕ
 key_tag c sk_seed sk_prf pk_seed n node = tag (params_of c) sk_seed sk_prf pk_seed (OfKeyAnswer c.xmss n node)
 
--- the HMAC has the key of the tags, and of the text of an answer's tag what stands before the number
+-- the HMAC has the key of the tags, and the part before the number of the text of an answer's tag
 abbrev pub HoldsKeyFront : CategoryHmac → Levels → List ℕ → List ℕ → List ℕ → Type 0
 HoldsKeyFront hmac c sk_seed sk_prf pk_seed = IsKeyed hmac (params_of c) (tag_key sk_seed sk_prf pk_seed) (head 3 (params_of c) ++ (c.xmss ∷ []))
 

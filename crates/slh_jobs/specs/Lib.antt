@@ -4,6 +4,7 @@ pub mod Tags
 pub mod AnswerTags
 pub mod Jobs
 pub mod Starts
+pub mod Signers
 pub mod Joined
 pub mod AllAnswers
 pub mod KeyJobs

@@ -24,12 +24,12 @@ pub record IsShape (s : Shape) : Type 0 where
 abbrev pub answer_len : Shape → ℕ
 answer_len s = 2 * s.n + s.own
 
--- What follows the tag where a leaf v of the tree has its path in the signature: if v is one of range r, the path's
+-- The part after the tag, if a leaf v of the tree has its path in the signature: if v is one of range r, the path's
 -- nodes below the range's node, and then `rest`; else zeros.
 abbrev pub own_part : MerkleTree → Shape → ℕ → List ℕ → ℕ → List ℕ
 own_part t s v rest r = if v / 2 ^ below s == r then path_below t v (below s) ++ rest else replicate s.own 0
 
--- the answer of range r, where `tag` gives the tag of a node
+-- the answer of range r, if `tag` gives the tag of a node
 abbrev pub range_answer : MerkleTree → Shape → ℕ → List ℕ → (List ℕ → List ℕ) → ℕ → List ℕ
 range_answer t s v rest tag r = node t (below s) r ++ tag (node t (below s) r) ++ own_part t s v rest r
 
@@ -37,8 +37,7 @@ range_answer t s v rest tag r = node t (below s) r ++ tag (node t (below s) r) +
 abbrev pub given : Shape → List ℕ → ℕ → List ℕ
 given s bytes c = part (answer_len s) bytes c
 
--- What is read from it: the node, with zeros where bytes are missing, the tag, the nodes of a path, and what follows
--- them.
+-- The parts that are read from it: the node, with zeros for missing bytes, the tag, the nodes of a path, and the rest.
 abbrev pub node_given : Shape → List ℕ → ℕ → List ℕ
 node_given s bytes c = take s.n (given s bytes c ++ replicate s.n 0)
 
@@ -51,7 +50,7 @@ path_given s bytes c = take (below s * s.n) (drop (2 * s.n) (given s bytes c))
 abbrev pub rest_given : Shape → List ℕ → ℕ → List ℕ
 rest_given s bytes c = drop (below s * s.n) (drop (2 * s.n) (given s bytes c))
 
--- what the tree is above the ranges, where their nodes are those given, from answer `first` on
+-- the tree above the ranges, if their nodes are those given, from answer `first` on
 abbrev pub upper_given : MerkleTree → Shape → List ℕ → ℕ → MerkleTree
 upper_given t s bytes first = record {
   height = s.levels;

@@ -5,14 +5,14 @@ use Rattle.slh_params.specs.Params.{Params, m}
 use Rattle.slh_hash.specs.HashFunctions.{category_function}
 use Rattle.slh_hash.specs.Keyed.{hmac}
 
--- What is tagged: R and the digest of a message, which begin a signature under the key with this PK.root; the node that
--- a job of a signature answers; the node that a job of key generation answers.
+-- The tagged values: R and the digest of a message, which begin a signature under the key with this PK.root; the node
+-- that a job of a signature answers; the node that a job of key generation answers.
 pub data Tagged : Type 0 where
   OfStart : (pk_root begun : List ℕ) → Tagged
   OfAnswer : (start : List ℕ) (xmss fors job : ℕ) (node : List ℕ) → Tagged
   OfKeyAnswer : (xmss job : ℕ) (node : List ℕ) → Tagged
 
--- the number of the encoding: another where the bytes of a start or of an answer mean something else
+-- the number of the encoding: another if the bytes of a start or of an answer mean something else
 abbrev pub encoding : ℕ
 encoding = 2
 
@@ -20,11 +20,11 @@ encoding = 2
 abbrev pub six : Params → List ℕ
 six p = p.n ∷ p.lg_w ∷ p.hp ∷ p.d ∷ p.a ∷ p.k ∷ []
 
--- what a text begins with: a byte for the kind, the number of the encoding, and the six numbers
+-- the beginning of a text: a byte for the kind, the number of the encoding, and the six numbers
 abbrev pub head : ℕ → Params → List ℕ
 head kind p = kind ∷ encoding ∷ six p
 
--- The text: what it begins with, and the parts.
+-- The text: its beginning, and the parts.
 abbrev pub text : Params → Tagged → List ℕ
 text p (OfStart pk_root begun) = head 1 p ++ pk_root ++ begun
 text p (OfAnswer start xmss fors job node) = head 2 p ++ start ++ (xmss ∷ fors ∷ []) ++ to_byte job 4 ++ node
@@ -35,7 +35,7 @@ text p (OfKeyAnswer xmss job node) = head 3 p ++ (xmss ∷ []) ++ to_byte job 4 
 abbrev pub tag_key : List ℕ → List ℕ → List ℕ → List ℕ
 tag_key sk_seed sk_prf pk_seed = sk_prf ++ sk_seed ++ pk_seed ++ (1 ∷ [])
 
--- The tag of a job's node, by the key and by what stands in the text before the number of the job.
+-- The tag of a job's node, by the key and by the part of the text before the number of the job.
 abbrev pub node_tag : Params → List ℕ → List ℕ → ℕ → List ℕ → List ℕ
 node_tag p key front job node = take p.n (hmac (category_function p) key (front ++ to_byte job 4 ++ node))
 

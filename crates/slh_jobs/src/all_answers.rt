@@ -1,11 +1,11 @@
-//! What the answers of all jobs say of the trees, whatever bytes they are.
+//! The nodes that the answers of all jobs give for the trees, whatever their bytes are (ours).
 ghost use Rattle.std.specs.Prelude.{◌≡◌, ◌+◌, ◌*◌, ◌/◌, ◌^◌, ◌<◌, ◌≤◌, ◌↔◌, IsSome, IfSome, length};
 ghost use Rattle.slh_params.specs.ParamSet.{params};
-ghost use Rattle.slh_few.specs.ForsHashes.{AreSeeded};
 ghost use Rattle.slh_subtrees.specs.Jobs.{IsTreeOf};
 ghost use Rattle.slh_subtrees.specs.SigningTrees.{source_of};
 ghost use Rattle.slh_jobs.specs.Ranges.{answer_len};
 ghost use Rattle.slh_jobs.specs.Jobs.{xmss_shape, fors_shape, shape_of, xmss_jobs, fors_jobs, first_of_kind, source, rest_len, answers_len};
+ghost use Rattle.slh_jobs.specs.Signers.{IsSignerOf};
 ghost use Rattle.slh_jobs.specs.Starts.{IsStart};
 ghost use Rattle.slh_jobs.specs.AnswerTags.{AreTagsOfAnswers};
 ghost use Rattle.slh_jobs.specs.Tags.{start_len};
@@ -17,7 +17,7 @@ use crate::levels::Levels;
 use crate::signing::Signing;
 use crate::tag::{AnswerTags, tags_of_answers};
 use slh_core::SecretKey;
-use slh_few::ForsHashes;
+use slh_few::SigningContext;
 use slh_subtrees::JobTree;
 
 /// The answers of all jobs of a signature, as they are handed in.
@@ -26,27 +26,27 @@ pub(crate) struct AllAnswers<'a> {
     pub(crate) signing: Signing<'a>,
     pub(crate) xmss: AnswerBytes<'a>,
     pub(crate) fors: AnswerBytes<'a>,
-    pub(crate) hashes: ForsHashes<'a>,
     pub(crate) tags: AnswerTags,
     ghost xmss_cut: { xmss.shape ≡ xmss_shape signing.levels },
     ghost fors_cut: { fors.shape ≡ fors_shape signing.levels },
     ghost rest: { fors.bytes.now ≡ fors_answers signing.levels xmss.bytes.now },
     ghost xmss_there: { xmss_jobs signing.levels * answer_len (xmss_shape signing.levels) ≤ length xmss.bytes.now },
     ghost fors_there: { fors_jobs signing.levels * answer_len (fors_shape signing.levels) ≤ length fors.bytes.now },
-    ghost seeded: { ∥ AreSeeded hashes (params signing.trees.seeds.set) signing.trees.seeds.pk_seed.now ∥₁ },
     ghost begun: { ∥ AreTagsOfAnswers tags signing.levels signing.sk.now signing.start.now ∥₁ },
 }
 
 impl<'a> AllAnswers<'a> {
-    /// The answers of the signature by this key that `start` begins. `None` where `start` does not have its tag under
-    /// this key.
+    /// The answers of the signature by this key, whose context is `signer`, that `start` begins. `None` if `start` does
+    /// not have its tag under this key.
     pub(crate) fn new(
         levels: &Levels,
         sk: &'a SecretKey,
+        signer: &'a SigningContext<'a>,
         start: &'a [u8],
         answers: &'a [u8],
     ) -> Option<AllAnswers<'a>>
         requires set { sk.now.set ≡ levels.now.set }
+        requires signer { IsSignerOf sk.now signer.now }
         requires start { length start.now ≡ start_len (params levels.now.set) }
         requires answers { length answers.now ≡ answers_len levels.now }
         ensures some { IsSome result ↔ IsStart sk.now start.now }
@@ -57,7 +57,7 @@ impl<'a> AllAnswers<'a> {
         ensures source { IfSome result (λ answered. source_of answered.signing.trees
             ≡ source levels.now sk.now start.now) }
     {
-        let signing = Signing::new(levels, sk, start)?;
+        let signing = Signing::new(levels, sk, signer, start)?;
         let xmss = AnswerBytes {
             shape: levels.xmss_shape(),
             bytes: answers,
@@ -67,13 +67,11 @@ impl<'a> AllAnswers<'a> {
             shape: levels.fors_shape(),
             bytes: &answers[xmss_len..],
         };
-        let hashes = ForsHashes::new(signing.trees.seeds.set, signing.trees.seeds.pk_seed);
         let tags = tags_of_answers(levels, sk, start);
         Some(AllAnswers {
             signing,
             xmss,
             fors,
-            hashes,
             tags,
         })
     }
@@ -101,7 +99,7 @@ impl<'a> AllAnswers<'a> {
         self.signing.levels.first_of_kind(tree)
     }
 
-    /// What follows the path in the answer of the range of a tree's signing leaf.
+    /// The bytes after the path, in the answer of the range of a tree's signing leaf.
     pub(crate) fn rest(&self, tree: JobTree) -> &'a [u8]
         requires { IsTreeOf (params self.now.signing.levels.set) tree }
         ensures value { result.now

@@ -1,9 +1,9 @@
-//! Answers as they are handed in, bytes that nobody has looked at, and their nodes, which are copied out of them and
-//! compared with their tags.
+//! Answers as they are passed in, before any check, and their nodes, which are copied and compared with their tags
+//! (ours).
 ghost use Rattle.std.specs.Prelude.{◌≡◌, ◌↔◌, ℕ, List, ◌+◌, ◌*◌, ◌<◌, ◌≤◌, ◌^◌, IsTrue, IsSome, IfSome, length, take};
 ghost use Rattle.slh_params.specs.Params.{Params};
 ghost use Rattle.slh_hash.specs.Stream.{IsKeyed};
-ghost use Rattle.slh_few.specs.Parts.{HasParts, end_to_end};
+ghost use Rattle.slh_few.specs.Parts.{end_to_end};
 ghost use Rattle.slh_jobs.specs.Ranges.{IsShape, below, answer_len, given, node_given, tag_given, path_given, rest_given};
 ghost use Rattle.slh_lanes.specs.HmacLanes.{IsBegun};
 ghost use Rattle.slh_lanes.specs.Lanes.{value_at};
@@ -68,7 +68,7 @@ impl<'a> AnswerBytes<'a> {
         &self.answer(c)[2 * self.shape.n..][..self.shape.path_len()]
     }
 
-    /// What follows these in answer `c`.
+    /// The bytes after these in answer `c`.
     pub(crate) fn rest(&self, c: usize) -> &'a [u8]
         requires there { (c + 1) * answer_len self.now.shape ≤ length self.now.bytes.now }
         requires room { below self.now.shape * self.now.shape.n ≤ self.now.shape.own }
@@ -82,45 +82,16 @@ impl<'a> AnswerBytes<'a> {
 /// At least the length of the nodes of a tree's ranges: 256 nodes of 32 bytes.
 pub(crate) const MOST_NODES_LEN: usize = 256 * 32;
 
-/// Copies of the nodes of a tree's ranges, whose answers begin with answer `first`. Each copy was compared with the tag
-/// of its job. `judged_nodes` alone makes them, and nothing else hands out the node of an answer: so the node that is
-/// hashed is the one that was compared, even if somebody changes the bytes of the answers meanwhile.
+/// The answers of the ranges of one tree, from answer `first` on.
 #[derive(Clone, Copy)]
-pub(crate) struct JudgedNodes<'n, 'a> {
+pub(crate) struct TreeRanges<'a> {
     pub(crate) given: AnswerBytes<'a>,
     pub(crate) first: u32,
-    copies: &'n [u8],
     ghost few: { first ≤ MOST_JOBS_OF_A_KIND },
     ghost there: { (first + 2 ^ given.shape.levels) * answer_len given.shape ≤ length given.bytes.now },
-    ghost copied: { copies.now
-        ≡ end_to_end (λ r. node_given given.shape given.bytes.now (first + r)) (2 ^ given.shape.levels) },
 }
 
-impl<'n, 'a> JudgedNodes<'n, 'a> {
-    /// The node of a range.
-    pub(crate) fn node(&self, range: u32) -> Node
-        requires { range < 2 ^ self.now.given.shape.levels }
-        ensures value { result.items
-            ≡ node_given self.now.given.shape self.now.given.bytes.now (self.now.first + range) }
-        ensures len { length result.items ≡ self.now.given.shape.n }
-    {
-        let n = self.given.shape.n;
-        let start = range as usize * n;
-        node_of(&self.copies[start..start + n])
-    }
-
-    /// The nodes of all ranges, end to end.
-    pub(crate) fn all(&self) -> &'n [u8]
-        ensures nodes { HasParts self.now.given.shape.n result.now
-            (λ r. node_given self.now.given.shape self.now.given.bytes.now (self.now.first + r))
-            (2 ^ self.now.given.shape.levels) }
-        ensures len { length result.now ≡ 2 ^ self.now.given.shape.levels * self.now.given.shape.n }
-    {
-        self.copies
-    }
-}
-
-/// The node of answer `c`, where it has the tag of this job.
+/// The node of answer `c`, if it has the tag of this job.
 fn judged_node(given: &AnswerBytes, c: u32, keyed: &CategoryHmac, job: u32) -> Option<Node>
     requires { (c + 1) * answer_len given.now.shape ≤ length given.now.bytes.now }
     ensures tag { (p : Params) (key front : List ℕ) → IsKeyed keyed.now p key front
@@ -212,7 +183,7 @@ fn have_tags(given: &AnswerBytes, first: u32, r: usize, used: usize, values: &La
     true
 }
 
-/// What `judged_alone` does, of nodes of 16 bytes, eight at a time.
+/// As `judged_alone`, for nodes of 16 bytes, eight at a time.
 fn judged_in_lanes(
     given: &AnswerBytes,
     first: u32,
@@ -245,8 +216,10 @@ fn judged_in_lanes(
     true
 }
 
-/// What `judged_alone` does, eight at a time where the tags have lanes for such nodes.
-fn are_judged(
+/// Copies the nodes of a tree's ranges, whose answers begin with answer `first`. Whether each has its tag, if the first
+/// is that of job `job`. Nothing else reads the node of an answer. So the hashed node is the compared one, even if
+/// somebody changes the bytes of the answers meanwhile.
+pub(crate) fn are_judged(
     given: &AnswerBytes,
     first: u32,
     tags: &AnswerTags,
@@ -268,34 +241,4 @@ fn are_judged(
         Some(lanes) => judged_in_lanes(given, first, lanes, job, copies),
         None => judged_alone(given, first, &tags.keyed, job, copies),
     }
-}
-
-/// Copies of the nodes of a tree's ranges, whose answers begin with answer `first`, in `copies`; `None` where one has
-/// not its tag. The first of them is that of job `job`.
-pub(crate) fn judged_nodes<'n, 'a>(
-    given: &AnswerBytes<'a>,
-    first: u32,
-    tags: &AnswerTags,
-    job: u32,
-    copies: &'n mut [u8],
-) -> Option<JudgedNodes<'n, 'a>>
-    requires shape { IsShape given.now.shape }
-    requires few { first ≤ MOST_JOBS_OF_A_KIND }
-    requires job { job ≤ 2 * MOST_JOBS_OF_A_KIND }
-    requires there { (first + 2 ^ given.now.shape.levels) * answer_len given.now.shape ≤ length given.now.bytes.now }
-    requires copies { length copies.old ≡ 2 ^ given.now.shape.levels * given.now.shape.n }
-    ensures tags { (p : Params) (key front : List ℕ) → AreBegun tags.now p key front
-        → IsSome result ↔ HaveTags p key front given.now.shape given.now.bytes.now job first
-        (2 ^ given.now.shape.levels) }
-    ensures given { IfSome result (λ nodes. nodes.given ≡ given.now) }
-    ensures first { IfSome result (λ nodes. nodes.first ≡ first) }
-{
-    if !are_judged(given, first, tags, job, copies) {
-        return None;
-    }
-    Some(JudgedNodes {
-        given: *given,
-        first,
-        copies,
-    })
 }

@@ -1,4 +1,4 @@
-//! The answers of the jobs of a signature.
+//! The answers of the jobs of a signature (ours).
 ghost use Rattle.std.specs.Prelude.{◌≡◌, ◌+◌, ◌*◌, ◌/◌, ◌^◌, ◌<◌, ◌≤◌, ◌++◌, ◌↔◌, IsOk, OnOk, OnErr, Err, length, [], ◌∷◌, ℕ};
 ghost use Rattle.slh_params.specs.ParamSet.{params};
 ghost use Rattle.slh_tree.specs.Tree.{node};
@@ -25,18 +25,8 @@ use slh_params::{Node, copy_of};
 use slh_subtrees::{HashedRange, JobTree};
 
 impl<'a> Signing<'a> {
-    /// The node of a range of a tree.
-    fn range_node(&self, tree: JobTree, range: u32) -> Node
-        requires tree { IsTreeOf (params self.now.levels.set) tree }
-        requires range { range < 2 ^ (shape_of self.now.levels tree).levels }
-        ensures { result.items ≡ node (tree_in self.now.trees tree) (below (shape_of self.now.levels tree)) range }
-    {
-        self.trees
-            .node(tree, self.levels.shape(tree).below(), range)
-    }
-
-    /// What is made of the leaves from `lo` to `hi`, `hi` left out, of a tree, its signing leaf among them. Writes what
-    /// follows the path in the answer.
+    /// The result of the leaves from `lo` to before `hi` of a tree, its signing leaf among them. Writes the bytes after
+    /// the path in the answer.
     fn hashed_with_rest(&self, tree: JobTree, lo: u32, hi: u32, rest: &mut [u8]) -> HashedRange
         requires tree { IsTreeOf (params self.now.levels.set) tree }
         requires some { lo < hi }
@@ -59,7 +49,7 @@ impl<'a> Signing<'a> {
     }
 
     /// The node of the range of a tree in which its signing leaf is. Writes that leaf's path below this node, and then
-    /// what is kept of the chains of the leaf's key, or the leaf's secret.
+    /// the checkpoints of the leaf's key, or the leaf's secret.
     fn signing_node(&self, tree: JobTree, own: &mut [u8]) -> Node
         requires tree { IsTreeOf (params self.now.levels.set) tree }
         requires own { length own.old ≡ (shape_of self.now.levels tree).own }
@@ -76,7 +66,7 @@ impl<'a> Signing<'a> {
         copy_of(&hashed.cover.nodes[0].node)
     }
 
-    /// The node of a range of a tree. Writes what its answer holds beside the node and the tag.
+    /// The node of a range of a tree. Writes its answer, without the node and the tag.
     fn put_own(&self, tree: JobTree, range: u32, own: &mut [u8]) -> Node
         requires tree { IsTreeOf (params self.now.levels.set) tree }
         requires range { range < 2 ^ (shape_of self.now.levels tree).levels }
@@ -85,11 +75,12 @@ impl<'a> Signing<'a> {
         ensures own { own.new ≡ own_part (tree_in self.now.trees tree) (shape_of self.now.levels tree)
             (leaf_in self.now.trees tree) (rest_of (source_of self.now.trees) tree) range }
     {
-        if self.trees.leaf(tree) >> self.levels.shape(tree).below() == range {
+        let below = self.levels.shape(tree).below();
+        if self.trees.leaf(tree) >> below == range {
             self.signing_node(tree, own)
         } else {
             own.fill(0);
-            self.range_node(tree, range)
+            self.trees.node(tree, below, range)
         }
     }
 
@@ -131,9 +122,9 @@ impl<'a> Signing<'a> {
     }
 }
 
-/// Writes the answer of a job of the signature that `start` begins, `answer_len` bytes. It is a function of its
-/// arguments alone: any thread, in any order. Refused, with nothing written, as `BadStart` where `start` does not have
-/// its tag under this key, which is judged before the job.
+/// Writes the answer of a job of the signature that `start` begins, `answer_len` bytes. It depends only on its
+/// arguments: any thread may call it, in any order. Refused, with nothing written, as `BadStart` if `start` does not
+/// have its tag under this key, which is checked before the job.
 pub fn sign_job(
     levels: &Levels,
     sk: &SecretKey,
@@ -151,7 +142,8 @@ pub fn sign_job(
     ensures refused { OnErr result (answer.new ≡ answer.old) }
 {
     let start = copy_of_start(start);
-    let Some(signing) = Signing::new(levels, sk, start.as_slice()) else {
+    let signer = sk.signer();
+    let Some(signing) = Signing::new(levels, sk, &signer, start.as_slice()) else {
         return Err(JobFault::BadStart);
     };
     signing.put_answer(job, answer);

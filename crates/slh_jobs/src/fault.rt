@@ -1,4 +1,4 @@
-//! Why jobs are refused.
+//! The reasons why jobs are refused (ours).
 ghost use Rattle.std.specs.Prelude.{◌≡◌};
 ghost use Rattle.slh_jobs.specs.JobFault.{fault_number, fault_name};
 

@@ -1,4 +1,4 @@
-//! Key generation as jobs.
+//! Key generation as jobs (FIPS 205, Algorithm 18).
 ghost use Rattle.std.specs.Prelude.{◌≡◌, ◌↔◌, ℕ, ◌+◌, ◌*◌, ◌^◌, ◌<◌, ◌≤◌, ◌++◌, IsOk, IsSome, IfSome, IfOk, Err, length};
 ghost use Rattle.slh_params.specs.ParamSet.{params};
 ghost use Rattle.slh_tree.specs.Tree.{node};
@@ -7,16 +7,15 @@ ghost use Rattle.slh_jobs.specs.Ranges.{IsShape, below, answer_len};
 ghost use Rattle.slh_jobs.specs.KeyJobs.{key_shape, key_jobs, key_tree, key_answer, key_root, AreKeyAnswers, AreTagged};
 ghost use Rattle.slh_jobs.specs.declared.fault.JobFault.TheVariants.{BadAnswersLength};
 
-use crate::answer_bytes::{AnswerBytes, MOST_NODES_LEN, judged_nodes};
+use crate::answer_bytes::{AnswerBytes, MOST_NODES_LEN, TreeRanges, are_judged};
 use crate::fault::JobFault;
 use crate::jobs::ranges;
 use crate::levels::Levels;
 use crate::shape::Shape;
 use crate::tag::{answer_tag, keyed_for_key, tags_of_key};
-use crate::upper_tree::top_root;
+use crate::upper_tree::{top_root, xmss_joins};
 use slh_core::SecretKey;
-use slh_few::{SeededXmssTree, Seeds, xmss_node};
-use slh_hash::SeededTreeHash;
+use slh_few::{HashContext, Seeds, xmss_node};
 use slh_params::{Node, ParamSet};
 use slh_subtrees::top_layer;
 
@@ -64,8 +63,8 @@ fn key_node(levels: &Levels, sk_seed: &[u8], pk_seed: &[u8], range: u32) -> Node
     xmss_node(&seeds, top_layer(set), 0, key_shape(levels).below(), range)
 }
 
-/// Writes the answer of a job of the generation of the key of three seeds of n bytes each, 2n bytes. It is a function
-/// of its arguments alone: any thread, in any order.
+/// Writes the answer of a job of the generation of the key of three seeds of n bytes each, 2n bytes. It depends only on
+/// its arguments: any thread may call it, in any order.
 pub fn keygen_job(
     levels: &Levels,
     sk_seed: &[u8],
@@ -88,7 +87,7 @@ pub fn keygen_job(
     second.copy_from_slice(&answer_tag(&keyed, job, &node));
 }
 
-/// The root that the answers give, of n bytes; `None` where a node has not its tag. Each node is read once: the copy
+/// The root that the answers give, of n bytes; `None` if a node does not have its tag. Each node is read once: the copy
 /// that is compared is hashed.
 fn judged_root(
     levels: &Levels,
@@ -111,24 +110,23 @@ fn judged_root(
     let tags = tags_of_key(levels, sk_seed, sk_prf, pk_seed);
     let mut copies = [0; MOST_NODES_LEN];
     let copies = &mut copies[..keygen_jobs(levels) as usize * set.n()];
-    let Some(nodes) = judged_nodes(given, 0, &tags, 0, copies) else {
+    if !are_judged(given, 0, &tags, 0, copies) {
         return None;
+    }
+    let context = HashContext::new(set, pk_seed);
+    let tree = xmss_joins(&context, top_layer(set), 0);
+    let own = TreeRanges {
+        given: *given,
+        first: 0,
     };
-    let seeds = Seeds {
-        set,
-        sk_seed,
-        pk_seed,
-    };
-    let joins = SeededTreeHash::new(set, pk_seed);
-    let tree = SeededXmssTree::new(&joins, &seeds, top_layer(set), 0);
-    Some(top_root(&tree, &nodes))
+    Some(top_root(&tree, &own, copies))
 }
 
-/// The secret key of three seeds of n bytes each (FIPS 205, Algorithm 18), from the answers of all jobs, put end to end
-/// in the order of the jobs: where each answer is what `keygen_job` writes, that of `keygen_internal` of `slh_core`.
+/// The secret key of three seeds of n bytes each (FIPS 205, Algorithm 18), from the answers of all jobs, end to end in
+/// the order of the jobs. If each answer is that of `keygen_job`, it is the key of `keygen_internal` of `slh_core`.
 ///
-/// The answers may be any bytes. Refused: `BadAnswersLength` where they have not 2n bytes for each job;
-/// `AnswersDisagree` where a node has not the tag of its job under these seeds and these levels.
+/// The answers may be any bytes. Refused: `BadAnswersLength` unless they have 2n bytes for each job; `AnswersDisagree`
+/// if a node does not have the tag of its job under these seeds and these levels.
 pub fn keygen_join(
     levels: &Levels,
     sk_seed: &[u8],

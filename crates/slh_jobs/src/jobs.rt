@@ -1,4 +1,4 @@
-//! The jobs of a signature, and where their answers stand.
+//! The jobs of a signature, and the places of their answers (ours).
 ghost use Rattle.std.specs.Prelude.{◌≡◌, ℕ, ◌+◌, ◌*◌, ◌^◌, ◌<◌, ◌≤◌, Some, slice_get};
 ghost use Rattle.slh_jobs.specs.Ranges.{IsShape};
 ghost use Rattle.slh_params.specs.ParamSet.{params};
@@ -126,8 +126,8 @@ pub(crate) fn ranges(levels: u32) -> u32
     1 << levels
 }
 
-/// The law that levels are a cutting: job n is that of the same number of `slh_subtrees`, where the trees are cut by
-/// these levels. It does nothing: the law is its contract.
+/// The law that levels are a cutting: job n is job n of `slh_subtrees`, if the trees are cut by these levels. It does
+/// nothing: the law is its contract.
 pub fn levels_are_a_cutting()
     ensures { (c : Levels) (n : ℕ) → n < jobs c → slice_get (signing_jobs (cut_by c)) n ≡ Some (job_at c n) }
 {}
@@ -141,7 +141,7 @@ pub fn sign_jobs(levels: &Levels) -> u32
     levels.xmss_jobs() + levels.fors_jobs()
 }
 
-/// Where the answer of a job begins among the answers of all jobs, put end to end, in bytes.
+/// The place of a job's answer among the answers of all jobs, end to end, in bytes.
 pub fn answer_start(levels: &Levels, job: u32) -> usize
     requires { job < jobs levels.now }
     ensures { result ≡ start_of levels.now job }

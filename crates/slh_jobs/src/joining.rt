@@ -1,4 +1,4 @@
-//! The signature from the answers of all jobs.
+//! The signature from the answers of all jobs (FIPS 205, Algorithm 19).
 ghost use Rattle.std.specs.Prelude.{◌≡◌, ◌↔◌, ℕ, List, ◌+◌, ◌*◌, ◌<◌, ◌≤◌, ◌++◌, IsTrue, IsOk, OnOk, OnErr, Err, length, take};
 ghost use Rattle.slh_params.specs.Params.{sig_len};
 ghost use Rattle.slh_params.specs.ParamSet.{params};
@@ -29,20 +29,23 @@ use slh_params::{Node, node_of};
 /// At least the length of a FORS signature in any set: 64 trees, of each a secret and 14 nodes of 32 bytes.
 const MOST_FORS_SIG_LEN: usize = 64 * (1 + 14) * 32;
 
-/// At least the length of what the layers of any set sign: 65 nodes of 32 bytes.
+/// At least the length of the values that the layers of any set sign: 65 nodes of 32 bytes.
 const MOST_SIGNED_LEN: usize = 65 * 32;
 
 /// At least the length of the paths of all layers in any set: 76 nodes of 32 bytes.
 const MOST_PATHS_LEN: usize = 76 * 32;
 
-/// Answers that fit together, with what each layer signs, n bytes each, and the path of each layer's leaf, both as they
-/// were compared. Even if somebody changes the bytes of the answers meanwhile, each layer signs what was compared, and
-/// each path is the one that was compared.
+/// Answers that fit together, with the FORS signature, the value that each layer signs, n bytes each, and the path of
+/// each layer's leaf. All are as they were compared. Even if somebody changes the bytes of the answers meanwhile, these
+/// are signed.
 #[derive(Drop)]
 struct Judged<'j, 'a> {
     answered: &'j AllAnswers<'a>,
+    sig_fors: &'j [u8],
     signed: &'j [u8],
     paths: &'j [u8],
+    ghost sig_fors_is: { sig_fors.now ≡ sig_fors_by (source_in answered.now) (answers_in answered.now) },
+    ghost sig_fors_len: { length sig_fors.now ≡ (params_in answered.now).k * fors_part_len (params_in answered.now) },
     ghost signed_is: { signed.now
         ≡ end_to_end (signed_by (source_in answered.now) (answers_in answered.now)) (params_in answered.now).d },
     ghost signed_len: { length signed.now ≡ (params_in answered.now).d * (params_in answered.now).n },
@@ -54,14 +57,15 @@ struct Judged<'j, 'a> {
 }
 
 impl<'j, 'a> Judged<'j, 'a> {
-    /// What a layer signs.
+    /// The value that a layer signs.
     fn signed(&self, layer: u8) -> Node
         requires { layer < (params_in self.now.answered.now).d }
         ensures value { result.items
             ≡ signed_by (source_in self.now.answered.now) (answers_in self.now.answered.now) layer }
         ensures len { length result.items ≡ (params_in self.now.answered.now).n }
     {
-        let n = self.answered.signing.trees.seeds.set.n();
+        let answered = self.answered;
+        let n = answered.signing.trees.signer.public.set.n();
         let start = layer as usize * n;
         node_of(&self.signed[start..start + n])
     }
@@ -72,13 +76,14 @@ impl<'j, 'a> Judged<'j, 'a> {
         ensures value { result.now ≡ path_in self.now.answered.now layer }
         ensures len { length result.now ≡ path_len_in self.now.answered.now }
     {
-        let set = self.answered.signing.trees.seeds.set;
+        let answered = self.answered;
+        let set = answered.signing.trees.signer.public.set;
         let size = set.hp() as usize * set.n();
         let start = layer as usize * size;
         &self.paths[start..start + size]
     }
 
-    /// Writes what a layer adds to the signature: the WOTS+ signature of what it signs, and the path (FIPS 205,
+    /// Writes a layer's part of the signature: the WOTS+ signature of the value that it signs, and the path (FIPS 205,
     /// Algorithm 10).
     fn put_layer(&self, layer: u8, out: &mut [u8])
         requires layer { layer < (params_in self.now.answered.now).d }
@@ -86,12 +91,14 @@ impl<'j, 'a> Judged<'j, 'a> {
         ensures { let s = source_in self.now.answered.now in let a = answers_in self.now.answered.now in
             out.new ≡ layer_part_by s a layer (signed_by s a layer) }
     {
-        let (wots, auth) = out.split_at_mut(wots_sig_len(self.answered.signing.trees.seeds.set));
-        self.answered.put_wots(layer, &self.signed(layer), wots);
+        let answered = self.answered;
+        let set = answered.signing.trees.signer.public.set;
+        let (wots, auth) = out.split_at_mut(wots_sig_len(set));
+        answered.put_wots(layer, &self.signed(layer), wots);
         auth.copy_from_slice(self.path(layer));
     }
 
-    /// Writes what `put_layer` writes, from `start` on.
+    /// As `put_layer`, from `start` on.
     fn put_layer_at(&self, layer: u8, out: &mut [u8], start: usize)
         requires layer { layer < (params_in self.now.answered.now).d }
         requires out { start + xmss_sig_len (params_in self.now.answered.now) ≤ length out.old }
@@ -101,7 +108,8 @@ impl<'j, 'a> Judged<'j, 'a> {
             take (start + xmss_sig_len (params_in self.now.answered.now)) out.new
             ≡ take start out.old ++ layer_part_by s a layer (signed_by s a layer) }
     {
-        let end = start + xmss_sig_len(self.answered.signing.trees.seeds.set);
+        let answered = self.answered;
+        let end = start + xmss_sig_len(answered.signing.trees.signer.public.set);
         self.put_layer(layer, &mut out[start..end]);
     }
 
@@ -111,49 +119,34 @@ impl<'j, 'a> Judged<'j, 'a> {
             ≡ (params_in self.now.answered.now).d * xmss_sig_len (params_in self.now.answered.now) }
         ensures { out.new ≡ sig_ht_by (source_in self.now.answered.now) (answers_in self.now.answered.now) }
     {
-        let set = self.answered.signing.trees.seeds.set;
+        let answered = self.answered;
+        let set = answered.signing.trees.signer.public.set;
         let size = xmss_sig_len(set);
         for layer in 0..set.d() as u8 {
             self.put_layer_at(layer, out, layer as usize * size);
         }
     }
+
+    /// Writes the signature.
+    fn put_signature(&self, out: &mut [u8])
+        requires { length out.old ≡ sig_len (params_in self.now.answered.now) }
+        ensures { let x = self.now.answered.now in out.new ≡ r_in (params_in x) x.signing.start.now
+            ++ (sig_fors_by (source_in x) (answers_in x) ++ sig_ht_by (source_in x) (answers_in x)) }
+    {
+        let answered = self.answered;
+        let signing = &answered.signing;
+        let set = signing.trees.signer.public.set;
+        let n = set.n();
+        let (front, rest) = out.split_at_mut(n);
+        front.copy_from_slice(&signing.start[..n]);
+        let (fors, sig_ht) = rest.split_at_mut(fors_sig_len(set));
+        fors.copy_from_slice(self.sig_fors);
+        self.put_layers(sig_ht);
+    }
 }
 
 impl<'a> AllAnswers<'a> {
-    /// Writes the signature, from the FORS signature, what the layers sign and their paths, as they were judged.
-    fn put_signature(&self, sig_fors: &[u8], signed: &[u8], paths: &[u8], out: &mut [u8])
-        requires sig_fors { sig_fors.now ≡ sig_fors_by (source_in self.now) (answers_in self.now) }
-        requires fors_len { length sig_fors.now
-            ≡ (params_in self.now).k * fors_part_len (params_in self.now) }
-        requires signed { signed.now
-            ≡ end_to_end (signed_by (source_in self.now) (answers_in self.now)) (params_in self.now).d }
-        requires signed_len { length signed.now
-            ≡ (params_in self.now).d * (params_in self.now).n }
-        requires paths { paths.now
-            ≡ end_to_end (path_in self.now) (params_in self.now).d }
-        requires path_lens { (l : ℕ) → l < (params_in self.now).d
-            → length (path_in self.now l) ≡ path_len_in self.now }
-        requires paths_len { length paths.now ≡ (params_in self.now).d * path_len_in self.now }
-        requires out { length out.old ≡ sig_len (params_in self.now) }
-        ensures { out.new ≡ r_in (params_in self.now) self.now.signing.start.now
-            ++ (sig_fors_by (source_in self.now) (answers_in self.now)
-            ++ sig_ht_by (source_in self.now) (answers_in self.now)) }
-    {
-        let set = self.signing.trees.seeds.set;
-        let n = set.n();
-        let (front, rest) = out.split_at_mut(n);
-        front.copy_from_slice(&self.signing.start[..n]);
-        let (fors, sig_ht) = rest.split_at_mut(fors_sig_len(set));
-        fors.copy_from_slice(sig_fors);
-        let judged = Judged {
-            answered: self,
-            signed,
-            paths,
-        };
-        judged.put_layers(sig_ht);
-    }
-
-    /// Whether the answers fit together. Where they do, the signature is written, after that verdict.
+    /// Whether the answers fit together. If they do, the signature is written, after that verdict.
     fn join(&self, out: &mut [u8]) -> bool
         requires { length out.old ≡ sig_len (params_in self.now) }
         ensures fit { let t = self.now.signing in
@@ -167,7 +160,7 @@ impl<'a> AllAnswers<'a> {
             ++ sig_ht_by (source_in self.now) (answers_in self.now)) }
         ensures refused { (IsTrue result → ⊥) → out.new ≡ out.old }
     {
-        let set = self.signing.trees.seeds.set;
+        let set = self.signing.trees.signer.public.set;
         let mut fors = [0; MOST_FORS_SIG_LEN];
         let fors = &mut fors[..fors_sig_len(set)];
         let mut signed = [0; MOST_SIGNED_LEN];
@@ -177,18 +170,24 @@ impl<'a> AllAnswers<'a> {
         if !self.judge(fors, signed, paths) {
             return false;
         }
-        self.put_signature(fors, signed, paths, out);
+        let judged = Judged {
+            answered: self,
+            sig_fors: fors,
+            signed,
+            paths,
+        };
+        judged.put_signature(out);
         true
     }
 }
 
-/// Writes the signature that `start` begins, `sig_len` bytes, from the answers of all its jobs, put end to end in the
-/// order of the jobs: where each answer is what `sign_job` writes, the bytes of `Form::sign` of `slh_core`. Whatever
-/// the answers are, what is written is a valid signature of the message that `start` was made of, under this key.
+/// Writes the signature that `start` begins, `sig_len` bytes, from the answers of all its jobs, end to end in the order
+/// of the jobs. If each answer is that of `sign_job`, these are the bytes of `Form::sign` of `slh_core`. For any
+/// answers, the written bytes are a valid signature of the message of `start`, under this key.
 ///
-/// The answers may be any bytes. Refused, with nothing written, in this order: `BadAnswersLength` where they are not
-/// `answers_len`; `BadStart` where `start` does not have its tag under this key; `AnswersDisagree` where they don't fit
-/// together. All of it is judged before anything is written, and what was compared is what is signed.
+/// The answers may be any bytes. Refused, with nothing written, in this order: `BadAnswersLength` if they are not
+/// `answers_len`; `BadStart` if `start` does not have its tag under this key; `AnswersDisagree` if they don't fit
+/// together. All checks are before the first write, and the compared values are the signed ones.
 pub fn sign_join(
     levels: &Levels,
     sk: &SecretKey,
@@ -220,7 +219,8 @@ pub fn sign_join(
         return Err(JobFault::BadAnswersLength);
     }
     let start = copy_of_start(start);
-    let Some(answered) = AllAnswers::new(levels, sk, start.as_slice(), answers) else {
+    let signer = sk.signer();
+    let Some(answered) = AllAnswers::new(levels, sk, &signer, start.as_slice(), answers) else {
         return Err(JobFault::BadStart);
     };
     if answered.join(out) {

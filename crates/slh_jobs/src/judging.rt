@@ -1,8 +1,8 @@
-//! Whether the answers of all jobs fit together.
+//! The check that the answers of all jobs fit together (ours).
 ghost use Rattle.std.specs.Prelude.{◌≡◌, ◌↔◌, ℕ, ◌+◌, ◌*◌, ◌<◌, ◌≤◌, ◌++◌, IsTrue, IsSome, IfSome, length, take};
 ghost use Rattle.slh_few.specs.Fors.{fors_part_len};
 ghost use Rattle.slh_few.specs.KeptChains.{wots_sig_from};
-ghost use Rattle.slh_few.specs.Parts.{HasParts, end_to_end};
+ghost use Rattle.slh_few.specs.Parts.{end_to_end};
 ghost use Rattle.slh_few.specs.Xmss.{wots_sig_len, xmss_sig_len};
 ghost use Rattle.slh_core.specs.Keys.{public_of, pk_root};
 ghost use Rattle.slh_subtrees.specs.Assembled.{fors_part_by, signed_by, layer_part_by, sig_fors_by};
@@ -12,25 +12,19 @@ ghost use Rattle.slh_jobs.specs.Joined.{NodesFit, ForsFits, LayerFits, AreFittin
 ghost use Rattle.slh_jobs.specs.AllAnswers.{params_in, source_in, answers_in, path_in, path_len_in};
 
 use crate::all_answers::AllAnswers;
-use crate::answer_bytes::{MOST_NODES_LEN, judged_nodes};
+use crate::answer_bytes::{MOST_NODES_LEN, TreeRanges, are_judged};
 use crate::jobs::ranges;
 use crate::tag::{are_same, have_same_bytes};
-use crate::upper_tree::put_auth;
-use slh_few::{
-    MOST_TREES, MOST_XMSS_SIG_LEN, SeededForsTree, SeededXmssTree, fors_part_len, fors_roots,
-    put_fors_roots, wots_sig_len, wots_sign_kept, xmss_pk_from_sig, xmss_sig_len,
-};
+use crate::upper_tree::{put_auth, xmss_joins};
+use slh_few::{MOST_XMSS_SIG_LEN, fors_part_len, wots_sig_len, xmss_sig_len};
 use slh_params::{Node, copy_of, node_of, put_node};
-use slh_subtrees::JobTree;
-
-/// At least the length of the roots of all FORS trees in any set.
-const MOST_ROOTS_LEN: usize = MOST_TREES * 32;
+use slh_subtrees::{JobTree, MOST_ROOTS_LEN, roots_len};
 
 impl<'a> AllAnswers<'a> {
     /// Writes the path of a tree's signing leaf, and returns the root that the nodes of the tree's ranges give; `None`
-    /// where one of these has not the tag of its job. The nodes are read once: in this one pass they are copied,
-    /// compared and hashed.
-    // The copies take 8 KB, which are not to lie below the hashing of WOTS+ keys on the stack.
+    /// if one of these has not the tag of its job. The nodes are read once: in this one pass they are copied, compared
+    /// and hashed.
+    // The copies take 8 KB of the stack, which are released before WOTS+ keys are hashed.
     #[inline(never)]
     fn put_path(&self, tree: JobTree, out: &mut [u8]) -> Option<Node>
         requires tree { IsTreeOf (params_in self.now) tree }
@@ -47,32 +41,31 @@ impl<'a> AllAnswers<'a> {
         let job = self.signing.levels.first_job(tree);
         let mut copies = [0; MOST_NODES_LEN];
         let copies = &mut copies[..ranges(given.shape.levels) as usize * given.shape.n];
-        let Some(nodes) = judged_nodes(given, first, &self.tags, job, copies) else {
+        if !are_judged(given, first, &self.tags, job, copies) {
             return None;
+        }
+        let own = TreeRanges {
+            given: *given,
+            first,
         };
         let leaf = trees.leaf(tree);
+        let context = &trees.signer.public;
         Some(match tree {
             JobTree::Xmss(layer) => {
                 let at = trees.layer_place(layer);
-                let xmss = SeededXmssTree::new(self.hashes.joins(), &trees.seeds, layer, at.tree);
-                put_auth(&xmss, &nodes, leaf, out)
+                let xmss = xmss_joins(context, layer, at.tree);
+                put_auth(&xmss, &own, leaf, copies, out)
             }
             JobTree::Fors(number) => {
                 let (idx_tree, idx_leaf) = (trees.idx_tree, trees.idx_leaf);
-                let fors = SeededForsTree::new(
-                    &self.hashes,
-                    &trees.seeds,
-                    idx_tree,
-                    idx_leaf,
-                    number,
-                );
-                put_auth(&fors, &nodes, leaf, out)
+                let fors = context.fors_joins(idx_tree, idx_leaf, number);
+                put_auth(&fors, &own, leaf, copies, out)
             }
         })
     }
 
-    /// Writes what a FORS tree adds to the signature, and returns the root that the tree's ranges give; `None` where one
-    /// of their nodes has not its tag.
+    /// Writes a FORS tree's part of the signature, and returns the root that the tree's ranges give; `None` if one of
+    /// their nodes does not have its tag.
     fn put_fors_part(&self, number: u32, part: &mut [u8]) -> Option<Node>
         requires tree { number < (params_in self.now).k }
         requires out { length part.old ≡ fors_part_len (params_in self.now) }
@@ -82,7 +75,7 @@ impl<'a> AllAnswers<'a> {
         ensures root { IfSome result (λ root. root.items ≡ (answers_in self.now).root (JobTree.Fors number)) }
         ensures len { IfSome result (λ root. length root.items ≡ (params_in self.now).n) }
     {
-        let (secret, auth) = part.split_at_mut(self.signing.trees.seeds.set.n());
+        let (secret, auth) = part.split_at_mut(self.signing.trees.signer.public.set.n());
         secret.copy_from_slice(self.rest(JobTree::Fors(number)));
         self.put_path(JobTree::Fors(number), auth)
     }
@@ -100,48 +93,47 @@ impl<'a> AllAnswers<'a> {
         ensures root { IfSome result (λ root. root.items ≡ (answers_in self.now).root (JobTree.Fors number)) }
         ensures len { IfSome result (λ root. length root.items ≡ (params_in self.now).n) }
     {
-        let end = start + fors_part_len(self.signing.trees.seeds.set);
+        let end = start + fors_part_len(self.signing.trees.signer.public.set);
         self.put_fors_part(number, &mut out[start..end])
     }
 
-    /// Writes the FORS signature, and the roots that the ranges of its trees give, n bytes each. Returns T over these;
-    /// `None` where a node has not its tag.
-    fn put_fors(&self, sig_fors: &mut [u8], tops: &mut [u8]) -> Option<Node>
+    /// Writes the FORS signature, and the roots that the ranges of its trees give, n bytes each. Whether each node of
+    /// these ranges has its tag.
+    fn put_fors(&self, sig_fors: &mut [u8], tops: &mut [u8]) -> bool
         requires sig_fors { length sig_fors.old ≡ (params_in self.now).k * fors_part_len (params_in self.now) }
         requires tops { length tops.old ≡ (params_in self.now).k * (params_in self.now).n }
-        ensures tags { let t = self.now.signing in IsSome result ↔ ((j : ℕ) → j < (params_in self.now).k
+        ensures tags { let t = self.now.signing in IsTrue result ↔ ((j : ℕ) → j < (params_in self.now).k
             → NodesFit t.levels t.sk.now t.start.now self.now.xmss.bytes.now (JobTree.Fors j)) }
-        ensures pk_fors { IfSome result (λ key. key.items ≡ signed_by (source_in self.now) (answers_in self.now) 0) }
-        ensures len { IfSome result (λ key. length key.items ≡ (params_in self.now).n) }
-        ensures parts { IsSome result → (j : ℕ) → j < (params_in self.now).k
+        ensures parts { IsTrue result → (j : ℕ) → j < (params_in self.now).k
             → length (fors_part_by (answers_in self.now) j) ≡ fors_part_len (params_in self.now) }
-        ensures sig_fors { IsSome result → sig_fors.new ≡ sig_fors_by (source_in self.now) (answers_in self.now) }
-        ensures tops { IsSome result → HasParts (params_in self.now).n tops.new
-            (λ j. (answers_in self.now).root (JobTree.Fors j)) (params_in self.now).k }
+        ensures sig_fors { IsTrue result → sig_fors.new ≡ sig_fors_by (source_in self.now) (answers_in self.now) }
+        ensures tops { IsTrue result → tops.new
+            ≡ end_to_end (λ j. (answers_in self.now).root (JobTree.Fors j)) (params_in self.now).k }
+        ensures widths { IsTrue result → (j : ℕ) → j < (params_in self.now).k
+            → length ((answers_in self.now).root (JobTree.Fors j)) ≡ (params_in self.now).n }
     {
-        let trees = &self.signing.trees;
-        let set = trees.seeds.set;
+        let set = self.signing.trees.signer.public.set;
         let (n, size) = (set.n(), fors_part_len(set));
-        let mut roots = fors_roots(&trees.public(), trees.idx_tree, trees.idx_leaf);
         for j in 0..set.k() {
             let Some(root) = self.put_fors_part_at(j, sig_fors, j as usize * size) else {
-                return None;
+                return false;
             };
             put_node(tops, j as usize * n, &root);
-            roots.absorb(&root);
         }
-        Some(roots.finish())
+        true
     }
 
     /// Whether the secret and the path of each FORS tree give the root that the tree's ranges give.
-    // The buffer is not to lie below `put_path` on the stack.
+    // The buffer is released before `put_path` runs.
     #[inline(never)]
     fn fors_roots_fit(&self, sig_fors: &[u8], tops: &[u8]) -> bool
         requires sig_fors { sig_fors.now ≡ sig_fors_by (source_in self.now) (answers_in self.now) }
         requires parts { (j : ℕ) → j < (params_in self.now).k
             → length (fors_part_by (answers_in self.now) j) ≡ fors_part_len (params_in self.now) }
-        requires tops { HasParts (params_in self.now).n tops.now
-            (λ j. (answers_in self.now).root (JobTree.Fors j)) (params_in self.now).k }
+        requires tops { tops.now
+            ≡ end_to_end (λ j. (answers_in self.now).root (JobTree.Fors j)) (params_in self.now).k }
+        requires widths { (j : ℕ) → j < (params_in self.now).k
+            → length ((answers_in self.now).root (JobTree.Fors j)) ≡ (params_in self.now).n }
         requires len { length tops.now ≡ (params_in self.now).k * (params_in self.now).n }
         ensures { IsTrue result
             ↔ ((j : ℕ) → j < (params_in self.now).k → ForsFits (source_in self.now) (answers_in self.now) j) }
@@ -149,21 +141,15 @@ impl<'a> AllAnswers<'a> {
         let trees = &self.signing.trees;
         let mut buffer = [0; MOST_ROOTS_LEN];
         let climbed = &mut buffer[..tops.len()];
-        put_fors_roots(
-            &self.hashes,
-            &trees.public(),
-            trees.idx_tree,
-            trees.idx_leaf,
-            trees.md,
-            sig_fors,
-            climbed,
-        );
+        let (idx_tree, idx_leaf) = (trees.idx_tree, trees.idx_leaf);
+        let public = &trees.signer.public;
+        public.put_fors_roots(idx_tree, idx_leaf, trees.md, sig_fors, climbed);
         have_same_bytes(climbed, tops)
     }
 
-    /// Writes the FORS signature, and returns T over the roots that the ranges give; `None` where a node has not its
-    /// tag, or in some tree the secret and the path give another root.
-    // The buffer is not to lie below the hashing of WOTS+ keys on the stack.
+    /// Writes the FORS signature, and returns T over the roots that the ranges give; `None` if a node has not its tag,
+    /// or in some tree the secret and the path give another root.
+    // The buffer is released before WOTS+ keys are hashed.
     #[inline(never)]
     pub(crate) fn judge_fors(&self, sig_fors: &mut [u8]) -> Option<Node>
         requires { length sig_fors.old
@@ -181,20 +167,17 @@ impl<'a> AllAnswers<'a> {
             → length (fors_part_by (answers_in self.now) j) ≡ fors_part_len (params_in self.now) }
         ensures sig_fors { IsSome result → sig_fors.new ≡ sig_fors_by (source_in self.now) (answers_in self.now) }
     {
-        let set = self.signing.trees.seeds.set;
+        let trees = &self.signing.trees;
+        let public = &trees.signer.public;
         let mut buffer = [0; MOST_ROOTS_LEN];
-        let tops = &mut buffer[..set.k() as usize * set.n()];
-        let Some(pk_fors) = self.put_fors(sig_fors, tops) else {
+        let tops = &mut buffer[..roots_len(public.set)];
+        if !self.put_fors(sig_fors, tops) || !self.fors_roots_fit(sig_fors, tops) {
             return None;
-        };
-        if self.fors_roots_fit(sig_fors, tops) {
-            Some(pk_fors)
-        } else {
-            None
         }
+        Some(public.fors_pk(trees.idx_tree, trees.idx_leaf, tops))
     }
 
-    /// Writes the WOTS+ signature of `msg` by the key that signs on the layer, from what is kept of its chains.
+    /// Writes the WOTS+ signature of `msg` by the key that signs on the layer, from its checkpoints.
     pub(crate) fn put_wots(&self, layer: u8, msg: &Node, out: &mut [u8])
         requires layer { layer < (params_in self.now).d }
         requires msg { length msg.now.items ≡ (params_in self.now).n }
@@ -204,12 +187,13 @@ impl<'a> AllAnswers<'a> {
     {
         let trees = &self.signing.trees;
         let kept = self.rest(JobTree::Xmss(layer));
-        wots_sign_kept(&trees.seeds, trees.layer_place(layer), msg, kept, out);
+        let at = trees.layer_place(layer);
+        trees.signer.public.wots_sign_kept(at, msg, kept, out);
     }
 
-    /// Writes the path of the layer's leaf, and returns the root that the ranges of the layer's tree give. `None` where
+    /// Writes the path of the layer's leaf, and returns the root that the ranges of the layer's tree give. `None` if
     /// one of their nodes has not its tag, or the layer signs `msg` and its key and path give another root.
-    // The buffer is not to lie below the FORS trees' `put_path` on the stack.
+    // The buffer is released before the FORS trees' `put_path` runs.
     #[inline(never)]
     fn layer_root(&self, layer: u8, msg: &Node, path: &mut [u8]) -> Option<Node>
         requires layer { layer < (params_in self.now).d }
@@ -227,7 +211,7 @@ impl<'a> AllAnswers<'a> {
         ensures len { IfSome result (λ root. length root.items ≡ (params_in self.now).n) }
     {
         let trees = &self.signing.trees;
-        let set = trees.seeds.set;
+        let set = trees.signer.public.set;
         let Some(root) = self.put_path(JobTree::Xmss(layer), path) else {
             return None;
         };
@@ -236,7 +220,8 @@ impl<'a> AllAnswers<'a> {
         let (wots, auth) = part.split_at_mut(wots_sig_len(set));
         self.put_wots(layer, msg, wots);
         auth.copy_from_slice(path);
-        let signed_root = xmss_pk_from_sig(&trees.public(), trees.layer_place(layer), msg, part);
+        let at = trees.layer_place(layer);
+        let signed_root = trees.signer.public.xmss_pk_from_sig(at, msg, part);
         if are_same(&signed_root, &root) {
             Some(root)
         } else {
@@ -244,7 +229,7 @@ impl<'a> AllAnswers<'a> {
         }
     }
 
-    /// The same, where the path is written from `start` on.
+    /// As above, with the path written from `start` on.
     fn layer_root_at(&self, layer: u8, msg: &Node, paths: &mut [u8], start: usize) -> Option<Node>
         requires layer { layer < (params_in self.now).d }
         requires msg { msg.now.items ≡ signed_by (source_in self.now) (answers_in self.now) layer }
@@ -262,13 +247,14 @@ impl<'a> AllAnswers<'a> {
         ensures root { IfSome result (λ root. root.items ≡ (answers_in self.now).root (JobTree.Xmss layer)) }
         ensures len { IfSome result (λ root. length root.items ≡ (params_in self.now).n) }
     {
-        let set = self.signing.trees.seeds.set;
+        let set = self.signing.trees.signer.public.set;
         let end = start + set.hp() as usize * set.n();
         self.layer_root(layer, msg, &mut paths[start..end])
     }
 
-    /// Writes what each layer signs, n bytes each, and the path of its leaf. Whether each node has its tag, in each
-    /// layer's tree the root that the ranges give is that of the key and the path, and the top tree's is PK.root.
+    /// Writes the value that each layer signs, n bytes each, and the path of its leaf. True if each node has its tag,
+    /// the root from the ranges of each layer's tree is that from the key and the path, and the top tree's root is
+    /// PK.root.
     pub(crate) fn judge_layers(&self, pk_fors: &Node, signed: &mut [u8], paths: &mut [u8]) -> bool
         requires pk_fors { pk_fors.now.items ≡ signed_by (source_in self.now) (answers_in self.now) 0 }
         requires len { length pk_fors.now.items ≡ (params_in self.now).n }
@@ -290,7 +276,7 @@ impl<'a> AllAnswers<'a> {
             IsTrue result → (l : ℕ) → l < p.d → length (layer_part_by s a l (signed_by s a l)) ≡ xmss_sig_len p }
     {
         let signing = &self.signing;
-        let set = signing.trees.seeds.set;
+        let set = signing.trees.signer.public.set;
         let n = set.n();
         let path_len = set.hp() as usize * n;
         let mut msg = copy_of(pk_fors);
@@ -305,8 +291,8 @@ impl<'a> AllAnswers<'a> {
         are_same(&msg, &node_of(signing.sk.pk_root()))
     }
 
-    /// Whether the answers fit together. Where they do, the FORS signature, what each layer signs and the path of each
-    /// layer's leaf are written.
+    /// Whether the answers fit together. If they do, the FORS signature, the value that each layer signs and the path
+    /// of each layer's leaf are written.
     pub(crate) fn judge(&self, sig_fors: &mut [u8], signed: &mut [u8], paths: &mut [u8]) -> bool
         requires sig_fors { length sig_fors.old
             ≡ (params_in self.now).k * fors_part_len (params_in self.now) }

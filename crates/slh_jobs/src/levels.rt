@@ -1,4 +1,4 @@
-//! How the trees of a signature are cut.
+//! The levels by which the trees of a signature are cut (ours).
 ghost use Rattle.std.specs.Prelude.{◌≡◌, ◌↔◌, ◌≤◌, IsSome, IfSome};
 ghost use Rattle.slh_params.specs.ParamSet.{params};
 
@@ -22,8 +22,8 @@ pub struct Levels {
 }
 
 impl Levels {
-    /// The trees of the set, cut by these levels. `None` where a level is above the height of its trees (h' and a of
-    /// FIPS 205, section 11, Table 2) or above 8.
+    /// The trees of the set, cut by these levels. `None` if a level is above the height of its trees (h' and a of FIPS
+    /// 205, section 11, Table 2) or above 8.
     pub fn new(set: ParamSet, xmss: u32, fors: u32) -> Option<Levels>
         ensures some { IsSome result ↔ ((xmss ≤ (params set).hp) × (xmss ≤ 8) × (fors ≤ (params set).a) × (fors ≤ 8)) }
         ensures set { IfSome result (λ levels. levels.set ≡ set) }

@@ -1,11 +1,11 @@
-//! One signature of SLH-DSA (FIPS 205) with SHA-2, and one key, as jobs for threads or processes of the caller's own:
-//! pure calls over bytes, which take no memory and start nothing.
+//! One signature of SLH-DSA (FIPS 205) with SHA-2, and one key, as jobs for threads or processes of the caller. The
+//! calls are pure functions of bytes, take no memory and start nothing.
 //!
 //! The trees of a signature are cut into ranges of one size, each of which is a job. `sign_start` makes R and the
 //! digest of the message; `sign_job` writes the answer of one job, in any order and in any thread; `sign_join` makes
 //! the signature of the answers of all jobs, put end to end. A start that was not made under the key is refused, and so
 //! are answers that don't fit together. The layout of an answer may be another in the next version of this library. An
-//! answer holds values of one-time keys: it is to be kept as the secret key is.
+//! answer has values of one-time keys: protect it as the secret key.
 #![tactic(auto, using(slh_params::proofs::Bounds::bounds))]
 
 mod all_answers;

@@ -1,4 +1,4 @@
-//! How the trees of one kind are cut.
+//! The cutting of the trees of one kind (ours).
 ghost use Rattle.std.specs.Prelude.{◌≡◌, ◌+◌, ◌*◌, ◌^◌, ◌<◌, ◌≤◌};
 ghost use Rattle.slh_tree.specs.Cover.{first_leaf, past_leaf};
 ghost use Rattle.slh_jobs.specs.Ranges.{below, answer_len, IsShape};
@@ -7,8 +7,8 @@ ghost use Rattle.slh_jobs.specs.declared.shape.TheConstants.{MOST_ANSWER_LEN, MO
 /// No path is longer than 14 nodes of 32 bytes.
 const MOST_PATH_LEN: usize = 14 * 32;
 
-/// No answer has more beside a node and its tag. A key has at most 133 chains, of each of which at most 16 values of 32
-/// bytes are kept; a path has fewer bytes than the kept values of one chain.
+/// No answer has more beside a node and its tag. A key has at most 133 chains, each with at most 16 checkpoints of 32
+/// bytes. A path has fewer bytes than the checkpoints of one chain.
 pub(crate) const MOST_OWN_LEN: usize = (133 + 1) * 16 * 32;
 
 /// No answer is longer.

@@ -1,4 +1,4 @@
-//! The begin of a signature: R, the digest of the message, and their tag.
+//! The start of a signature: R, the digest of the message, and their tag (FIPS 205, Algorithm 19, lines 2 to 5).
 ghost use Rattle.std.specs.Prelude.{◌≡◌, ◌↔◌, ◌+◌, ◌≤◌, IsTrue, IsOk, OnOk, OnErr, length};
 ghost use Rattle.slh_params.specs.ParamSet.{params};
 ghost use Rattle.slh_hash.specs.Keyed.{joined};
@@ -19,7 +19,7 @@ use slh_params::{ParamSet, node_of};
 /// No start is longer, in any set: R, a digest and a tag.
 pub const MOST_START_LEN: usize = 32 + MOST_DIGEST_LEN + 32;
 
-/// The length of what `sign_start` writes, in bytes: 2n + m.
+/// The length of a start, in bytes: 2n + m.
 pub fn start_len(set: ParamSet) -> usize
     ensures value { result ≡ start_len (params set) }
     ensures small { result ≤ MOST_START_LEN }
@@ -38,8 +38,8 @@ fn begun_len(set: ParamSet) -> usize
 /// A copy of a start.
 pub(crate) type StartCopy = ArrayVec<u8, MOST_START_LEN>;
 
-/// A copy of a start. Who judges a start and goes on with it reads both from one copy, so that nobody can change it in
-/// between.
+/// A copy of a start. A call that checks a start and then uses it reads one copy for both, so that nobody can change it
+/// in between.
 pub(crate) fn copy_of_start(start: &[u8]) -> StartCopy
     requires { length start.now ≤ MOST_START_LEN }
     ensures { result.items ≡ start.now }
@@ -81,10 +81,10 @@ fn start_parts(parts: &[&[u8]], sk: &SecretKey, randomizer: Randomizer, start: &
     tag.copy_from_slice(&start_tag(sk, begun));
 }
 
-/// Begins the signature of a message in a form, under a context (FIPS 205, Algorithms 22 and 23): writes R, the
-/// digest of M' and their tag under this key, `start_len` bytes, which all jobs of this signature are given. They are
-/// no secrets: R is a part of the signature, the digest follows from it, and the tag is sent beside them. But what they
-/// say is what is signed. Refused, with nothing written, where the context has over 255 bytes.
+/// Begins the signature of a message in a form, under a context (FIPS 205, Algorithms 22 and 23): writes R, the digest
+/// of M' and their tag under this key, `start_len` bytes, which all jobs of this signature are given. They are no
+/// secrets: R is a part of the signature, the digest follows from it, and the tag is sent beside them. But the message
+/// that they state is signed. Refused, with nothing written, if the context has over 255 bytes.
 pub fn sign_start(
     form: Form,
     msg: &[u8],

@@ -1,5 +1,5 @@
-//! Tags, by which a start or the node of an answer is found that was made under another key, for another set, message
-//! or job, or changed since.
+//! Tags (ours): values of HMAC by which a start, or a node of an answer, is refused if it was made under another key,
+//! for another set, message or job, or changed since.
 ghost use Rattle.std.specs.Prelude.{◌≡◌, ◌↔◌, ℕ, List, [], ◌∷◌, ◌*◌, ◌^◌, ◌+◌, ◌<◌, ◌≤◌, IsTrue, IsSome, IfSome, length};
 ghost use Rattle.slh_params.specs.Params.{Params};
 ghost use Rattle.slh_params.specs.ParamSet.{params};
@@ -11,7 +11,7 @@ ghost use Rattle.slh_jobs.specs.Jobs.{HoldsFront};
 ghost use Rattle.slh_jobs.specs.KeyJobs.{HoldsKeyFront};
 ghost use Rattle.slh_jobs.specs.Starts.{start_tag};
 ghost use Rattle.slh_jobs.specs.AnswerTags.{AreBegun, AreTagsOfAnswers, AreTagsOfKey};
-ghost use Rattle.slh_lanes.specs.HmacLanes.{IsBegun};
+ghost use Rattle.slh_lanes.specs.HmacLanes.{FitsBlock, IsBegun};
 ghost use Rattle.slh_jobs.specs.declared.start.TheConstants.{MOST_START_LEN};
 ghost use Rattle.slh_jobs.specs.declared.tag.TheConstants.{HEAD_LEN, MOST_FRONT_LEN};
 ghost use Rattle.slh_jobs.specs.Tags.{Tagged, IsSized, head, node_tag, tag_key, text};
@@ -24,7 +24,7 @@ use slh_hash::CategoryHmac;
 use slh_lanes::HmacLanes;
 use slh_params::{Node, ParamSet};
 
-/// What a text begins with, by what is tagged.
+/// The beginning of a text, by the kind of the tagged value.
 const START: u8 = 1;
 
 const ANSWER: u8 = 2;
@@ -40,17 +40,17 @@ const KEY_END: u8 = 1;
 /// No key of the tags is longer: three seeds of 32 bytes and the last byte.
 const MOST_KEY_LEN: usize = 3 * 32 + 1;
 
-/// The length of what a text begins with.
+/// The length of the beginning of a text.
 const HEAD_LEN: usize = 8;
 
-/// What stands before the number of a job in the text of an answer is no longer, in any set: a start and two levels
-/// follow what the text begins with.
+/// In any set, the part of an answer's text before the number of the job is no longer. It is the beginning, a start and
+/// two levels.
 pub(crate) const MOST_FRONT_LEN: usize = HEAD_LEN + MOST_START_LEN + 2;
 
-/// What stands before the number of a job in a text.
+/// The part of a text before the number of a job.
 type Front = ArrayVec<u8, MOST_FRONT_LEN>;
 
-/// A law: no two different things have one text, where their parts have the lengths that the kind and the record fix.
+/// A law: no two different things have one text, if their parts have the lengths that the kind and the record fix.
 pub fn texts_differ()
     ensures { (p q : Params) (this other : Tagged) → IsSized p this → IsSized q other → text p this ≡ text q other
         → (p ≡ q) × (this ≡ other) }
@@ -80,7 +80,7 @@ fn key_of_tags(sk_seed: &[u8], sk_prf: &[u8], pk_seed: &[u8]) -> ArrayVec<u8, MO
     key
 }
 
-/// What a text begins with: the kind of what is tagged, the encoding and the numbers of the set.
+/// The beginning of a text: the kind of the tagged value, the encoding and the numbers of the set.
 fn head_of(set: ParamSet, kind: u8) -> [u8; HEAD_LEN]
     ensures { result ≡ head kind (params set) }
 {
@@ -96,7 +96,7 @@ fn head_of(set: ParamSet, kind: u8) -> [u8; HEAD_LEN]
     ]
 }
 
-/// HMAC under the key of the tags, after the kind of what is tagged, the encoding and the numbers of the set.
+/// HMAC under the key of the tags, after the kind of the tagged value, the encoding and the numbers of the set.
 fn keyed_for(set: ParamSet, sk_seed: &[u8], sk_prf: &[u8], pk_seed: &[u8], kind: u8) -> CategoryHmac
     requires sk_seed { length sk_seed.now ≡ (params set).n }
     requires sk_prf { length sk_prf.now ≡ (params set).n }
@@ -148,7 +148,7 @@ pub(crate) fn keyed_for_key(
     keyed
 }
 
-/// The tags of the nodes of answers, under one key and after what stands before the number of a job in their texts.
+/// The tags of the nodes of answers, under one key and after the part of their texts before the number of a job.
 #[derive(Drop)]
 pub(crate) struct AnswerTags {
     pub(crate) keyed: CategoryHmac,
@@ -159,6 +159,7 @@ impl AnswerTags {
     /// The lanes for nodes of `n` bytes, if there are any.
     pub(crate) fn lanes_for(&self, n: usize) -> Option<&HmacLanes>
         ensures n { IsSome result → n ≡ 16 }
+        ensures some { n ≡ 16 → IsSome self.now.lanes → IsSome result }
         ensures lanes { (p : Params) (key front : List ℕ) → AreBegun self.now p key front
             → IfSome result (λ lanes. (p.n ≡ 16) × IsBegun lanes.now key front) }
     {
@@ -166,11 +167,12 @@ impl AnswerTags {
     }
 }
 
-/// The lanes for tags under a key, after this front of their texts: where HMAC's hash function is SHA-256.
+/// The lanes for tags under a key, after this front of their texts, if HMAC's hash function is SHA-256.
 fn lanes_after(set: ParamSet, key: &[u8], front: &[u8]) -> Option<HmacLanes>
     requires key { length key.now ≡ 3 * (params set).n + 1 }
     requires front { length front.now ≤ MOST_FRONT_LEN }
-    ensures { IfSome result (λ lanes. ((params set).n ≡ 16) × IsBegun lanes key.now front.now) }
+    ensures fits { IsSome result ↔ (((params set).n ≡ 16) × FitsBlock (length front.now)) }
+    ensures begun { IfSome result (λ lanes. ((params set).n ≡ 16) × IsBegun lanes key.now front.now) }
 {
     if set.n() == 16 {
         HmacLanes::new(key, front)

@@ -66,18 +66,18 @@ abbrev pub ◌>>=◌ : {A B : Type 0} → Result A FileFault → (A → Result B
 Ok x >>= f = f x
 Err e >>= f = Err e
 
--- the version that the first line of a file of this kind tells
+-- the version in the first line of a file of this kind
 abbrev pub version_of : KeyKind → Text → Option Version
 version_of kind text = if bytes_eq text (first_line kind One) then Some One
     else (if bytes_eq text (first_line kind Two) then Some Two
     else None)
 
--- what a line tells, if anything, and what comes after the line
+-- the meaning of a line, if it has one, and the bytes after the line
 abbrev pub with_rest : {A : Type 0} → Option A → Text → FileFault → Result (A × Text) FileFault
 with_rest None rest fault = Err fault
 with_rest (Some told) rest fault = Ok (told, rest)
 
--- the version of a file of this kind, and what comes after its first line
+-- the version of a file of this kind, and the bytes after its first line
 abbrev pub after_kind : KeyKind → Option (Text × Text) → Result (Version × Text) FileFault
 after_kind kind None = Err NotAKeyFile
 after_kind kind (Some parts) = with_rest (version_of kind parts.0) parts.1 NotAKeyFile
@@ -86,7 +86,7 @@ after_kind kind (Some parts) = with_rest (version_of kind parts.0) parts.1 NotAK
 abbrev pub set_of_line : Version → Text → Option ParamSet
 set_of_line version text = option_and_then (λ set. if allows version set then Some set else None) (set_of_label text)
 
--- the set that the second line tells, and what comes after that line
+-- the set that the second line names, and the bytes after that line
 abbrev pub after_set : Version → Option (Text × Text) → Result (ParamSet × Text) FileFault
 after_set version None = Err UnknownSet
 after_set version (Some parts) = with_rest (set_of_line version parts.0) parts.1 UnknownSet
@@ -139,7 +139,7 @@ or_secret (Err fault) secret = Err fault
 abbrev pub any_key_file : Text → Result AnyKey FileFault
 any_key_file file = or_secret (key_file Public file) (key_file Secret file)
 
--- the file that is written of a file's key: what `slh upgrade` writes (`UpgradesKey` of slh_tool)
+-- the file that is written of a file's key, as by `slh upgrade` (`UpgradesKey` of slh_tool)
 abbrev pub upgraded : Text → Result Text FileFault
 upgraded file = do
   key ← any_key_file file
@@ -147,7 +147,7 @@ upgraded file = do
 
 -- ---- files that are longer than any key file
 
--- what is held of a file: at most 512 bytes, or 512 and one more, which is not a digit
+-- the stored bytes of a file: at most 512, or 512 and one more, which is not a digit
 pub record IsKeyFront (bytes : Text) : Type 0 where
   pub at_most : length bytes ≤ 513
   pub last : 512 < length bytes → is_hex_digit (get_or bytes 512 0) ≡ false
@@ -156,7 +156,7 @@ pub record IsKeyFront (bytes : Text) : Type 0 where
 abbrev pub AreReadAlike : Text → Text → Type 0
 AreReadAlike a b = (kind : KeyKind) (more : Text) → key_file kind (a ++ more) ≡ key_file kind (b ++ more)
 
--- what the code returned, seen by view, is what reading gives
+-- the result of the code, seen by view, is that of reading
 abbrev pub Gives : {X Y : Type 0} → (X → Y) → Result X FileFault → Result Y FileFault → Type 0
 Gives view (Ok x) reading = reading ≡ Ok (view x)
 Gives view (Err e) reading = reading ≡ Err e

@@ -1,3 +1,4 @@
+//! Hexadecimal digits, and the bytes that they spell.
 ghost use Rattle.std.specs.Prelude.{◌≡◌, ◌*◌, true, length, Ok};
 ghost use Rattle.std.specs.List.{list_all};
 ghost use Rattle.hex.specs.Hex.{decode_of, is_hex_digit};

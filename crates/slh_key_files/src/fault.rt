@@ -1,3 +1,4 @@
+//! The refusals of key files.
 ghost use Rattle.std.specs.Prelude.{◌≡◌};
 ghost use Rattle.slh_key_files.specs.declared.fault.FileFault.TheVariants.{NoMemory};
 ghost use Rattle.slh_key_files.specs.FileFault.{fault_number, fault_name};

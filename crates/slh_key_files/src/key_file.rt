@@ -1,3 +1,4 @@
+//! Reads key files of both versions (docs/FORMATS.md, "Key file").
 ghost use Rattle.std.specs.Prelude.{◌≡◌, ◌↔◌, ◌*◌, ◌≤◌, true, length, IfOk, Ok};
 ghost use Rattle.std.specs.List.{list_all};
 ghost use Rattle.hex.specs.Hex.{is_hex_digit};
@@ -24,10 +25,13 @@ pub enum AnyKey {
 
 /// The public key in a key file of either version.
 ///
-/// Any other bytes are refused with their first fault, in this order: another first line (`NotAKeyFile`), a second line
-/// that is not a set's label, or under version 1 not the name of one of the standard's sets (`UnknownSet`), a byte of
-/// the third line that is not a hexadecimal digit (`BadHex`), another number of digits than twice the length of a
-/// public key of the set (`BadKeyLength`), bytes after the third line (`TrailingBytes`).
+/// Any other bytes are refused with their first fault, in this order:
+///
+/// - `NotAKeyFile`: another first line;
+/// - `UnknownSet`: a second line that is not a set's label, or under version 1 not the name of a standard's set;
+/// - `BadHex`: a byte of the third line that is not a hexadecimal digit;
+/// - `BadKeyLength`: another number of digits than twice the length of a public key of the set;
+/// - `TrailingBytes`: bytes after the third line.
 pub fn read_public(bytes: &[u8]) -> Result<PublicKey, FileFault>
     ensures accepted { (key : Key) → (result ≡ Ok key) ↔ IsKeyFile Public bytes.now key }
     ensures first_fault { result ≡ key_file Public bytes.now }
@@ -41,7 +45,7 @@ pub fn read_public(bytes: &[u8]) -> Result<PublicKey, FileFault>
 
 /// The secret key in a key file, with the refusals of `read_public`.
 ///
-/// Its root need not be the one that its seeds give: `slh_core::check_pair` tells.
+/// Its root need not be the one that its seeds give: `slh_core::check_pair` computes that.
 pub fn read_secret(bytes: &[u8]) -> Result<SecretKey, FileFault>
     ensures accepted { (key : Key) → (result ≡ Ok key) ↔ IsKeyFile Secret bytes.now key }
     ensures first_fault { result ≡ key_file Secret bytes.now }
@@ -78,7 +82,7 @@ fn key_line(kind: KeyKind, bytes: &[u8]) -> Result<(ParamSet, &[u8]), FileFault>
     Ok((set, digits))
 }
 
-/// The version of a file of this kind, and what comes after its first line.
+/// The version of a file of this kind, and the bytes after its first line.
 fn after_kind(kind: KeyKind, bytes: &[u8]) -> Result<(Version, &[u8]), FileFault>
     ensures { Gives (λ r. (r.0, r.1.now)) result (after_kind kind (cut_line bytes.now)) }
 {
@@ -87,7 +91,7 @@ fn after_kind(kind: KeyKind, bytes: &[u8]) -> Result<(Version, &[u8]), FileFault
     Ok((version, rest))
 }
 
-/// The set that the next line tells in a file of this version, and what comes after that line.
+/// The set that the next line names in a file of this version, and the bytes after that line.
 fn after_set(version: Version, bytes: &[u8]) -> Result<(ParamSet, &[u8]), FileFault>
     ensures { Gives (λ r. (r.0, r.1.now)) result (after_set version (cut_line bytes.now)) }
 {

@@ -1,3 +1,4 @@
+//! The first bytes of a key file, on which its key or its first fault depends.
 ghost use Rattle.std.specs.Prelude.{◌≡◌, ◌++◌, not, OnOk};
 ghost use Rattle.std.specs.List.{find};
 ghost use Rattle.hex.specs.Hex.{is_hex_digit};
@@ -9,11 +10,11 @@ use std::alloc::{AllocError, Allocator};
 /// More bytes than a key file of either kind has.
 const MOST: usize = 512;
 
-/// Pushes the next bytes of a key file to what is held of those before, as far as its key or its first fault depends on
-/// them.
+/// Pushes the next bytes of a key file to those that were stored before, as far as its key or its first fault depends
+/// on them.
 ///
-/// A file of over 512 bytes is not a key file, and which fault it has depends only on its first 512 bytes and on the
-/// first one after them that is not a hexadecimal digit. So no more than 513 bytes are held.
+/// A file of over 512 bytes is not a key file. Its fault depends only on its first 512 bytes and on the first one after
+/// them that is not a hexadecimal digit. So no more than 513 bytes are held.
 pub fn push_key_bytes<A: Allocator>(front: &mut Vec<u8, A>, part: &[u8]) -> Result<(), AllocError>
     requires front { IsKeyFront front.old.items }
     ensures front { OnOk result (IsKeyFront front.new.items) }

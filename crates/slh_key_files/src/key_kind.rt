@@ -1,3 +1,4 @@
+//! The kinds and versions of key files.
 ghost use Rattle.std.specs.Prelude.{◌≡◌};
 ghost use Rattle.slh_params.specs.ParamSet.{params};
 ghost use Rattle.slh_key_files.specs.KeyFile.{allows, first_line, key_len, version_of};

@@ -1,3 +1,4 @@
+//! Writes key files of version 2 (docs/FORMATS.md, "Key file").
 ghost use Rattle.std.specs.Prelude.{◌≡◌, IfOk, IfErr, Ok, string_bytes};
 ghost use Rattle.hex.specs.Hex.{IsBytes};
 ghost use Rattle.slh_core.specs.Keys.{Key};

@@ -1,8 +1,8 @@
 //! Key files of SLH-DSA.
 //!
-//! A key file has three lines: the kind of the key and the version of the file, as in `slh-dsa-public 2`, the label of
-//! a parameter set, and the bytes of the key as hexadecimal digits. Version 2 is written, versions 1 and 2 are read. A
-//! file of version 1 has a key of one of the standard's sets.
+//! A key file has three lines. They are the kind of the key with the version of the file, as in `slh-dsa-public 2`; the
+//! label of a parameter set; and the bytes of the key as hexadecimal digits. Version 2 is written, versions 1 and 2 are
+//! read. A file of version 1 has a key of one of the standard's sets.
 #![tactic(auto)]
 
 pub use fault::FileFault;

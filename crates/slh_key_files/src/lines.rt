@@ -1,3 +1,4 @@
+//! The lines of a key file.
 ghost use Rattle.std.specs.Prelude.{◌≡◌, ◌==◌, option_map, position};
 ghost use Rattle.slh_key_files.specs.Lines.{cut_line, last_line};
 

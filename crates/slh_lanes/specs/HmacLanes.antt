@@ -1,11 +1,11 @@
--- What the lanes of HMAC-SHA-256 have taken in: ours, over FIPS 198-1.
+-- The bytes that the lanes of HMAC-SHA-256 have taken: ours, over FIPS 198-1.
 use Rattle.std.specs.Prelude.{◌≡◌, ℕ, ◌+◌, ◌*◌, ◌/◌, ◌%◌, ◌≤◌, List, ◌++◌, length, drop}
 use Rattle.sha2.specs.Sha256.{hash_after, initial_hash_256, padding}
 use Rattle.slh_hash.specs.HashFunctions.{SHA_256}
 use Rattle.slh_hash.specs.Keyed.{key_block, xor_each}
 use Rattle.slh_lanes.specs.declared.hmac_lanes.HmacLanes.{HmacLanes}
 
--- what the inner hash takes in before the rest of a text
+-- the bytes that the inner hash takes before the rest of a text
 abbrev pub inner_front : List ℕ → List ℕ → List ℕ
 inner_front key front = xor_each 0x36 (key_block SHA_256 key) ++ front
 
@@ -13,8 +13,8 @@ inner_front key front = xor_each 0x36 (key_block SHA_256 key) ++ front
 abbrev pub FitsBlock : ℕ → Type 0
 FitsBlock len = len % 64 + 20 + 9 ≤ 64
 
--- Under a key of at most a block both hash values have taken in the whole blocks: of the key, and of the front of a
--- text. There are the bytes that are left of the front, and the padding after 20 bytes more.
+-- If the key has at most a block, both hash values have taken the whole blocks of the key and of the front of a text.
+-- There are the bytes that are left of the front, and the padding after 20 bytes more.
 unfoldable pub IsBegun : HmacLanes → List ℕ → List ℕ → Type 0
 IsBegun h key front =
     let m = inner_front key front in

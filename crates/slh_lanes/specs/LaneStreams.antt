@@ -1,4 +1,4 @@
--- What eight lanes of T hold: ours, over FIPS 205, section 11.2.
+-- The states of eight lanes of T: ours, over FIPS 205, section 11.2.
 use Rattle.std.specs.Prelude.{◌≡◌, ℕ, List, ◌==◌, true, false, length}
 use Rattle.slh_params.specs.Address.{Address}
 use Rattle.slh_params.specs.Params.{Params}
@@ -9,7 +9,7 @@ use Rattle.slh_lanes.specs.declared.lane_stream.CategoryStream.{CategoryStream}
 use Rattle.slh_lanes.specs.declared.lane_stream.CategoryStream.TheVariants.{Short, Long}
 use Rattle.slh_lanes.specs.declared.lane_stream.LaneStream.{LaneStream}
 
--- the stream is that of the category of p, and its lane j holds what T hashes of x
+-- the stream is that of the category of p, and its lane j holds the bytes that T hashes of x
 abbrev pub HoldsForAt : CategoryStream → ℕ → Params → List ℕ → Address → List ℕ → Type 0
 HoldsForAt (Short s) j p pk_seed adrs x = ((p.n == 16) ≡ true) × HoldsAt s j (tweaked 64 p pk_seed adrs x)
 HoldsForAt (Long s) j p pk_seed adrs x = ((p.n == 16) ≡ false) × HoldsLongAt s j (tweaked 128 p pk_seed adrs x)

@@ -3,7 +3,6 @@ pub mod Block
 pub mod Room
 pub mod LongBlock
 pub mod Lanes
-pub mod TreeLanes
 pub mod Steps
 pub mod Streams
 pub mod LaneStreams

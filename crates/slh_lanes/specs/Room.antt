@@ -1,4 +1,4 @@
--- Room for arrays of a type.
+-- Room for arrays of a type (ours).
 use Rattle.std.specs.Prelude.{◌*◌, ◌<◌}
 use Rattle.std.specs.Borrow.{RattleType}
 use Rattle.std.specs.Mem.{type_size}

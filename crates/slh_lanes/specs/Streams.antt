@@ -1,4 +1,4 @@
--- What eight streams of SHA-256 or SHA-512 hold, one in each lane: ours.
+-- The states of eight streams of SHA-256 or SHA-512, one in each lane: ours.
 use Rattle.std.specs.Prelude.{◌≡◌, ℕ, ◌%◌, ◌^◌, List, drop, length, map}
 use Rattle.sha2.specs.Sha256.{IsAbsorbed, digest_bytes, initial_hash_256}
 use Rattle.sha2.specs.Sha512.{IsAbsorbed as IsLongAbsorbed, initial_hash_512}

@@ -1,4 +1,4 @@
-//! The block after PK.seed's that F and PRF hash, and H where n is 16, in eight lanes (FIPS 205, section 11.2), and the
+//! The block after PK.seed's that F and PRF hash, and H if n is 16, in eight lanes (FIPS 205, section 11.2), and the
 //! hash value before it.
 ghost use Rattle.std.specs.Prelude.{◌≡◌, ℕ, ◌/◌, ◌<◌, ◌⊎◌, length, take};
 ghost use Rattle.sha2.specs.Sha256.{digest_bytes, hash_after, initial_hash_256};

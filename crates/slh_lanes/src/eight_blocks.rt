@@ -1,4 +1,4 @@
-//! Eight blocks of SHA-256 hashed at once, in vectors of as many lanes as the build has.
+//! Eight blocks of SHA-256 at once (FIPS 180-4, section 6.2.2), in vectors of as many lanes as the build has.
 ghost use Rattle.std.specs.Prelude.{◌≡◌, ◌⊎◌, ℕ, ◌+◌, ◌<◌, ◌≤◌, List, slice_index};
 ghost use Rattle.sha2.specs.Sha256.{compress, digest_bytes};
 ghost use Rattle.slh_lanes.specs.Columns.{column, lane_column, HasWords};

@@ -22,8 +22,8 @@ const END_LEN: usize = 4 + 16;
 /// The length of the shortest padding: the byte that begins it, and the length of the message in bits.
 const LEAST_PADDING_LEN: usize = 1 + 8;
 
-/// Where the zeros of a padding end in the second of two blocks: before the 8 bytes of the length. The byte that begins
-/// the padding is counted off.
+/// The end of the zeros of a padding in the second of two blocks, before the 8 bytes of the length. The byte that
+/// begins the padding is counted off.
 const ZEROS_END: usize = 2 * BLOCK_LEN - 8 - 1;
 
 /// The length of a digest.
@@ -55,7 +55,7 @@ pub struct HmacLanes {
 impl HmacLanes {
     ghost use Rattle.slh_lanes.specs.HmacLanes.{FitsBlock, IsBegun};
 
-    /// The lanes after this front, under a key of at most a block. `None` where the end of a text and the padding do not
+    /// The lanes after this front, under a key of at most a block. `None` if the end of a text and the padding do not
     /// fit the block that the front has begun.
     pub fn new(key: &[u8], front: &[u8]) -> Option<HmacLanes>
         requires key { length key.now ≤ BLOCK_LEN }
@@ -111,7 +111,7 @@ impl HmacLanes {
     }
 }
 
-/// What the inner hash takes in before the end of a text.
+/// The bytes that the inner hash takes before the end of a text.
 fn message_of(key: &[u8], front: &[u8]) -> Message
     requires key { length key.now ≤ BLOCK_LEN }
     requires front { length front.now ≤ MOST_FRONT_LEN }

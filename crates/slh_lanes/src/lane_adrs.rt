@@ -1,9 +1,9 @@
 //! The addresses of eight hash calls (FIPS 205, sections 4.2 and 11.2).
 ghost use Rattle.std.specs.Prelude.{◌≡◌, ℕ, ◌<◌, slice_index};
-ghost use Rattle.slh_params.specs.Address.{Address, compressed};
+ghost use Rattle.slh_params.specs.Address.{Address};
 ghost use Rattle.slh_lanes.specs.Lanes.{HasAddress};
 
-use crate::bytes::{load_all, store_lane};
+use crate::bytes::load_all;
 use crate::words::{GROUP, Words, halves, high, low, tell_all};
 use slh_params::Adrs;
 
@@ -51,16 +51,4 @@ pub fn set_hashes(adrs: &mut LaneAdrs, hashes: Words)
     tell_all(adrs);
     adrs[4] = halves(high(adrs[4]), hashes);
     adrs[5] = low(hashes);
-}
-
-/// The 22 bytes of the address in lane `j`.
-pub(crate) fn lane_compressed(adrs: &LaneAdrs, j: usize) -> [u8; 22]
-    requires { j < GROUP }
-    ensures { (a : Address) → HasAddress adrs.now j a → result ≡ compressed a }
-{
-    let mut bytes = [0; 24];
-    store_lane(adrs, j, &mut bytes);
-    let mut out = [0; 22];
-    out.copy_from_slice(&bytes[..22]);
-    out
 }

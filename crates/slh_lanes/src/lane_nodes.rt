@@ -1,5 +1,6 @@
-//! Eight values of n bytes.
+//! Eight nodes of n bytes, one in each lane (ours).
 ghost use Rattle.std.specs.Prelude.{◌≡◌, ◌≢◌, ℕ, ◌+◌, ◌*◌, ◌<◌, ◌≤◌, ◌%◌, ◌++◌, length, slice_index};
+ghost use Rattle.slh_lanes.specs.Columns.{column};
 ghost use Rattle.slh_lanes.specs.Lanes.{value_at};
 
 use crate::bytes::{load_all, load_be, store_lane};
@@ -9,22 +10,26 @@ use slh_params::{Node, node_of};
 /// Eight values of n bytes, one in each lane: of eight words the first, as many as n bytes fill.
 pub type LaneNodes = [Words; 8];
 
-/// One value in all eight lanes.
+/// One value in all eight lanes, and zeros behind it.
 pub fn node_lanes(value: &[u8]) -> LaneNodes
-    requires { length value.now ≤ 32 }
-    ensures { (j : ℕ) → j < GROUP → length value.now % 4 ≡ 0 → value_at result j (length value.now) ≡ value.now }
+    requires few { length value.now ≤ 32 }
+    requires whole { length value.now % 4 ≡ 0 }
+    ensures value { (j : ℕ) → j < GROUP → value_at result j (length value.now) ≡ value.now }
+    ensures behind { (j k : ℕ) → j < GROUP → k < 8 → length value.now ≤ 4 * k → slice_index (column j result) k ≡ 0 }
 {
     let mut lanes = [Words::splat(0); 8];
     load_all(&mut lanes[..value.len() / 4], value);
     lanes
 }
 
-/// Puts a value into lane `j`.
+/// Puts a value into lane `j`. The bytes after it stay.
 pub fn set_lane(nodes: &mut LaneNodes, j: usize, value: &[u8])
     requires lane { j < GROUP }
     requires few { length value.now ≤ 32 }
     requires whole { length value.now % 4 ≡ 0 }
     ensures set { value_at nodes.new j (length value.now) ≡ value.now }
+    ensures behind { (k : ℕ) → length value.now ≤ 4 * k
+        → slice_index (column j nodes.new) k ≡ slice_index (column j nodes.old) k }
     ensures others { (i n : ℕ) → i ≢ j → value_at nodes.new i n ≡ value_at nodes.old i n }
 {
     'words: for k in 0..value.len() / 4 {
@@ -54,7 +59,7 @@ pub(crate) fn two_short(left: &LaneNodes, right: &LaneNodes) -> LaneNodes
     ]
 }
 
-/// Of the sixteen values in two times eight lanes the first, the third and so on.
+/// The first, the third and so on of the sixteen values in two times eight lanes.
 pub fn even_lanes(left: &LaneNodes, right: &LaneNodes) -> LaneNodes
     ensures low { (j n : ℕ) → j < 4 → value_at result j n ≡ value_at left.now (2 * j) n }
     ensures high { (j n : ℕ) → j < 4 → value_at result (j + 4) n ≡ value_at right.now (2 * j) n }
@@ -71,7 +76,7 @@ pub fn even_lanes(left: &LaneNodes, right: &LaneNodes) -> LaneNodes
     ]
 }
 
-/// Of the sixteen values in two times eight lanes the second, the fourth and so on.
+/// The second, the fourth and so on of the sixteen values in two times eight lanes.
 pub fn odd_lanes(left: &LaneNodes, right: &LaneNodes) -> LaneNodes
     ensures low { (j n : ℕ) → j < 4 → value_at result j n ≡ value_at left.now (2 * j + 1) n }
     ensures high { (j n : ℕ) → j < 4 → value_at result (j + 4) n ≡ value_at right.now (2 * j + 1) n }
@@ -88,7 +93,7 @@ pub fn odd_lanes(left: &LaneNodes, right: &LaneNodes) -> LaneNodes
     ]
 }
 
-/// In each lane the value of `x` where the number `a` is below `b`, else the value of `y`.
+/// In each lane the value of `x` if the number `a` is below `b`, else the value of `y`.
 #[inline(always)]
 pub fn pick_nodes(a: Words, b: Words, x: &LaneNodes, y: &LaneNodes) -> LaneNodes
     ensures below { (j n : ℕ) → j < GROUP → slice_index a j < slice_index b j → value_at result j n ≡ value_at x.now j n }

@@ -6,19 +6,18 @@ ghost use Rattle.slh_params.specs.ParamSet.{params};
 ghost use Rattle.slh_hash.specs.Hash.{T};
 ghost use Rattle.slh_lanes.specs.Lanes.{HasAddress, value_at};
 ghost use Rattle.slh_lanes.specs.LaneStreams.{HasAbsorbedAt};
-ghost use Rattle.slh_lanes.specs.TreeLanes.{IsSeededTreeLanes};
 
 use crate::block::splat_all;
 use crate::lane_adrs::LaneAdrs;
 use crate::lane_nodes::LaneNodes;
 use crate::long_block::{splat_all as splat_all_long, truncated};
 use crate::long_stream::LongStream;
-use crate::seeded_tree_lanes::SeededTreeLanes;
+use crate::seeded_lanes::SeededLanes;
 use crate::short_stream::ShortStream;
 use crate::words::GROUP;
 use slh_params::ParamSet;
 
-/// The hash function of T in eight lanes: SHA-256 where n is 16, else SHA-512.
+/// The hash function of T in eight lanes: SHA-256 if n is 16, else SHA-512.
 #[derive(Clone, Copy)]
 pub(crate) enum CategoryStream {
     Short(ShortStream),
@@ -35,14 +34,14 @@ pub struct LaneStream {
 }
 
 impl LaneStream {
-    /// T at the address in each lane, before any node. Where PK.seed has another length than n, nothing is said.
-    pub fn new(lanes: &SeededTreeLanes, adrs: &LaneAdrs) -> Self
-        ensures { (p : Params) (pk_seed : List ℕ) → IsSeededTreeLanes lanes.now p pk_seed → length pk_seed ≡ p.n
-            → (j : ℕ) → j < GROUP → (a : Address) → HasAddress adrs.now j a → HasAbsorbedAt result j p pk_seed a [] }
+    /// T at the address in each lane, before any node.
+    pub fn new(lanes: &SeededLanes, adrs: &LaneAdrs) -> Self
+        ensures { (j : ℕ) → j < GROUP → (a : Address) → HasAddress adrs.now j a
+            → HasAbsorbedAt result j (params lanes.now.set) lanes.now.pk_seed.now a [] }
     {
-        let set = lanes.lanes.set;
+        let set = lanes.set;
         let stream = if set.n() == 16 {
-            CategoryStream::Short(ShortStream::new(&splat_all(&lanes.lanes.state), adrs))
+            CategoryStream::Short(ShortStream::new(&splat_all(&lanes.short), adrs))
         } else {
             CategoryStream::Long(LongStream::new(&splat_all_long(&lanes.long), adrs))
         };
@@ -70,7 +69,7 @@ impl LaneStream {
         }
     }
 
-    /// T of the nodes absorbed, in their order, in each lane. Of 2^28 bytes or more nothing is said.
+    /// T of the nodes absorbed, in their order, in each lane. For 2^28 bytes or more nothing is promised.
     pub fn finish(self) -> LaneNodes
         ensures { (p : Params) (pk_seed : List ℕ) (j : ℕ) (a : Address) (x : List ℕ) → j < GROUP
             → HasAbsorbedAt self j p pk_seed a x → length x < 2 ^ 28 → value_at result j p.n ≡ T p pk_seed a x }

@@ -17,7 +17,7 @@ pub trait Lanes: Copy {
     fn splat(word: u32) -> Self
         ensures { (j : ℕ) → j < LANES → lane result j ≡ word };
 
-    /// The type's own fact about its lanes. It runs no code.
+    /// The fact of the type about its lanes. It runs no code.
     fn tell(self)
         ensures { (j : ℕ) → j < LANES → lane self j < 2 ^ 32 };
 

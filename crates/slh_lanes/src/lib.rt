@@ -1,5 +1,5 @@
 //! F, PRF, H, T and the chains of WOTS+ eight at a time (FIPS 205, sections 5 and 11.2), over SHA-256 and SHA-512 of
-//! eight blocks side by side. Nothing here takes memory, refuses or keeps state between calls.
+//! eight blocks side by side. No call takes memory, refuses, or has state between calls.
 #![tactic(auto, using(slh_params::proofs::Bounds::n_high))]
 
 mod block;
@@ -18,7 +18,6 @@ mod long_stream;
 mod long_words;
 mod part;
 mod seeded_lanes;
-mod seeded_tree_lanes;
 mod sha256_lanes;
 mod sha512_lanes;
 mod short_stream;
@@ -33,6 +32,5 @@ pub use lane_nodes::{
 };
 pub use lane_stream::LaneStream;
 pub use seeded_lanes::SeededLanes;
-pub use seeded_tree_lanes::SeededTreeLanes;
 pub use slh_width::{Width, build_widths};
 pub use words::{GROUP, Words, consecutive, half, parity};

@@ -1,4 +1,4 @@
-//! The block after PK.seed's that H hashes where n is 24 or 32, in eight lanes (FIPS 205, section 11.2.2).
+//! The block after PK.seed's that H hashes if n is 24 or 32, in eight lanes (FIPS 205, section 11.2.2).
 ghost use Rattle.std.specs.Prelude.{◌≡◌, ℕ, ◌<◌, ◌≤◌, ◌⊎◌, ◌++◌, take};
 ghost use Rattle.sha2.specs.Sha256.{digest_bytes};
 ghost use Rattle.sha2.specs.Sha512.{digest_bytes as long_digest_bytes, initial_hash_512};

@@ -1,4 +1,5 @@
-//! Eight blocks of SHA-512 hashed at once, in vectors of as many lanes of 64 bits as the build has.
+//! Eight blocks of SHA-512 at once (FIPS 180-4, section 6.4.2), in vectors of as many lanes of 64 bits as the build
+//! has.
 ghost use Rattle.std.specs.Prelude.{◌≡◌, ◌⊎◌, ℕ, ◌+◌, ◌<◌, ◌≤◌, List};
 ghost use Rattle.sha2.specs.Sha512.{compress};
 ghost use Rattle.slh_lanes.specs.Columns.{column, lane_column};

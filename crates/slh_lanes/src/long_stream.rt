@@ -88,7 +88,7 @@ fn long_address_words(adrs: &LaneAdrs) -> [Vector; 33]
     words
 }
 
-/// Where the zeros of the padding end in the second of two blocks: before the 16 bytes of the length. The byte that
+/// The end of the zeros of the padding in the second of two blocks, before the 16 bytes of the length. The byte that
 /// begins the padding is counted off.
 const ZEROS_END: u32 = 2 * 128 - 16 - 1;
 

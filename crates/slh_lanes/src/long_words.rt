@@ -1,4 +1,4 @@
-//! Vectors of eight words of 64 bits, one in each lane.
+//! Vectors of eight words of 64 bits, one in each lane (ours).
 ghost use Rattle.std.specs.Prelude.{◌≡◌, ℕ, ◌/◌, ◌%◌, ◌^◌, ◌<◌, slice_index};
 ghost use Rattle.slh_lanes.specs.LongBlock.{long_word, long_word_of_halves};
 

@@ -1,4 +1,4 @@
-//! Parts of a group of words of 32 bits: some of its lanes, one after another.
+//! Parts of a group of words of 32 bits: some of its lanes, one after another (ours).
 ghost use Rattle.std.specs.Prelude.{◌≡◌, ◌⊎◌, ℕ, ◌+◌, ◌<◌, ◌≤◌, true, slice_index};
 ghost use Rattle.slh_lanes.specs.Room.{HasRoom};
 
@@ -8,7 +8,7 @@ use std::simd::prelude::*;
 
 /// Lanes that are a part of a group.
 pub(crate) trait Part: Lanes {
-    /// The type's own fact about its size. It runs no code.
+    /// The fact of the type about its size. It runs no code.
     fn room()
         ensures { HasRoom Self.row };
 

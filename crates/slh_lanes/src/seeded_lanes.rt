@@ -1,76 +1,86 @@
 //! F, PRF and H of eight addresses under one PK.seed (FIPS 205, section 11.2), and steps of eight chains (section 5).
-ghost use Rattle.std.specs.Prelude.{◌≡◌, ℕ, ◌+◌, ◌*◌, ◌^◌, ◌<◌, ◌≤◌, ◌⊎◌, ◌++◌, List, length, slice_index, take};
-ghost use Rattle.sha2.specs.Sha256.{compress, digest_bytes, initial_hash_256, sha256};
+ghost use Rattle.std.specs.Prelude.{◌≡◌, ◌≢◌, ℕ, ◌+◌, ◌*◌, ◌^◌, ◌<◌, ◌≤◌, ◌⊎◌, ◌↔◌, List, length, slice_index, IsSome, IfSome};
+ghost use Rattle.sha2.specs.Sha256.{compress, initial_hash_256};
+ghost use Rattle.sha2.specs.Sha512.{compress as compress_long, initial_hash_512};
 ghost use Rattle.slh_params.specs.Address.{Address};
 ghost use Rattle.slh_params.specs.Params.{Params};
 ghost use Rattle.slh_params.specs.ParamSet.{params};
-ghost use Rattle.slh_hash.specs.Hash.{F, H, PRF, tweaked, tweaked_hash};
+ghost use Rattle.slh_hash.specs.Hash.{F, H, PRF, tweaked_hash};
 ghost use Rattle.slh_hash.specs.HashFunctions.{SHA_256};
-ghost use Rattle.slh_lanes.specs.Block.{marked, second_block};
-ghost use Rattle.slh_lanes.specs.Columns.{column, HasWords};
-ghost use Rattle.slh_lanes.specs.Lanes.{HasAddress, IsSeededLanes, value_at};
+ghost use Rattle.slh_lanes.specs.Block.{first_block};
+ghost use Rattle.slh_lanes.specs.LongBlock.{long_first_block};
+ghost use Rattle.slh_lanes.specs.Lanes.{HasAddress, value_at};
 ghost use Rattle.slh_lanes.specs.Steps.{steps};
 
 use crate::block::{BLOCK_LEN, hash_after, second_block, splat_all};
+use crate::bytes::load_all_long;
 use crate::eight_blocks::{compress, compress_each};
-use crate::lane_adrs::{LaneAdrs, lane_compressed, set_hashes};
-use crate::lane_nodes::{LaneNodes, lane_node, node_lanes, pick_nodes, set_lane, two_short};
+use crate::lane_adrs::{LaneAdrs, set_hashes};
+use crate::lane_nodes::{LaneNodes, node_lanes, pick_nodes, two_short};
+use crate::long_block::{
+    first_lane, initial, second_block as second_long_block, splat_all as splat_all_long, truncated,
+};
+use crate::long_eight_blocks::compress as compress_long;
+use crate::long_words::LongWords;
 use crate::sixteen_blocks::compress_two;
 use crate::words::{GROUP, Words, add, most};
-use sha2::{Digest, Sha256};
 use slh_params::ParamSet;
 
-/// F, PRF and H of eight addresses under one PK.seed: SHA-256 in eight lanes after its first block, which PK.seed and
-/// zeros fill.
+/// F, PRF and H of eight addresses under one PK.seed of n bytes: in eight lanes SHA-256, and for H, where n is 24 or 32,
+/// SHA-512, after its first block, which PK.seed and zeros fill.
 ///
-/// It is made once within a call that hashes often. Contracts see it by the relation `IsSeededLanes`.
+/// It is made once within a call that hashes often. Contracts see the set and PK.seed.
 #[derive(Clone, Copy)]
 pub struct SeededLanes<'a> {
-    pub(crate) set: ParamSet,
-    pub(crate) pk_seed: &'a [u8],
-    pub(crate) state: [u32; 8],
+    pub set: ParamSet,
+    pub pk_seed: &'a [u8],
+    pub(crate) short: [u32; 8],
+    /// SHA-512's hash value. Where n is 16 it is not read.
+    pub(crate) long: [u64; 8],
+    pub ghost len: { length pk_seed.now ≡ (params set).n },
+    ghost short_state: { short ≡ compress initial_hash_256 (first_block (params set) pk_seed.now) },
+    ghost long_state: { (params set).n ≢ 16
+        → long ≡ compress_long initial_hash_512 (long_first_block (params set) pk_seed.now) },
 }
 
 impl<'a> SeededLanes<'a> {
-    /// The lanes under this PK.seed of n bytes.
-    pub fn new(set: ParamSet, pk_seed: &'a [u8]) -> Self
-        ensures { IsSeededLanes result (params set) pk_seed.now }
+    /// The lanes under this PK.seed, if it has n bytes.
+    pub fn new(set: ParamSet, pk_seed: &'a [u8]) -> Option<Self>
+        ensures some { IsSome result ↔ (length pk_seed.now ≡ (params set).n) }
+        ensures set { IfSome result (λ lanes. lanes.set ≡ set) }
+        ensures pk_seed { IfSome result (λ lanes. lanes.pk_seed.now ≡ pk_seed.now) }
     {
-        let len = pk_seed.len().min(BLOCK_LEN);
-        let mut block = [0; BLOCK_LEN];
-        block[..len].copy_from_slice(&pk_seed[..len]);
-        let state = hash_after(&block);
-        SeededLanes {
+        let n = set.n();
+        if pk_seed.len() != n {
+            return None;
+        }
+        let short = short_state(pk_seed);
+        let long = if n == 16 { [0; 8] } else { long_state(pk_seed) };
+        Some(SeededLanes {
             set,
             pk_seed,
-            state,
-        }
+            short,
+            long,
+        })
     }
 
     /// F (FIPS 205, section 11.2) in each lane: the hash of its value of n bytes at its address.
     pub fn f(&self, adrs: &LaneAdrs, x: &LaneNodes) -> LaneNodes
-        ensures { (p : Params) (pk_seed : List ℕ) → IsSeededLanes self.now p pk_seed
-            → (j : ℕ) → j < GROUP → (a : Address) → HasAddress adrs.now j a
-            → value_at result j p.n ≡ F p pk_seed a (value_at x.now j p.n) }
+        ensures { (j : ℕ) → j < GROUP → (a : Address) → HasAddress adrs.now j a
+            → let p = params self.now.set in
+            value_at result j p.n ≡ F p self.now.pk_seed.now a (value_at x.now j p.n) }
     {
-        if self.pk_seed.len() == self.set.n() {
-            self.digests(adrs, x, self.set.n())
-        } else {
-            self.f_alone(adrs, x)
-        }
+        self.digests(adrs, x, self.set.n())
     }
 
     /// PRF (section 11.2) in each lane: the secret at its address, from SK.seed of n bytes.
     pub fn prf(&self, sk_seed: &[u8], adrs: &LaneAdrs) -> LaneNodes
-        ensures { (p : Params) (pk_seed : List ℕ) → IsSeededLanes self.now p pk_seed
-            → (j : ℕ) → j < GROUP → (a : Address) → HasAddress adrs.now j a
-            → value_at result j p.n ≡ PRF p pk_seed sk_seed.now a }
+        requires sk_seed { length sk_seed.now ≡ (params self.now.set).n }
+        ensures { (j : ℕ) → j < GROUP → (a : Address) → HasAddress adrs.now j a
+            → let p = params self.now.set in
+            value_at result j p.n ≡ PRF p self.now.pk_seed.now sk_seed.now a }
     {
-        if self.pk_seed.len() == self.set.n() && sk_seed.len() == self.set.n() {
-            self.digests(adrs, &node_lanes(sk_seed), self.set.n())
-        } else {
-            self.prf_alone(sk_seed, adrs)
-        }
+        self.digests(adrs, &node_lanes(sk_seed), self.set.n())
     }
 
     /// PRF in each lane of two groups at once: into `x` it writes the secrets at the addresses `x_adrs`, and into `y`
@@ -83,39 +93,39 @@ impl<'a> SeededLanes<'a> {
         x: &mut LaneNodes,
         y: &mut LaneNodes,
     )
-        ensures x { (p : Params) (pk_seed : List ℕ) → IsSeededLanes self.now p pk_seed
-            → (j : ℕ) → j < GROUP → (a : Address) → HasAddress x_adrs.now j a
-            → value_at x.new j p.n ≡ PRF p pk_seed sk_seed.now a }
-        ensures y { (p : Params) (pk_seed : List ℕ) → IsSeededLanes self.now p pk_seed
-            → (j : ℕ) → j < GROUP → (a : Address) → HasAddress y_adrs.now j a
-            → value_at y.new j p.n ≡ PRF p pk_seed sk_seed.now a }
+        requires sk_seed { length sk_seed.now ≡ (params self.now.set).n }
+        ensures x { (j : ℕ) → j < GROUP → (a : Address) → HasAddress x_adrs.now j a
+            → let p = params self.now.set in
+            value_at x.new j p.n ≡ PRF p self.now.pk_seed.now sk_seed.now a }
+        ensures y { (j : ℕ) → j < GROUP → (a : Address) → HasAddress y_adrs.now j a
+            → let p = params self.now.set in
+            value_at y.new j p.n ≡ PRF p self.now.pk_seed.now sk_seed.now a }
     {
-        if self.pk_seed.len() == self.set.n() && sk_seed.len() == self.set.n() {
-            *x = node_lanes(sk_seed);
-            *y = *x;
-            self.digests_two(x_adrs, y_adrs, x, y, self.set.n());
-        } else {
-            *x = self.prf_alone(sk_seed, x_adrs);
-            *y = self.prf_alone(sk_seed, y_adrs);
-        }
+        *x = node_lanes(sk_seed);
+        *y = *x;
+        self.digests_two(x_adrs, y_adrs, x, y, self.set.n());
     }
 
-    /// H (section 11.2) of two nodes of 16 bytes in each lane, the hash of both at its address. Of other nodes, or
-    /// where PK.seed has another length, nothing is said.
+    /// H (section 11.2) of two nodes of n bytes in each lane: the hash of both at its address.
     pub fn h(&self, adrs: &LaneAdrs, left: &LaneNodes, right: &LaneNodes) -> LaneNodes
-        ensures { (p : Params) (pk_seed : List ℕ) → IsSeededLanes self.now p pk_seed → p.n ≡ 16 → length pk_seed ≡ 16
-            → (j : ℕ) → j < GROUP → (a : Address) → HasAddress adrs.now j a
-            → value_at result j p.n ≡ H p pk_seed a (value_at left.now j p.n) (value_at right.now j p.n) }
+        ensures { (j : ℕ) → j < GROUP → (a : Address) → HasAddress adrs.now j a
+            → let p = params self.now.set in value_at result j p.n
+            ≡ H p self.now.pk_seed.now a (value_at left.now j p.n) (value_at right.now j p.n) }
     {
-        self.digests(adrs, &two_short(left, right), 32)
+        let n = self.set.n();
+        if n == 16 {
+            self.digests(adrs, &two_short(left, right), 32)
+        } else {
+            long_digests(&self.long, n, adrs, left, right)
+        }
     }
 
     /// Runs eight chains on from their values after `from` steps, each by `count` steps (section 5, Algorithm 5).
     pub fn chains(&self, adrs: &LaneAdrs, x: &LaneNodes, from: u32, count: u32) -> LaneNodes
         requires { from + count ≤ 2 ^ 32 }
-        ensures { (p : Params) (pk_seed : List ℕ) → IsSeededLanes self.now p pk_seed
-            → (j : ℕ) → j < GROUP → (a : Address) → HasAddress adrs.now j a
-            → value_at result j p.n ≡ steps p pk_seed a (value_at x.now j p.n) from count }
+        ensures { (j : ℕ) → j < GROUP → (a : Address) → HasAddress adrs.now j a
+            → let p = params self.now.set in
+            value_at result j p.n ≡ steps p self.now.pk_seed.now a (value_at x.now j p.n) from count }
     {
         let mut nodes = *x;
         for step in 0..count {
@@ -138,12 +148,12 @@ impl<'a> SeededLanes<'a> {
         count: u32,
     )
         requires { from + count ≤ 2 ^ 32 }
-        ensures x { (p : Params) (pk_seed : List ℕ) → IsSeededLanes self.now p pk_seed
-            → (j : ℕ) → j < GROUP → (a : Address) → HasAddress x_adrs.now j a
-            → value_at x.new j p.n ≡ steps p pk_seed a (value_at x.old j p.n) from count }
-        ensures y { (p : Params) (pk_seed : List ℕ) → IsSeededLanes self.now p pk_seed
-            → (j : ℕ) → j < GROUP → (a : Address) → HasAddress y_adrs.now j a
-            → value_at y.new j p.n ≡ steps p pk_seed a (value_at y.old j p.n) from count }
+        ensures x { (j : ℕ) → j < GROUP → (a : Address) → HasAddress x_adrs.now j a
+            → let p = params self.now.set in
+            value_at x.new j p.n ≡ steps p self.now.pk_seed.now a (value_at x.old j p.n) from count }
+        ensures y { (j : ℕ) → j < GROUP → (a : Address) → HasAddress y_adrs.now j a
+            → let p = params self.now.set in
+            value_at y.new j p.n ≡ steps p self.now.pk_seed.now a (value_at y.old j p.n) from count }
     {
         for step in 0..count {
             let number = Words::splat(from + step);
@@ -151,12 +161,7 @@ impl<'a> SeededLanes<'a> {
             let mut y_here = *y_adrs;
             set_hashes(&mut x_here, number);
             set_hashes(&mut y_here, number);
-            if self.pk_seed.len() == self.set.n() {
-                self.digests_two(&x_here, &y_here, x, y, self.set.n());
-            } else {
-                *x = self.f_alone(&x_here, x);
-                *y = self.f_alone(&y_here, y);
-            }
+            self.digests_two(&x_here, &y_here, x, y, self.set.n());
         }
     }
 
@@ -170,10 +175,9 @@ impl<'a> SeededLanes<'a> {
         counts: Words,
     ) -> LaneNodes
         requires { (j : ℕ) → j < GROUP → slice_index from j + slice_index counts j ≤ 2 ^ 32 }
-        ensures { (p : Params) (pk_seed : List ℕ) → IsSeededLanes self.now p pk_seed
-            → (j : ℕ) → j < GROUP → (a : Address) → HasAddress adrs.now j a
-            → value_at result j p.n
-            ≡ steps p pk_seed a (value_at x.now j p.n) (slice_index from j) (slice_index counts j) }
+        ensures { (j : ℕ) → j < GROUP → (a : Address) → HasAddress adrs.now j a
+            → let p = params self.now.set in value_at result j p.n
+            ≡ steps p self.now.pk_seed.now a (value_at x.now j p.n) (slice_index from j) (slice_index counts j) }
     {
         let mut nodes = *x;
         for step in 0..most(counts) {
@@ -186,30 +190,66 @@ impl<'a> SeededLanes<'a> {
         nodes
     }
 
+    /// Runs the chains of two groups of eight on, that of each lane from its own step and by its own number of steps:
+    /// those in `x` at the addresses `x_adrs`, and those in `y` at `y_adrs`. A lane that has ended keeps its value.
+    pub fn chains_each_two(
+        &self,
+        x_adrs: &LaneAdrs,
+        y_adrs: &LaneAdrs,
+        x: &mut LaneNodes,
+        y: &mut LaneNodes,
+        x_from: Words,
+        y_from: Words,
+        x_counts: Words,
+        y_counts: Words,
+    )
+        requires x { (j : ℕ) → j < GROUP → slice_index x_from j + slice_index x_counts j ≤ 2 ^ 32 }
+        requires y { (j : ℕ) → j < GROUP → slice_index y_from j + slice_index y_counts j ≤ 2 ^ 32 }
+        ensures x { (j : ℕ) → j < GROUP → (a : Address) → HasAddress x_adrs.now j a
+            → let p = params self.now.set in value_at x.new j p.n
+            ≡ steps p self.now.pk_seed.now a (value_at x.old j p.n) (slice_index x_from j) (slice_index x_counts j) }
+        ensures y { (j : ℕ) → j < GROUP → (a : Address) → HasAddress y_adrs.now j a
+            → let p = params self.now.set in value_at y.new j p.n
+            ≡ steps p self.now.pk_seed.now a (value_at y.old j p.n) (slice_index y_from j) (slice_index y_counts j) }
+    {
+        for step in 0..most(x_counts).max(most(y_counts)) {
+            let number = Words::splat(step);
+            let mut x_here = *x_adrs;
+            let mut y_here = *y_adrs;
+            set_hashes(&mut x_here, add(x_from, number));
+            set_hashes(&mut y_here, add(y_from, number));
+            let mut x_next = *x;
+            let mut y_next = *y;
+            self.digests_two(&x_here, &y_here, &mut x_next, &mut y_next, self.set.n());
+            *x = pick_nodes(number, x_counts, &x_next, x);
+            *y = pick_nodes(number, y_counts, &y_next, y);
+        }
+    }
+
     /// F in each lane that has a step left, whose number in `counts` is above `step`. Of other lanes nothing is said.
     fn f_each(&self, adrs: &LaneAdrs, x: &LaneNodes, step: u32, counts: Words) -> LaneNodes
-        ensures { (p : Params) (pk_seed : List ℕ) → IsSeededLanes self.now p pk_seed
-            → (j : ℕ) → j < GROUP → step < slice_index counts j → (a : Address) → HasAddress adrs.now j a
-            → value_at result j p.n ≡ F p pk_seed a (value_at x.now j p.n) }
+        ensures { (j : ℕ) → j < GROUP → step < slice_index counts j → (a : Address) → HasAddress adrs.now j a
+            → let p = params self.now.set in
+            value_at result j p.n ≡ F p self.now.pk_seed.now a (value_at x.now j p.n) }
     {
-        let n = self.set.n();
-        if self.pk_seed.len() == n {
-            let mut state = splat_all(&self.state);
-            compress_each(&mut state, &second_block(n, adrs, x), step, counts);
-            state
-        } else {
-            self.f_alone(adrs, x)
-        }
+        let mut state = splat_all(&self.short);
+        compress_each(
+            &mut state,
+            &second_block(self.set.n(), adrs, x),
+            step,
+            counts,
+        );
+        state
     }
 
     /// In each lane the first n bytes of the digest of PK.seed, zeros, the address and the value of `len` bytes.
     fn digests(&self, adrs: &LaneAdrs, x: &LaneNodes, len: usize) -> LaneNodes
         requires { (len ≡ 16) ⊎ (len ≡ 24) ⊎ (len ≡ 32) }
-        ensures { (p : Params) (pk_seed : List ℕ) → IsSeededLanes self.now p pk_seed → length pk_seed ≡ p.n
-            → (j : ℕ) → j < GROUP → (a : Address) → HasAddress adrs.now j a
-            → value_at result j p.n ≡ tweaked_hash SHA_256 p pk_seed a (value_at x.now j len) }
+        ensures { (j : ℕ) → j < GROUP → (a : Address) → HasAddress adrs.now j a
+            → let p = params self.now.set in
+            value_at result j p.n ≡ tweaked_hash SHA_256 p self.now.pk_seed.now a (value_at x.now j len) }
     {
-        let mut state = splat_all(&self.state);
+        let mut state = splat_all(&self.short);
         compress(&mut state, &second_block(len, adrs, x));
         state
     }
@@ -224,60 +264,62 @@ impl<'a> SeededLanes<'a> {
         len: usize,
     )
         requires { (len ≡ 16) ⊎ (len ≡ 24) ⊎ (len ≡ 32) }
-        ensures x { (p : Params) (pk_seed : List ℕ) → IsSeededLanes self.now p pk_seed → length pk_seed ≡ p.n
-            → (j : ℕ) → j < GROUP → (a : Address) → HasAddress x_adrs.now j a
-            → value_at x.new j p.n ≡ tweaked_hash SHA_256 p pk_seed a (value_at x.old j len) }
-        ensures y { (p : Params) (pk_seed : List ℕ) → IsSeededLanes self.now p pk_seed → length pk_seed ≡ p.n
-            → (j : ℕ) → j < GROUP → (a : Address) → HasAddress y_adrs.now j a
-            → value_at y.new j p.n ≡ tweaked_hash SHA_256 p pk_seed a (value_at y.old j len) }
+        ensures x { (j : ℕ) → j < GROUP → (a : Address) → HasAddress x_adrs.now j a
+            → let p = params self.now.set in
+            value_at x.new j p.n ≡ tweaked_hash SHA_256 p self.now.pk_seed.now a (value_at x.old j len) }
+        ensures y { (j : ℕ) → j < GROUP → (a : Address) → HasAddress y_adrs.now j a
+            → let p = params self.now.set in
+            value_at y.new j p.n ≡ tweaked_hash SHA_256 p self.now.pk_seed.now a (value_at y.old j len) }
     {
         let x_block = second_block(len, x_adrs, x);
         let y_block = second_block(len, y_adrs, y);
-        *x = splat_all(&self.state);
+        *x = splat_all(&self.short);
         *y = *x;
         compress_two(x, y, &x_block, &y_block);
     }
+}
 
-    /// F in one lane after the other, for a PK.seed of another length than n.
-    fn f_alone(&self, adrs: &LaneAdrs, x: &LaneNodes) -> LaneNodes
-        ensures { (p : Params) (pk_seed : List ℕ) → IsSeededLanes self.now p pk_seed
-            → (j : ℕ) → j < GROUP → (a : Address) → HasAddress adrs.now j a
-            → value_at result j p.n ≡ F p pk_seed a (value_at x.now j p.n) }
-    {
-        let mut nodes = *x;
-        for j in 0..GROUP {
-            let digest = self.digest_alone(adrs, j, &lane_node(x, j, self.set.n()));
-            set_lane(&mut nodes, j, &digest);
-        }
-        nodes
-    }
+/// SHA-256's hash value after its first block, which PK.seed of n bytes and zeros fill.
+fn short_state(pk_seed: &[u8]) -> [u32; 8]
+    requires { length pk_seed.now ≤ 32 }
+    ensures { (p : Params) → length pk_seed.now ≡ p.n
+        → result ≡ compress initial_hash_256 (first_block p pk_seed.now) }
+{
+    let mut block = [0; BLOCK_LEN];
+    block[..pk_seed.len()].copy_from_slice(pk_seed);
+    hash_after(&block)
+}
 
-    /// PRF in one lane after the other, for a seed of another length than n.
-    fn prf_alone(&self, sk_seed: &[u8], adrs: &LaneAdrs) -> LaneNodes
-        ensures { (p : Params) (pk_seed : List ℕ) → IsSeededLanes self.now p pk_seed
-            → (j : ℕ) → j < GROUP → (a : Address) → HasAddress adrs.now j a
-            → value_at result j p.n ≡ PRF p pk_seed sk_seed.now a }
-    {
-        let mut nodes = [Words::splat(0); 8];
-        for j in 0..GROUP {
-            let digest = self.digest_alone(adrs, j, sk_seed);
-            set_lane(&mut nodes, j, &digest);
-        }
-        nodes
-    }
+/// SHA-512's hash value after its first block, which PK.seed of n bytes and zeros fill.
+fn long_state(pk_seed: &[u8]) -> [u64; 8]
+    requires { length pk_seed.now ≤ 32 }
+    ensures { (p : Params) → length pk_seed.now ≡ p.n
+        → result ≡ compress_long initial_hash_512 (long_first_block p pk_seed.now) }
+{
+    let mut bytes = [0; 128];
+    bytes[..pk_seed.len()].copy_from_slice(pk_seed);
+    let mut block = [LongWords::splat(0); 16];
+    load_all_long(&mut block, &bytes);
+    let mut state = initial();
+    compress_long(&mut state, &block);
+    first_lane(&state)
+}
 
-    /// The digest of PK.seed, zeros, the address in lane `j` and the bytes.
-    fn digest_alone(&self, adrs: &LaneAdrs, j: usize, x: &[u8]) -> [u8; 32]
-        requires { j < GROUP }
-        ensures { (p : Params) (pk_seed : List ℕ) → IsSeededLanes self.now p pk_seed → (a : Address)
-            → HasAddress adrs.now j a
-            → result ≡ sha256 (tweaked 64 p pk_seed a x.now) }
-    {
-        let mut hasher = Sha256::new();
-        hasher.update(self.pk_seed);
-        hasher.update(&[0; 64][..64 - self.set.n()]);
-        hasher.update(&lane_compressed(adrs, j));
-        hasher.update(x);
-        hasher.finalize()
-    }
+/// H of two nodes of n bytes in each lane, of 24 or 32: the first bytes of SHA-512's digests.
+fn long_digests(
+    state: &[u64; 8],
+    n: usize,
+    adrs: &LaneAdrs,
+    left: &LaneNodes,
+    right: &LaneNodes,
+) -> LaneNodes
+    requires { (n ≡ 24) ⊎ (n ≡ 32) }
+    ensures { (p : Params) (pk_seed : List ℕ) → p.n ≡ n → length pk_seed ≡ p.n
+        → state.now ≡ compress_long initial_hash_512 (long_first_block p pk_seed)
+        → (j : ℕ) → j < GROUP → (a : Address) → HasAddress adrs.now j a
+        → value_at result j p.n ≡ H p pk_seed a (value_at left.now j p.n) (value_at right.now j p.n) }
+{
+    let mut lanes = splat_all_long(state);
+    compress_long(&mut lanes, &second_long_block(n, adrs, left, right));
+    truncated(&lanes)
 }

@@ -98,7 +98,7 @@ pub(crate) fn address_words(adrs: &LaneAdrs) -> [Vector; 17]
     words
 }
 
-/// Where the zeros of the padding end in the second of two blocks: before the 8 bytes of the length. The byte that
+/// The end of the zeros of the padding in the second of two blocks, before the 8 bytes of the length. The byte that
 /// begins the padding is counted off.
 const ZEROS_END: u32 = 2 * 64 - 8 - 1;
 

@@ -1,4 +1,4 @@
-//! Two groups of eight blocks of SHA-256 hashed at once, in sixteen lanes where the build has them.
+//! Two groups of eight blocks of SHA-256 at once (FIPS 180-4, section 6.2.2), in sixteen lanes if the build has them.
 ghost use Rattle.std.specs.Prelude.{◌≡◌, ℕ, ◌+◌, ◌<◌, List, slice_index};
 ghost use Rattle.sha2.specs.Sha256.{compress};
 ghost use Rattle.slh_lanes.specs.Columns.{column, lane_column, HasWords};

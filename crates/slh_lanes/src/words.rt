@@ -1,4 +1,4 @@
-//! Vectors of eight words, one in each lane.
+//! Vectors of eight words of 32 bits, one in each lane (ours).
 ghost use Rattle.std.specs.Prelude.{◌≡◌, ◌≢◌, ℕ, ◌+◌, ◌*◌, ◌/◌, ◌%◌, ◌^◌, ◌<◌, ◌≤◌, slice_index};
 ghost use Rattle.sha2.specs.Sha256.{add32};
 ghost use Rattle.slh_lanes.specs.Block.{halves};
@@ -6,7 +6,7 @@ ghost use Rattle.slh_lanes.specs.Columns.{column};
 
 use std::simd::prelude::*;
 
-/// How many messages are hashed side by side: a group, each in a lane of its own.
+/// The number of messages that are hashed at once, one in each lane: a group.
 pub const GROUP: usize = 8;
 
 /// The words of 32 bits of a group, one in each lane.
@@ -88,7 +88,7 @@ pub(crate) fn with_lane(words: Words, j: usize, word: u32) -> Words
     pick(lanes, own, words, from_own)
 }
 
-// Of the sixteen words of two vectors the first, the third and so on.
+// The first, the third and so on of the sixteen words of two vectors.
 #[inline(always)]
 pub(crate) fn evens(x: Words, y: Words) -> Words
     ensures low { (j : ℕ) → j < 4 → slice_index result j ≡ slice_index x (2 * j) }
@@ -99,7 +99,7 @@ pub(crate) fn evens(x: Words, y: Words) -> Words
     Words::from_array([a, b, c, d, e, f, g, h])
 }
 
-// Of the sixteen words of two vectors the second, the fourth and so on.
+// The second, the fourth and so on of the sixteen words of two vectors.
 #[inline(always)]
 pub(crate) fn odds(x: Words, y: Words) -> Words
     ensures low { (j : ℕ) → j < 4 → slice_index result j ≡ slice_index x (2 * j + 1) }
@@ -110,7 +110,7 @@ pub(crate) fn odds(x: Words, y: Words) -> Words
     Words::from_array([a, b, c, d, e, f, g, h])
 }
 
-// In each lane the word of `x` where that of `a` is below that of `b`, else the word of `y`.
+// In each lane the word of `x` if that of `a` is below that of `b`, else the word of `y`.
 #[inline(always)]
 pub(crate) fn pick(a: Words, b: Words, x: Words, y: Words) -> Words
     ensures below { (j : ℕ) → j < GROUP → slice_index a j < slice_index b j → slice_index result j ≡ slice_index x j }
@@ -130,7 +130,7 @@ pub(crate) fn most(words: Words) -> u32
     most
 }
 
-// The type's own fact about a vector: each lane is a word.
+// The fact of the type about a vector: each lane is a word.
 #[inline(always)]
 pub(crate) fn tell_words(_x: Words)
     ensures { (j : ℕ) → j < GROUP → slice_index _x j < 2 ^ 32 }

@@ -89,7 +89,7 @@ kept_fors s j [] = refl
 kept_fors s j (r ∷ rs) = kept_fors s j rs
 
 -- all jobs keep the chains of each layer, from 0 on
-kept_all : (s : SigningTrees) (cut : CutTrees) → cut.set ≡ s.seeds.set → EndToEnd 0 (2 ^ (params cut.set).hp) (tree_ranges cut (Xmss 0))
+kept_all : (s : SigningTrees) (cut : CutTrees) → cut.set ≡ s.signer.now.public.set → EndToEnd 0 (2 ^ (params cut.set).hp) (tree_ranges cut (Xmss 0))
     → flat_map (kept_list s) (signing_jobs cut) ≡ map (chains_in s) (range_with_len 0 (params cut.set).d)
 kept_all s cut same ends =
     let keeps = kept_list s in
@@ -101,7 +101,7 @@ kept_all s cut same ends =
     = flat_map_parts keeps (λ j. tree_jobs cut (Fors j)) trees
     ∙ flat_map_none (λ j. flat_map keeps (tree_jobs cut (Fors j))) (λ j. kept_fors s j (tree_ranges cut (Fors j))) trees in
     let there : (l : ℕ) → leaf_in s (Xmss l) < 2 ^ (params cut.set).hp
-    = λ l. rw same (layer_place-pair (params s.seeds.set) s.idx_tree s.idx_leaf l s.leaf) in
+    = λ l. rw same (layer_place-pair (params s.signer.now.public.set) s.idx_tree s.idx_leaf l s.leaf) in
     let each : (l : ℕ) → flat_map keeps (tree_jobs cut (Xmss l)) ≡ chains_in s l ∷ []
     = λ l. kept_once s l 0 (2 ^ (params cut.set).hp) (tree_ranges cut (Xmss l)) ends (omega arith) (there l) in
     flat_map-append keeps xmss fors
@@ -113,7 +113,7 @@ kept_all s cut same ends =
 
 -- so what all answers keep is what each layer signs from
 pub chains_kept : (s : SigningTrees) (cut : CutTrees) (xs : List Answer) (kept : List (List ℕ)) → length xs ≡ length (signing_jobs cut) → AllRight s cut xs
-    → cut.set ≡ s.seeds.set → EndToEnd 0 (2 ^ (params cut.set).hp) (tree_ranges cut (Xmss 0)) → kept ≡ flat_map (λ x. as_list x.1) xs → AreChains (source_of s) kept
+    → cut.set ≡ s.signer.now.public.set → EndToEnd 0 (2 ^ (params cut.set).hp) (tree_ranges cut (Xmss 0)) → kept ≡ flat_map (λ x. as_list x.1) xs → AreChains (source_of s) kept
 chains_kept s cut xs kept count right same ends is =
     let own : (n : ℕ) (d : Answer) (job : JobRange) → n < length xs → as_list (get_or xs n d).1 ≡ kept_list s (get_or (signing_jobs cut) n job)
     = λ n d job below.

@@ -77,7 +77,7 @@ pub record AreJobsOf (cut : CutTrees) (tree : JobTree) (first count : ℕ) : Typ
   pub some : 0 < count
   pub ends : EndToEnd 0 (2 ^ height_of (params cut.set) tree) (tree_ranges cut tree)
 
-module _ (s : SigningTrees) (cut : CutTrees) (tree : JobTree) (cs : List Cover) (rs : List KnownPath) (first count : ℕ) (same_set : cut.set ≡ s.seeds.set) (answers : AreRangeAnswers s cut cs rs) (jobs : AreJobsOf cut tree first count) where
+module _ (s : SigningTrees) (cut : CutTrees) (tree : JobTree) (cs : List Cover) (rs : List KnownPath) (first count : ℕ) (same_set : cut.set ≡ s.signer.now.public.set) (answers : AreRangeAnswers s cut cs rs) (jobs : AreJobsOf cut tree first count) where
   -- they are some of all jobs
   pub jobs_fit : first + count ≤ length (signing_jobs cut)
   jobs_fit = omega (arith, part_within (signing_jobs cut) (tree_jobs cut tree) first (in_tree tree (0, 0)) jobs.at (omega (arith, jobs.all, jobs.some)), jobs.all)

@@ -1,8 +1,8 @@
--- What the jobs of a signature answer, in memory: ours.
+-- The answers of the jobs of a signature, in memory: ours.
 use Rattle.std.specs.Prelude.{◌≡◌, ℕ, ◌<◌, List, [], ◌∷◌, if◌then◌else◌, length, Option, None, Some, slice_get, slice_index_or}
 use Rattle.slh_params.specs.ParamSet.{params}
 use Rattle.slh_core.specs.DigestParts.{idx_tree, idx_leaf, md}
-use Rattle.slh_core.specs.Keys.{Key, public_of, pk_seed, sk_seed}
+use Rattle.slh_few.specs.declared.context.SigningContext.{SigningContext}
 use Rattle.slh_tree.specs.Record.{KnownPath}
 use Rattle.slh_tree.specs.declared.cover.Cover.{Cover}
 use Rattle.slh_subtrees.specs.CutTrees.{CutTrees}
@@ -22,7 +22,7 @@ pub record IsAnswer (s : SigningTrees) (job : JobRange) (c : Cover) (r : KnownPa
   pub hi : c.hi ≡ job.hi
   pub hashed : IsHashed (tree_in s job.tree) (leaf_in s job.tree) c r
 
--- what a job keeps: where the leaf of a key that signs is one of its range, what is kept of that key's chains
+-- the checkpoints of a job: those of the key that signs, if its leaf is in the range
 abbrev pub kept_in : SigningTrees → JobTree → ℕ → ℕ → Option (List ℕ)
 kept_in s (Xmss l) lo hi = (if signs_in s l lo hi then Some (chains_in s l) else None)
 kept_in s (Fors j) lo hi = None
@@ -30,7 +30,7 @@ kept_in s (Fors j) lo hi = None
 abbrev pub kept_by : SigningTrees → JobRange → Option (List ℕ)
 kept_by s job = kept_in s job.tree job.lo job.hi
 
--- an answer to the job of that number: what is made of its range, and what is kept
+-- an answer to the job of that number: the result of its range, and its checkpoints
 abbrev pub IsRight : SigningTrees → CutTrees → ℕ → HashedRange × Option (List ℕ) → Type 0
 IsRight s cut n x = (job : JobRange) → slice_get (signing_jobs cut) n ≡ Some job → IsAnswer s job x.0.cover x.0.path × (x.1 ≡ kept_by s job)
 
@@ -45,19 +45,19 @@ pub record AreRangeAnswers (s : SigningTrees) (cut : CutTrees) (cs : List Cover)
   pub records : length rs ≡ length (signing_jobs cut)
   pub each : (n : ℕ) (job : JobRange) (c : Cover) (r : KnownPath) → slice_get (signing_jobs cut) n ≡ Some job → IsAnswer s job (slice_index_or cs n c) (slice_index_or rs n r)
 
--- what is kept of the chains of the key that signs on each layer, from 0 on
+-- the checkpoints of the key that signs on each layer, from 0 on
 pub record AreChains (s : TreeSource) (xs : List (List ℕ)) : Type 0 where
   pub len : length xs ≡ (params s.set).d
   pub each : (l : ℕ) (x : List ℕ) → l < (params s.set).d → slice_index_or xs l x ≡ chains_of s l
 
--- what the trees of the signature of a digest are made from
-abbrev pub source_by : Key → List ℕ → TreeSource
-source_by sk digest =
-    let p = params sk.set in
+-- the inputs of the trees of the signature of a digest
+abbrev pub source_by : SigningContext → List ℕ → TreeSource
+source_by signer digest =
+    let p = params signer.public.set in
     record {
-      set = sk.set;
-      sk_seed = sk_seed sk;
-      pk_seed = pk_seed (public_of sk);
+      set = signer.public.set;
+      sk_seed = signer.sk_seed.now;
+      pk_seed = signer.public.pk_seed.now;
       idx_tree = idx_tree p digest;
       idx_leaf = idx_leaf p digest;
       md = md p digest;

@@ -5,12 +5,12 @@ use Rattle.slh_tree.specs.Tree.{MerkleTree}
 use Rattle.slh_tree.specs.Cover.{IsCover}
 use Rattle.slh_tree.specs.declared.cover.Cover.{Cover}
 use Rattle.slh_few.specs.Xmss.{xmss_tree}
-use Rattle.slh_few.specs.declared.place.Seeds.{Seeds}
+use Rattle.slh_few.specs.declared.context.SigningContext.{SigningContext}
 use Rattle.slh_subtrees.specs.declared.range.JobRange.{JobRange}
 
 -- the tree
-abbrev pub top_tree : Seeds → MerkleTree
-top_tree s = xmss_tree (params s.set) s.sk_seed.now s.pk_seed.now ((params s.set).d - 1) 0
+abbrev pub top_tree : SigningContext → MerkleTree
+top_tree s = xmss_tree (params s.public.set) s.sk_seed.now s.public.pk_seed.now ((params s.public.set).d - 1) 0
 
 -- the cover of a job's range
 pub record IsTopAnswer (tree : MerkleTree) (job : JobRange) (c : Cover) : Type 0 where

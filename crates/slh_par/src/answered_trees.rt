@@ -1,11 +1,11 @@
-//! The trees of a signature, once all their ranges are hashed.
+//! The trees of a signature after all their ranges are hashed (ours).
 ghost use Rattle.std.specs.Prelude.{◌≡◌, ◌+◌, ◌<◌, ◌≤◌, ◌^◌, IfOk, length, take, drop};
 ghost use Rattle.slh_params.specs.ParamSet.{params};
 ghost use Rattle.slh_subtrees.specs.Assembled.{answers_of};
 ghost use Rattle.slh_subtrees.specs.Jobs.{IsTreeOf, height_of, signing_jobs, tree_ranges, tree_jobs};
 ghost use Rattle.slh_subtrees.specs.Gathered.{IsGathered};
 ghost use Rattle.slh_subtrees.specs.Points.{EndToEnd};
-ghost use Rattle.slh_subtrees.specs.SigningTrees.{source_of, tree_in, leaf_in};
+ghost use Rattle.slh_subtrees.specs.SigningTrees.{set_in, source_of, tree_in, leaf_in};
 ghost use Rattle.slh_par.specs.JobAnswers.{AreRangeAnswers, AreChains, IsRight};
 ghost use Rattle.slh_workers.specs.Answers.{RightByPlace};
 
@@ -19,26 +19,26 @@ use slh_tree::{Cover, PathRec};
 use slh_workers::NoMemory;
 use std::alloc::Allocator;
 
-/// All trees of a signature, with what is made of their ranges, and what is kept of the chains of the keys that sign.
+/// All trees of a signature, with the results of their ranges, and the checkpoints of the keys that sign.
 #[derive(Drop)]
 pub(crate) struct AnsweredTrees<'t, 's, A: Allocator> {
-    /// What the trees are made from.
+    /// The inputs of the trees.
     pub(crate) trees: &'t SigningTrees<'s>,
     /// How they are cut into ranges.
     pub(crate) cutting: &'t Cutting,
     /// The covers of the ranges, in the order of the jobs.
     pub(crate) covers: Vec<Cover, A>,
-    /// Of each range the nodes of its tree's path whose leaves lie in it, in the same order.
+    /// For each range the nodes of its tree's path whose leaves are in it, in this order.
     pub(crate) records: Vec<PathRec, A>,
-    /// What is kept of the chains of the key that signs on each layer, from 0 on.
+    /// The checkpoints of the key that signs on each layer, from 0 on.
     pub(crate) chains: Vec<KeptChains<A>, A>,
-    ghost same_set: { cutting.now.set ≡ trees.now.seeds.set },
+    ghost same_set: { cutting.now.set ≡ set_in trees.now },
     ghost all_answers: { ∥ AreRangeAnswers trees.now cutting.now covers.items records.items ∥₁ },
     ghost all_chains: { ∥ AreChains (source_of trees.now) chains.items ∥₁ },
 }
 
 impl<'t, 's, A: Allocator + Clone> AnsweredTrees<'t, 's, A> {
-    /// The trees, from the answers of all jobs in the order of their numbers. Refuses `NoMemory` where a growth was
+    /// The trees, from the answers of all jobs in the order of their numbers. Refuses `NoMemory` if a growth was
     /// refused.
     pub(crate) fn new(
         alloc: A,
@@ -46,7 +46,7 @@ impl<'t, 's, A: Allocator + Clone> AnsweredTrees<'t, 's, A> {
         cutting: &'t Cutting,
         answers: Vec<JobAnswer<A>, A>,
     ) -> Result<Self, NoMemory>
-        requires set { cutting.now.set ≡ trees.now.seeds.set }
+        requires set { cutting.now.set ≡ set_in trees.now }
         requires count { length answers.items ≡ length (signing_jobs cutting.now) }
         requires right { RightByPlace (IsRight trees.now cutting.now) answers.items }
         ensures { IfOk result (λ x. x.trees.now ≡ trees.now) }
@@ -95,7 +95,7 @@ fn tree_of_ranges(
     covers: &[Cover],
     records: &[PathRec],
 ) -> GatheredTree
-    requires set { cutting.now.set ≡ trees.now.seeds.set }
+    requires set { cutting.now.set ≡ set_in trees.now }
     requires tree { IsTreeOf (params cutting.now.set) tree }
     requires answers { AreRangeAnswers trees.now cutting.now covers.now records.now }
     ensures { IsGathered (tree_in trees.now tree) (leaf_in trees.now tree) result }
@@ -110,7 +110,7 @@ fn tree_of_ranges(
 }
 
 impl<'t, 's, A: Allocator> Answers for AnsweredTrees<'t, 's, A> {
-    ghost set = { λ x. x.trees.now.seeds.set };
+    ghost set = { λ x. set_in x.trees.now };
 
     ghost says = { λ x. answers_of (source_of x.trees.now) };
 
@@ -119,7 +119,7 @@ impl<'t, 's, A: Allocator> Answers for AnsweredTrees<'t, 's, A> {
     }
 
     fn put_path(&self, tree: JobTree, out: &mut [u8]) -> Node {
-        let set = self.trees.seeds.set;
+        let set = self.trees.signer.public.set;
         let gathered = tree_of_ranges(self.trees, self.cutting, tree, &self.covers, &self.records);
         put_path(&gathered.path, tree.height(set), set.n(), out);
         gathered.root

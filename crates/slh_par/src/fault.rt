@@ -1,4 +1,4 @@
-//! Why a parallel call gives no answer.
+//! The reason why a parallel call gives no answer (ours).
 ghost use Rattle.std.specs.Prelude.{◌≡◌};
 ghost use Rattle.slh_par.specs.ParFault.{fault_number, fault_name, fault_of_run};
 ghost use Rattle.slh_par.specs.declared.fault.ParFault.TheVariants.{NoMemory as NoMemoryFault};

@@ -19,9 +19,8 @@ use std::thread::Threads;
 
 /// Signs a message in a form, under a context (FIPS 205, Algorithms 22 and 23), by several workers, writing `sig_len`
 /// bytes: those of `Form::sign` of `slh_core`. In the pre-hash form the message is hashed first. Refused, with nothing
-/// written: first `ContextTooLong`, before any thread is started, where the context has over 255 bytes; then `NoMemory`
-/// where a growth was refused; then `Stopped` where the gate stopped the run. It waits only for the threads that it
-/// started.
+/// written: first `ContextTooLong`, before any thread is started, if the context has over 255 bytes. Then `NoMemory` if
+/// a growth was refused; then `Stopped` if the gate stopped the run. It waits only for the threads that it started.
 pub fn sign_form_par<R: Threads + Sync, A: Allocator + Clone + Send + Sync, G: Gate>(
     rt: &R,
     alloc: A,

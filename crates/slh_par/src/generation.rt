@@ -1,4 +1,4 @@
-//! Key generation by several threads.
+//! Key generation by several threads (FIPS 205, Algorithm 18).
 ghost use Rattle.std.specs.Prelude.{◌≡◌, length, IfOk, IfErr};
 ghost use Rattle.slh_params.specs.ParamSet.{params};
 ghost use Rattle.slh_core.specs.Keys.{generated_key, IsGeneratedKey};
@@ -7,7 +7,7 @@ ghost use Rattle.slh_par.specs.declared.fault.ParFault.TheVariants.{ContextTooLo
 use crate::fault::ParFault;
 use crate::top_tree::{TopRanges, gathered_top};
 use slh_core::SecretKey;
-use slh_few::Seeds;
+use slh_few::{Seeds, SigningContext};
 use slh_params::ParamSet;
 use slh_subtrees::Cutting;
 use slh_workers::{Gate, Workers, run_all};
@@ -15,8 +15,8 @@ use std::alloc::Allocator;
 use std::thread::Threads;
 
 /// The secret key of three seeds of n bytes each (FIPS 205, Algorithm 18), by several workers: that of
-/// `slh_core::keygen_internal`. Refused: `NoMemory` where a growth was refused, then `Stopped` where the gate stopped
-/// the run. It waits only for the threads that it started.
+/// `slh_core::keygen_internal`. Refused: `NoMemory` if a growth was refused, then `Stopped` if the gate stopped the
+/// run. It waits only for the threads that it started.
 pub fn keygen_par<R: Threads + Sync, A: Allocator + Clone + Send + Sync, G: Gate>(
     rt: &R,
     alloc: A,
@@ -42,11 +42,12 @@ pub fn keygen_par<R: Threads + Sync, A: Allocator + Clone + Send + Sync, G: Gate
         sk_seed,
         pk_seed,
     };
+    let signer = SigningContext::new(&seeds);
     let work = TopRanges {
-        seeds: &seeds,
+        signer: &signer,
         cutting,
     };
     let covers = run_all(rt, alloc, &work, workers, gate)?;
-    let root = gathered_top(&seeds, cutting, &covers);
+    let root = gathered_top(&signer, cutting, &covers);
     Ok(SecretKey::from_parts(set, sk_seed, sk_prf, pk_seed, &root))
 }

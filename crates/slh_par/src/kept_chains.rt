@@ -1,11 +1,11 @@
-//! What is kept of the chains of one key.
+//! The checkpoints of the chains of one key (ours).
 ghost use Rattle.std.specs.Prelude.{◌≡◌};
 
 use std::alloc::Allocator;
 use std::marker::Model;
 
-/// The values that are kept of the chains of the key that signs on a layer, from which `wots_sign_kept` of `slh_few`
-/// signs. Contracts see their bytes.
+/// The checkpoints of the key that signs on a layer, from which `wots_sign_kept` of `slh_few` signs. Contracts see
+/// their bytes.
 #[derive(Drop)]
 pub(crate) struct KeptChains<A: Allocator> {
     bytes: Vec<u8, A>,

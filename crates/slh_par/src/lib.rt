@@ -3,9 +3,9 @@
 //!
 //! A signature is made in one run of numbered jobs over the workers. The jobs are the ranges of a `Cutting`: they give
 //! the roots of the d XMSS trees and of the k FORS trees, and of each the path of the leaf that signs. The job that
-//! makes the signing leaf of an XMSS tree also keeps values of the chains of that leaf's key. Then all that the layers
-//! sign is known, and each layer's WOTS+ signature is read from the values of its key. The bytes are written at the
-//! end, in this thread: a call that is refused writes none.
+//! makes the signing leaf of an XMSS tree also stores checkpoints of the chains of that leaf's key. Then all that the
+//! layers sign is known, and each layer's WOTS+ signature is read from the values of its key. The bytes are written at
+//! the end, in this thread: a call that is refused writes none.
 #![tactic(auto)]
 
 mod answered_trees;

@@ -1,4 +1,4 @@
-//! The ranges of a signature's trees, as jobs.
+//! The ranges of a signature's trees, as jobs (ours).
 ghost use Rattle.std.specs.Prelude.{◌≡◌, IfOk, length};
 ghost use Rattle.slh_subtrees.specs.Jobs.{signing_jobs};
 ghost use Rattle.slh_par.specs.JobAnswers.{IsRight};
@@ -11,9 +11,9 @@ use std::alloc::Allocator;
 use std::boxed::Box;
 use std::marker::Model;
 
-/// The answer of a job: what is made of its range, and where the leaf of a key that signs is one of the range, what is
-/// kept of that key's chains. The range has room for a cover of any tree, some 2 KB. So it stands apart: an answer is
-/// moved several times on its way from the worker to the signature.
+/// The answer of a job: the result of its range, and the checkpoints of the key that signs, if its leaf is in the
+/// range. The range has room for a cover of any tree, some 2 KB. So it stands apart: an answer is moved several times
+/// on its way from the worker to the signature.
 #[derive(Drop)]
 pub(crate) struct JobAnswer<A: Allocator> {
     range: Box<HashedRange, A>,
@@ -30,7 +30,7 @@ impl<A: Allocator> Model for JobAnswer<A> {
 }
 
 impl<A: Allocator> JobAnswer<A> {
-    /// This range and what is kept. Refuses `NoMemory` where a growth was refused.
+    /// This range and its checkpoints. Refuses `NoMemory` if a growth was refused.
     fn new(
         alloc: A,
         range: HashedRange,
@@ -42,7 +42,7 @@ impl<A: Allocator> JobAnswer<A> {
         Ok(JobAnswer { range, kept })
     }
 
-    /// The range and what is kept.
+    /// The range and its checkpoints.
     pub(crate) fn into_parts(self) -> (HashedRange, Option<KeptChains<A>>)
         ensures { result ≡ self }
     {
@@ -51,13 +51,13 @@ impl<A: Allocator> JobAnswer<A> {
     }
 }
 
-/// The ranges of all trees of one signature. What is kept of chains is memory of the allocator.
+/// The ranges of all trees of one signature. Checkpoints are memory of the allocator.
 #[derive(Drop)]
 pub(crate) struct TreeRanges<'w, 's, A: Allocator + Clone + Send + Sync> {
     pub(crate) trees: &'w SigningTrees<'s>,
     pub(crate) cutting: &'w Cutting,
     pub(crate) alloc: A,
-    ghost same_set: { cutting.now.set ≡ trees.now.seeds.set },
+    ghost same_set: { cutting.now.set ≡ trees.now.signer.now.public.set },
 }
 
 impl<'w, 's, A: Allocator + Clone + Send + Sync> Work for TreeRanges<'w, 's, A> {
@@ -76,7 +76,9 @@ impl<'w, 's, A: Allocator + Clone + Send + Sync> Work for TreeRanges<'w, 's, A> 
         let JobRange { tree, lo, hi } = job(self.cutting, i);
         match tree {
             JobTree::Xmss(layer) if trees.signs_in(layer, lo, hi) => {
-                let mut kept = vec![in self.alloc.clone()?; 0; kept_chains_len(trees.seeds.set)]?;
+                let mut kept = vec![in self.alloc.clone()?; 0; kept_chains_len(
+                    trees.signer.public.set
+                )]?;
                 let range = trees.hashed_keeping(layer, lo, hi, &mut kept);
                 JobAnswer::new(self.alloc.clone()?, range, Some(KeptChains::new(kept)))
             }

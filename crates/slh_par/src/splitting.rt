@@ -1,4 +1,4 @@
-//! The answers of all jobs of a signature, split into their parts.
+//! The answers of all jobs of a signature, split into their parts (ours).
 ghost use Rattle.std.specs.Prelude.{◌≡◌, ◌++◌, map, IfOk, OnOk};
 ghost use Rattle.std.specs.List.{flat_map};
 ghost use Rattle.slh_par.specs.JobAnswers.{as_list};
@@ -9,7 +9,7 @@ use slh_tree::{Cover, PathRec};
 use slh_workers::NoMemory;
 use std::alloc::Allocator;
 
-/// Adds what was kept, if anything was.
+/// Adds the checkpoints, if there are any.
 fn push_kept<A: Allocator>(
     kept: &mut Vec<KeptChains<A>, A>,
     chains: Option<KeptChains<A>>,
@@ -22,7 +22,7 @@ fn push_kept<A: Allocator>(
     Ok(())
 }
 
-/// The covers and the records of the ranges, and what was kept of chains, each in their order.
+/// The covers and the records of the ranges, and the checkpoints, each in their order.
 pub(crate) fn split_answers<A: Allocator + Clone>(
     alloc: A,
     answers: Vec<JobAnswer<A>, A>,

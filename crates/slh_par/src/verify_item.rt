@@ -1,9 +1,9 @@
-//! One signature to verify.
+//! One signature to verify (FIPS 205, Algorithms 24 and 25).
 ghost use Rattle.std.specs.Prelude.{◌↔◌, IsTrue};
 
 use slh_core::{Form, PreHash, PublicKey};
 
-/// A signature to verify, with all that says what it should be a signature of. Any bytes may stand in it.
+/// A signature to verify, with its form, message, context and key. All bytes may be any.
 #[derive(Clone, Copy)]
 pub struct VerifyItem<'a> {
     /// The key that is to have signed.
@@ -12,7 +12,7 @@ pub struct VerifyItem<'a> {
     pub msg: &'a [u8],
     /// The context.
     pub ctx: &'a [u8],
-    /// The function by whose digest the message was signed; `None` where the message itself was signed.
+    /// The function by whose digest the message was signed; `None` if the message itself was signed.
     pub prehash: Option<PreHash>,
     /// The signature.
     pub sig: &'a [u8],

@@ -1,4 +1,4 @@
-//! Verifying many signatures by several threads.
+//! Many signatures, verified by several threads (FIPS 205, Algorithms 24 and 25).
 ghost use Rattle.std.specs.Prelude.{◌≡◌, ◌↔◌, IsTrue, IfOk, IfErr};
 ghost use Rattle.slh_par.specs.Verdicts.{IsVerified, AreVerdicts};
 ghost use Rattle.slh_par.specs.declared.fault.ParFault.TheVariants.{NoMemory as NoMemoryFault};
@@ -24,8 +24,8 @@ impl<'a> Question<VerifyItem<'a>> for Validity {
 }
 
 /// Whether each of the signatures is valid, in the order of the items, by several workers. Over 2^32 - 1 items are
-/// verified in several runs. Refused `NoMemory` alone, where a growth was refused. It waits only for the threads that
-/// it started.
+/// verified in several runs. Refused only as `NoMemory`, if a growth was refused. It waits only for the threads that it
+/// started.
 pub fn verify_all<R: Threads + Sync, A: Allocator + Clone + Send + Sync>(
     rt: &R,
     alloc: A,

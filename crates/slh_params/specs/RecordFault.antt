@@ -1,4 +1,4 @@
--- What six numbers are refused for that are no valid record: ours.
+-- The reasons why six numbers are no valid record: ours.
 use Rattle.std.specs.Prelude.{ℕ, List}
 use Rattle.slh_params.specs.declared.param_set.custom.RecordFault.{RecordFault}
 use Rattle.slh_params.specs.declared.param_set.custom.RecordFault.TheVariants.{BadRecord}

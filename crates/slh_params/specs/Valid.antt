@@ -1,4 +1,4 @@
--- Which parameter records are valid: ours. The bounds have the standard's six sets, and keep the index of a tree within
+-- Which parameter records are valid: ours. The bounds have the standard's six sets, and hold the index of a tree within
 -- 64 bits. They say nothing of security.
 use Rattle.std.specs.Prelude.{ℕ, ◌-◌, ◌*◌, ◌==◌, ◌&&◌, ◌||◌, nat_le, Bool, cond, IsTrue, List, Option, Some, None, codes}
 use Rattle.slh_params.specs.Params.{Params}

@@ -1,5 +1,5 @@
-//! Nodes: the hash values of n bytes.
-ghost use Rattle.std.specs.Prelude.{◌≡◌, ◌+◌, ◌≤◌, ◌++◌, length, take};
+//! Nodes: hash values of n bytes (FIPS 205, section 2.3).
+ghost use Rattle.std.specs.Prelude.{◌≡◌, ◌+◌, ◌≤◌, ◌++◌, length, take, drop};
 
 use arrayvec::ArrayVec;
 
@@ -25,10 +25,11 @@ pub fn copy_of(node: &Node) -> Node
     node_of(node.as_slice())
 }
 
-/// Writes the node's bytes into `out` from `start` on.
+/// Writes the node's bytes into `out` from `start` on, and changes no other byte.
 pub fn put_node(out: &mut [u8], start: usize, node: &Node)
     requires { start + length node.now.items ≤ length out.old }
-    ensures { take (start + length node.now.items) out.new ≡ take start out.old ++ node.now.items }
+    ensures written { take (start + length node.now.items) out.new ≡ take start out.old ++ node.now.items }
+    ensures behind { drop (start + length node.now.items) out.new ≡ drop (start + length node.now.items) out.old }
 {
     let end = start + node.len();
     out[start..end].copy_from_slice(node);

@@ -21,5 +21,5 @@ hashed_range t idx lo hi c old new from to cover gained height leaf none = recor
   height = gained.height ∙ height;
   leaf = gained.leaf ∙ leaf;
   inside = λ j below lies. rw leaf at (gained.noted j (omega (arith, height)) (rw (from, to, sym leaf) at lies));
-  outside = λ j apart. gained.kept j (λ lies. apart (rw (sym from, sym to, leaf) at lies)) ∙ none j;
+  outside = λ j apart. gained.kept j (λ _ lies. apart (rw (sym from, sym to, leaf) at lies)) ∙ none j;
 }

@@ -1,4 +1,4 @@
--- A signature from what the answers of all jobs say of its trees: ours, by FIPS 205, Algorithms 12 and 16.
+-- A signature from the values that the answers of all jobs give for its trees: ours, by FIPS 205, Algorithms 12 and 16.
 use Rattle.std.specs.Prelude.{◌≡◌, ℕ, zero, suc, ◌<◌, List, ◌++◌}
 use Rattle.slh_params.specs.ParamSet.{params}
 use Rattle.slh_tree.specs.Tree.{root as root_of}
@@ -11,24 +11,25 @@ use Rattle.slh_subtrees.specs.Trees.{TreeSource, place_of, tree_of, leaf_of, sec
 use Rattle.slh_subtrees.specs.declared.range.JobTree.{JobTree}
 use Rattle.slh_subtrees.specs.declared.range.JobTree.TheVariants.{Xmss, Fors}
 
--- What the answers say: of each tree the root and the path of its signing leaf, of each FORS tree the secret value of
--- that leaf, and of each layer what is kept of the chains of the key that signs there.
+-- The values of the answers: for each tree the root and the path of its signing leaf. Also for each FORS tree the
+-- secret value of that leaf, and for each layer the checkpoints of the key that signs there.
 pub record TreeAnswers : Type 0 where
   pub root : JobTree → List ℕ
   pub path : JobTree → List ℕ
   pub secret : ℕ → List ℕ
   pub chains : ℕ → List ℕ
 
--- what FORS tree j adds to the signature: the secret value, then the path (Algorithm 16)
+-- the part of FORS tree j in the signature: the secret value, then the path (Algorithm 16)
 abbrev pub fors_part_by : TreeAnswers → ℕ → List ℕ
 fors_part_by a j = a.secret j ++ a.path (Fors j)
 
--- what layer l signs: at layer 0 the FORS public key, above it the root of the tree below; at d the root of the top tree
+-- the value that layer l signs: at layer 0 the FORS public key, above it the root of the tree below; at d the root of
+-- the top tree
 abbrev pub signed_by : TreeSource → TreeAnswers → ℕ → List ℕ
 signed_by s a zero = compressed_roots (params s.set) s.pk_seed s.idx_tree s.idx_leaf (λ j. a.root (Fors j))
 signed_by s a (suc l) = a.root (Xmss l)
 
--- what a layer adds where its key signs m: the WOTS+ signature, from what is kept of the key's chains, then the path
+-- the part of a layer, if its key signs m: the WOTS+ signature, from the key's checkpoints, then the path
 abbrev pub layer_part_by : TreeSource → TreeAnswers → ℕ → List ℕ → List ℕ
 layer_part_by s a l m = wots_sig_from (params s.set) s.pk_seed (place_of s l) (a.chains l) m ++ a.path (Xmss l)
 

@@ -22,11 +22,11 @@ abbrev pub IsInRule : ℕ → Cuts → Type 0
 IsInRule height (Levels level) = (level ≤ height) × (level ≤ 8)
 IsInRule height (Points points) = IsStrictlyIncreasing (0 ∷ points.now ++ 2 ^ height ∷ []) × (length points.now ≤ 255)
 
--- what is wrong with the cuts of the trees of one kind, if anything is
+-- the fault of the cuts of the trees of one kind, if any
 abbrev pub fault_of : CutTree → ℕ → Cuts → Option CutFault
 fault_of tree height (Levels level) = (if nat_le level height && nat_le level 8 then None else Some (BadCutting tree level))
 fault_of tree height (Points points) = option_map (λ place. BadCutting tree place) (first_bad (2 ^ height) 0 0 points.now)
 
--- what is wrong with the cuts of a parameter set's trees, if anything is; the XMSS trees are judged first
+-- the fault of the cuts of a parameter set's trees, if any; the XMSS trees are checked first
 abbrev pub cut_fault : Params → Cuts → Cuts → Option CutFault
 cut_fault p xmss fors = option_or (fault_of Xmss p.hp xmss) (fault_of Fors p.a fors)

@@ -1,4 +1,4 @@
--- What contracts see of a cutting: ours.
+-- The view of a cutting, for contracts: ours.
 use Rattle.std.specs.Prelude.{ℕ, List}
 use Rattle.slh_params.specs.declared.param_set.ParamSet.{ParamSet}
 

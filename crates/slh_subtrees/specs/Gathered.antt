@@ -1,4 +1,4 @@
--- What is made of a range of a tree's leaves, and of the whole tree: ours.
+-- The results of a range of a tree's leaves, and of the whole tree: ours.
 use Rattle.std.specs.Prelude.{◌≡◌, ℕ, ◌<◌, List, length, None, Some, slice_index_or}
 use Rattle.slh_tree.specs.Tree.{MerkleTree, root, sibling}
 use Rattle.slh_tree.specs.Cover.{IsCover, AreCovers}
@@ -6,7 +6,7 @@ use Rattle.slh_tree.specs.Record.{KnownPath, known, LiesInRange}
 use Rattle.slh_tree.specs.declared.cover.Cover.{Cover}
 use Rattle.slh_subtrees.specs.declared.gathered_tree.GatheredTree.{GatheredTree}
 
--- the cover of its range of the tree's leaves, and a record of those nodes of leaf idx's path whose leaves lie in that
+-- the cover of its range of the tree's leaves, and a record of those nodes of leaf idx's path whose leaves are in that
 -- range
 pub record IsHashed (tree : MerkleTree) (idx : ℕ) (c : Cover) (r : KnownPath) : Type 0 where
   pub cover : IsCover tree c.lo c.hi c.nodes.items

@@ -3,8 +3,8 @@ use Rattle.std.specs.Prelude.{◌≡◌, ℕ, ◌+◌, ◌-◌, ◌*◌, ◌^◌
 use Rattle.std.specs.List.{range_with_len}
 
 -- The index of the first point that is not above the one before it or is not below `leaves`, or 255 where all before
--- are good. The list is what is left of the points from the index `at` on, and `before` is the point before it, 0 at
--- the start.
+-- are good. The list is the rest of the points from the index `at` on, and `before` is the point before it, 0 at the
+-- start.
 abbrev pub first_bad : ℕ → ℕ → ℕ → List ℕ → Option ℕ
 first_bad leaves before at [] = None
 first_bad leaves before at (p ∷ ps) =

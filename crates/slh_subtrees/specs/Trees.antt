@@ -12,8 +12,8 @@ use Rattle.slh_few.specs.declared.place.Place.{Place}
 use Rattle.slh_subtrees.specs.declared.range.JobTree.{JobTree}
 use Rattle.slh_subtrees.specs.declared.range.JobTree.TheVariants.{Xmss, Fors}
 
--- What they are made from: SK.seed and PK.seed, the tree and the leaf of layer 0 that sign, and the part of the digest
--- that FORS signs.
+-- Their inputs: SK.seed and PK.seed, the tree and the leaf of layer 0 that sign, and the part of the digest that FORS
+-- signs.
 pub record TreeSource : Type 0 where
   pub set : ParamSet
   pub sk_seed : List ℕ
@@ -41,6 +41,6 @@ abbrev pub secret_of : TreeSource → ℕ → List ℕ
 secret_of s j =
     fors_secret (params s.set) s.sk_seed s.pk_seed s.idx_tree s.idx_leaf (j * 2 ^ (params s.set).a + fors_index (params s.set) s.md j)
 
--- what is kept of the chains of the key that signs on layer l
+-- the checkpoints of the key that signs on layer l
 abbrev pub chains_of : TreeSource → ℕ → List ℕ
 chains_of s l = kept_chains (params s.set) s.sk_seed s.pk_seed (place_of s l)

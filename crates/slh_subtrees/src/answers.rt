@@ -1,25 +1,27 @@
-//! The parts of a signature, from what the answers of all jobs say of its trees.
+//! The parts of a signature, from the answers of all jobs (ours).
 ghost use Rattle.std.specs.Prelude.{◌≡◌, ◌+◌, ◌*◌, ◌<◌, ◌≤◌, ◌++◌, length, take};
 ghost use Rattle.slh_params.specs.ParamSet.{params};
 ghost use Rattle.slh_params.specs.declared.param_set.ParamSet.{ParamSet};
 ghost use Rattle.slh_few.specs.Fors.{fors_part_len};
 ghost use Rattle.slh_few.specs.KeptChains.{kept_chains_len};
+ghost use Rattle.slh_few.specs.Parts.{end_to_end};
 ghost use Rattle.slh_few.specs.Xmss.{xmss_sig_len};
 ghost use Rattle.slh_subtrees.specs.Jobs.{IsTreeOf, height_of};
-ghost use Rattle.slh_subtrees.specs.SigningTrees.{source_of};
+ghost use Rattle.slh_subtrees.specs.SigningTrees.{set_in, source_of};
 ghost use Rattle.slh_subtrees.specs.Assembled.{TreeAnswers, fors_part_by, signed_by, layer_part_by, sig_fors_by, sig_ht_by};
+ghost use Rattle.slh_subtrees.specs.declared.answers.TheConstants.{MOST_ROOTS_LEN};
 
 use crate::range::JobTree;
 use crate::signing_trees::SigningTrees;
-use slh_few::{fors_part_len, fors_roots, wots_sig_len, wots_sign_kept, xmss_sig_len};
-use slh_params::{Node, ParamSet, copy_of};
+use slh_few::{MOST_TREES, fors_part_len, wots_sig_len, xmss_sig_len};
+use slh_params::{Node, ParamSet, copy_of, put_node};
 
-/// What the answers of all jobs of a signature say of its trees, whoever has them.
+/// The values of the trees of a signature, from the answers of all jobs, in any representation.
 pub trait Answers {
     /// The parameter set.
     ghost set: { Self → ParamSet };
 
-    /// What they say: of right answers, what is the trees' own.
+    /// The values that they give: for right answers, those of the trees.
     ghost says: { Self → TreeAnswers };
 
     /// Writes the secret value of the leaf of FORS tree `number` that the digest asks for, n bytes.
@@ -36,14 +38,14 @@ pub trait Answers {
         ensures root { result.items ≡ (says self.now).root tree }
         ensures len { length result.items ≡ (params (set self.now)).n };
 
-    /// What is kept of the chains of the key that signs on the layer, `kept_chains_len` bytes.
+    /// The checkpoints of the key that signs on the layer, `kept_chains_len` bytes.
     fn chains(&self, layer: u8) -> &[u8]
         requires { layer < (params (set self.now)).d }
         ensures value { result.now ≡ (says self.now).chains layer }
         ensures len { length result.now ≡ kept_chains_len (params (set self.now)) };
 }
 
-/// Writes what FORS tree `number` adds to the signature, the secret value and the path (FIPS 205, Algorithm 16), and
+/// Writes the part of FORS tree `number` in the signature, the secret value and the path (FIPS 205, Algorithm 16), and
 /// returns the tree's root.
 fn fors_part<A: Answers>(answers: &A, set: ParamSet, number: u32, out: &mut [u8]) -> Node
     requires set { A.set answers.now ≡ set }
@@ -58,7 +60,7 @@ fn fors_part<A: Answers>(answers: &A, set: ParamSet, number: u32, out: &mut [u8]
     answers.put_path(JobTree::Fors(number), auth)
 }
 
-/// Writes what `fors_part` writes, from `start` on.
+/// As `fors_part`, from `start` on.
 fn put_fors_part<A: Answers>(
     answers: &A,
     set: ParamSet,
@@ -79,28 +81,50 @@ fn put_fors_part<A: Answers>(
     fors_part(answers, set, number, &mut out[start..end])
 }
 
-/// Writes the FORS signature that the answers make (FIPS 205, Algorithm 16), and returns T over the roots that they say
-/// (Algorithm 17, lines 21 to 24): of right answers, the FORS public key.
-pub fn put_fors<A: Answers>(trees: &SigningTrees, answers: &A, out: &mut [u8]) -> Node
-    requires set { A.set answers.now ≡ trees.now.seeds.set }
-    requires out { length out.old ≡ (params trees.now.seeds.set).k * fors_part_len (params trees.now.seeds.set) }
-    ensures sig_fors { out.new ≡ sig_fors_by (source_of trees.now) (A.says answers.now) }
-    ensures pk_fors { result.items ≡ signed_by (source_of trees.now) (A.says answers.now) 0 }
-    ensures len { length result.items ≡ (params trees.now.seeds.set).n }
+/// At least the length of the roots of all FORS trees in any set, of 32 bytes each.
+pub const MOST_ROOTS_LEN: usize = MOST_TREES * 32;
+
+/// The length of the roots of all FORS trees, in bytes.
+pub fn roots_len(set: ParamSet) -> usize
+    ensures value { result ≡ (params set).k * (params set).n }
+    ensures small { result ≤ MOST_ROOTS_LEN }
 {
-    let set = trees.seeds.set;
-    let size = fors_part_len(set);
-    let mut roots = fors_roots(&trees.public(), trees.idx_tree, trees.idx_leaf);
-    for j in 0..set.k() {
-        let root = put_fors_part(answers, set, j, out, j as usize * size);
-        roots.absorb(&root);
-    }
-    roots.finish()
+    set.k() as usize * set.n()
 }
 
-/// Writes what a layer adds to the signature where its key signs `msg`: the WOTS+ signature, from what is kept of the
-/// key's chains, and the path of the key's leaf (FIPS 205, Algorithm 10). Returns the root
-/// that the answers say.
+/// Writes the FORS signature that the answers make (FIPS 205, Algorithm 16), and the roots that they say, n bytes each.
+fn put_fors_parts<A: Answers>(answers: &A, set: ParamSet, out: &mut [u8], roots: &mut [u8])
+    requires set { A.set answers.now ≡ set }
+    requires out { length out.old ≡ (params set).k * fors_part_len (params set) }
+    requires roots { length roots.old ≡ (params set).k * (params set).n }
+    ensures sig_fors { out.new ≡ end_to_end (fors_part_by (A.says answers.now)) (params set).k }
+    ensures roots { roots.new ≡ end_to_end (λ j. (A.says answers.now).root (JobTree.Fors j)) (params set).k }
+{
+    let (n, size) = (set.n(), fors_part_len(set));
+    for j in 0..set.k() {
+        let root = put_fors_part(answers, set, j, out, j as usize * size);
+        put_node(roots, j as usize * n, &root);
+    }
+}
+
+/// Writes the FORS signature from the answers (FIPS 205, Algorithm 16). Returns T over the roots that they give
+/// (Algorithm 17, lines 21 to 24): for right answers, the FORS public key.
+pub fn put_fors<A: Answers>(trees: &SigningTrees, answers: &A, out: &mut [u8]) -> Node
+    requires set { A.set answers.now ≡ set_in trees.now }
+    requires out { length out.old ≡ (params (set_in trees.now)).k * fors_part_len (params (set_in trees.now)) }
+    ensures sig_fors { out.new ≡ sig_fors_by (source_of trees.now) (A.says answers.now) }
+    ensures pk_fors { result.items ≡ signed_by (source_of trees.now) (A.says answers.now) 0 }
+    ensures len { length result.items ≡ (params (set_in trees.now)).n }
+{
+    let public = &trees.signer.public;
+    let mut buffer = [0; MOST_ROOTS_LEN];
+    let roots = &mut buffer[..roots_len(public.set)];
+    put_fors_parts(answers, public.set, out, roots);
+    public.fors_pk(trees.idx_tree, trees.idx_leaf, roots)
+}
+
+/// Writes a layer's part of the signature, if its key signs `msg` (FIPS 205, Algorithm 10): the WOTS+ signature, from
+/// the key's checkpoints, and the path of the key's leaf. Returns the root that the answers say.
 fn layer_part<A: Answers>(
     trees: &SigningTrees,
     answers: &A,
@@ -108,21 +132,22 @@ fn layer_part<A: Answers>(
     msg: &Node,
     out: &mut [u8],
 ) -> Node
-    requires set { A.set answers.now ≡ trees.now.seeds.set }
-    requires layer { layer < (params trees.now.seeds.set).d }
-    requires msg { length msg.now.items ≡ (params trees.now.seeds.set).n }
-    requires out { length out.old ≡ xmss_sig_len (params trees.now.seeds.set) }
+    requires set { A.set answers.now ≡ set_in trees.now }
+    requires layer { layer < (params (set_in trees.now)).d }
+    requires msg { length msg.now.items ≡ (params (set_in trees.now)).n }
+    requires out { length out.old ≡ xmss_sig_len (params (set_in trees.now)) }
     ensures part { out.new ≡ layer_part_by (source_of trees.now) (A.says answers.now) layer msg.now.items }
     ensures root { result.items ≡ (A.says answers.now).root (JobTree.Xmss layer) }
-    ensures len { length result.items ≡ (params trees.now.seeds.set).n }
+    ensures len { length result.items ≡ (params (set_in trees.now)).n }
 {
-    let (wots, auth) = out.split_at_mut(wots_sig_len(trees.seeds.set));
+    let public = &trees.signer.public;
+    let (wots, auth) = out.split_at_mut(wots_sig_len(public.set));
     let at = trees.layer_place(layer);
-    wots_sign_kept(&trees.seeds, at, msg, answers.chains(layer), wots);
+    public.wots_sign_kept(at, msg, answers.chains(layer), wots);
     answers.put_path(JobTree::Xmss(layer), auth)
 }
 
-/// Writes what `layer_part` writes, from `start` on.
+/// As `layer_part`, from `start` on.
 fn put_layer_part<A: Answers>(
     trees: &SigningTrees,
     answers: &A,
@@ -131,33 +156,34 @@ fn put_layer_part<A: Answers>(
     out: &mut [u8],
     start: usize,
 ) -> Node
-    requires set { A.set answers.now ≡ trees.now.seeds.set }
-    requires layer { layer < (params trees.now.seeds.set).d }
-    requires msg { length msg.now.items ≡ (params trees.now.seeds.set).n }
-    requires out { start + xmss_sig_len (params trees.now.seeds.set) ≤ length out.old }
+    requires set { A.set answers.now ≡ set_in trees.now }
+    requires layer { layer < (params (set_in trees.now)).d }
+    requires msg { length msg.now.items ≡ (params (set_in trees.now)).n }
+    requires out { start + xmss_sig_len (params (set_in trees.now)) ≤ length out.old }
     ensures part_len { length (layer_part_by (source_of trees.now) (A.says answers.now) layer msg.now.items)
-        ≡ xmss_sig_len (params trees.now.seeds.set) }
-    ensures part { take (start + xmss_sig_len (params trees.now.seeds.set)) out.new
+        ≡ xmss_sig_len (params (set_in trees.now)) }
+    ensures part { take (start + xmss_sig_len (params (set_in trees.now))) out.new
         ≡ take start out.old ++ layer_part_by (source_of trees.now) (A.says answers.now) layer msg.now.items }
     ensures root { result.items ≡ (A.says answers.now).root (JobTree.Xmss layer) }
-    ensures len { length result.items ≡ (params trees.now.seeds.set).n }
+    ensures len { length result.items ≡ (params (set_in trees.now)).n }
 {
-    let end = start + xmss_sig_len(trees.seeds.set);
+    let end = start + xmss_sig_len(trees.signer.public.set);
     layer_part(trees, answers, layer, msg, &mut out[start..end])
 }
 
-/// Writes the hypertree signature of `pk_fors` that the answers make: each layer signs the root that they say of the
-/// tree below it, layer 0 `pk_fors` (FIPS 205, Algorithm 12).
+/// Writes the hypertree signature of `pk_fors` from the answers (FIPS 205, Algorithm 12). Each layer signs the root
+/// that they give for the tree below it; layer 0 signs `pk_fors`.
 pub fn put_layers<A: Answers>(trees: &SigningTrees, answers: &A, pk_fors: &Node, out: &mut [u8])
-    requires set { A.set answers.now ≡ trees.now.seeds.set }
+    requires set { A.set answers.now ≡ set_in trees.now }
     requires pk_fors { pk_fors.now.items ≡ signed_by (source_of trees.now) (A.says answers.now) 0 }
-    requires len { length pk_fors.now.items ≡ (params trees.now.seeds.set).n }
-    requires out { length out.old ≡ (params trees.now.seeds.set).d * xmss_sig_len (params trees.now.seeds.set) }
+    requires len { length pk_fors.now.items ≡ (params (set_in trees.now)).n }
+    requires out { length out.old ≡ (params (set_in trees.now)).d * xmss_sig_len (params (set_in trees.now)) }
     ensures { out.new ≡ sig_ht_by (source_of trees.now) (A.says answers.now) }
 {
-    let size = xmss_sig_len(trees.seeds.set);
+    let set = trees.signer.public.set;
+    let size = xmss_sig_len(set);
     let mut msg = copy_of(pk_fors);
-    for layer in 0..trees.seeds.set.d() as u8 {
+    for layer in 0..set.d() as u8 {
         let start = layer as usize * size;
         msg = put_layer_part(trees, answers, layer, &msg, out, start);
     }

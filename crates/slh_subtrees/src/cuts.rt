@@ -1,4 +1,4 @@
-//! The cut points of one kind of tree.
+//! The cut points of one kind of tree (ours).
 ghost use Rattle.std.specs.Prelude.{◌≡◌, ℕ, ◌+◌, ◌-◌, ◌*◌, ◌<◌, ◌≤◌, ◌^◌, ◌↔◌, map, Some, None, MatchResult, IsOk, IfOk, OnOk, IfErr};
 ghost use Rattle.std.specs.List.{range_with_len};
 ghost use Rattle.slh_subtrees.specs.Points.{first_bad, level_points, ranges};
@@ -40,8 +40,7 @@ pub(crate) fn leaf_count(height: u32) -> u32
     1 << height
 }
 
-/// The cut points of the trees of one kind, which have this height. Refused where the levels or the points are
-/// invalid.
+/// The cut points of the trees of one kind, which have this height. Refused if the levels or the points are invalid.
 pub(crate) fn points_of(tree: CutTree, height: u32, cuts: Cuts<'_>) -> Result<CutPoints, CutFault>
     requires { height ≤ 14 }
     ensures points { IfOk result (λ v. v.items ≡ cut_points height cuts.entry) }

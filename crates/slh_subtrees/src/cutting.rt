@@ -1,4 +1,4 @@
-//! The cutting of all trees of a parameter set.
+//! The cutting of all trees of a parameter set (ours).
 ghost use Rattle.std.specs.Prelude.{◌≡◌, ℕ, ◌+◌, ◌<◌, ◌≤◌, ◌^◌, ◌↔◌, ◌∷◌, ◌++◌, [], length, Some, None, IsOk, IfOk, OnOk, IfErr, slice_get, slice_index_or};
 ghost use Rattle.slh_params.specs.ParamSet.{params};
 ghost use Rattle.slh_subtrees.specs.Points.{EndToEnd, ranges};
@@ -33,7 +33,7 @@ impl Model for Cutting {
 }
 
 impl Cutting {
-    /// The trees of the set, cut as asked for. Refused where the levels or the points of the XMSS trees, or else of the
+    /// The trees of the set, cut as asked for. Refused if the levels or the points of the XMSS trees, or else of the
     /// FORS trees, are invalid.
     pub fn new(set: ParamSet, xmss: Cuts<'_>, fors: Cuts<'_>) -> Result<Cutting, CutFault>
         ensures points { IfOk result (λ c. c ≡ record {

@@ -1,4 +1,4 @@
-//! Why trees are not cut as asked for.
+//! The reason why trees are not cut as asked for (ours).
 ghost use Rattle.std.specs.Prelude.{◌≡◌, codes};
 
 use thiserror::Error;
@@ -18,7 +18,7 @@ pub enum CutFault {
     /// The levels or the points of one kind of tree are invalid.
     #[error("the levels or cut points are invalid")]
     BadCutting {
-        /// The kind of tree. XMSS is judged first.
+        /// The kind of tree. XMSS is checked first.
         tree: CutTree,
         /// The levels that were asked for, or the index of the first point that is invalid.
         place: u32,

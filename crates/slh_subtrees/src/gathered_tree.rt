@@ -1,9 +1,9 @@
-//! One tree from its ranges.
+//! One tree from its ranges (ours).
 ghost use Rattle.std.specs.Prelude.{◌^◌, ◌<◌};
 ghost use Rattle.slh_subtrees.specs.Gathered.{AreHashed, IsGathered};
 
 use slh_params::Node;
-use slh_tree::{Cover, PathRec, Tree, gather};
+use slh_tree::{Climbs, Cover, PathRec, gather};
 
 /// The root of a tree and the authentication path of its signing leaf.
 #[derive(Drop)]
@@ -14,9 +14,9 @@ pub struct GatheredTree {
     pub path: PathRec,
 }
 
-/// The root of the tree and the path of `leaf`, from covers that, put end to end, span the tree, and for each cover the
-/// record of those nodes of the path whose leaves lie in its range.
-pub(crate) fn gathered<T: Tree>(
+/// The root of the tree and the path of `leaf`. They come from covers that, end to end, span the tree, and from a
+/// record for each cover. A record has the nodes of the path whose leaves are in its range.
+pub(crate) fn gathered<T: Climbs>(
     tree: &T,
     leaf: u32,
     covers: &[Cover],

@@ -1,8 +1,8 @@
-//! What is made of a range of leaves.
+//! The answer of a job: the cover, path nodes and checkpoints of a range of leaves (ours).
 
 use slh_tree::{Cover, PathRec};
 
-/// The cover of a range of a tree's leaves, and those nodes of the signing leaf's path whose leaves lie in the range.
+/// The cover of a range of a tree's leaves, and those nodes of the signing leaf's path whose leaves are in the range.
 #[derive(Drop)]
 pub struct HashedRange {
     /// The cover.

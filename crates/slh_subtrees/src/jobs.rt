@@ -1,4 +1,4 @@
-//! The numbers of the ranges as jobs.
+//! The numbers of the ranges as jobs (ours).
 ghost use Rattle.std.specs.Prelude.{◌≡◌, ℕ, ◌+◌, ◌-◌, ◌*◌, ◌<◌, ◌≤◌, ◌^◌, length, Some, slice_get};
 ghost use Rattle.slh_params.specs.ParamSet.{params};
 ghost use Rattle.slh_subtrees.specs.Jobs.{IsTreeOf, height_of, signing_jobs, key_generation_jobs};

@@ -1,14 +1,16 @@
-//! The trees of one signature: how they are cut into ranges of leaves, which are jobs, what a job answers, and how the
-//! answers of all jobs make the signature.
+//! The trees of one signature (FIPS 205, sections 6 to 8): their division into leaf ranges, which are jobs, and the
+//! signature from the answers of all jobs.
 //!
 //! A `Cutting` has the cut points of all XMSS trees and those of all FORS trees of a parameter set. The jobs of a
-//! signature are the ranges of its d XMSS trees, layer 0 first, and then of its k FORS trees; those of key generation
-//! are the ranges of the one XMSS tree of the top layer. Of a range are made its cover and those nodes of the
-//! signing leaf's path whose leaves lie in it; where the signing leaf of an XMSS tree lies in it, also values of the
-//! chains of that leaf's key, from which the key signs later. Who has the answers of all jobs in memory, as `slh_par`,
-//! tells by `Answers` what they say of the trees, and `put_fors` and `put_layers` write the signature. `slh_jobs`, which
-//! is handed answers as bytes, judges them and writes the signature itself; what it writes is stated by the same
-//! definitions. Nothing here takes memory or starts anything, and nothing but `Cutting::new` is refused.
+//! signature are the ranges of its d XMSS trees, layer 0 first, and then of its k FORS trees. The jobs of key
+//! generation are the ranges of the XMSS tree of the top layer.
+//!
+//! A job answers the cover of its range, and the nodes of the signing leaf's path that are inside the range. If the
+//! range has the signing leaf of an XMSS tree, the answer also has checkpoints of that leaf's chains, from which the
+//! key signs later. A caller that has all answers in memory, as `slh_par`, implements `Answers`; `put_fors` and
+//! `put_layers` then write the signature. `slh_jobs` gets answers as bytes, so it checks them and writes the signature
+//! itself. The same definitions state both results. No call takes memory or starts anything, and only `Cutting::new`
+//! refuses.
 #![tactic(auto, using(slh_params::proofs::Bounds::bounds))]
 
 mod answers;
@@ -21,7 +23,7 @@ mod jobs;
 mod range;
 mod signing_trees;
 
-pub use answers::{Answers, put_fors, put_layers};
+pub use answers::{Answers, MOST_ROOTS_LEN, put_fors, put_layers, roots_len};
 pub use cuts::{Cuts, MOST_LEVELS, levels_cut_evenly};
 pub use cutting::Cutting;
 pub use fault::{CutFault, CutTree};

@@ -1,4 +1,4 @@
-//! A job: a range of leaves of one tree.
+//! A job: a range of leaves of one tree (ours).
 ghost use Rattle.std.specs.Prelude.{◌≡◌, ◌≤◌};
 ghost use Rattle.slh_params.specs.ParamSet.{params};
 ghost use Rattle.slh_subtrees.specs.Jobs.{height_of};
@@ -27,7 +27,7 @@ impl JobTree {
     }
 }
 
-/// The leaves from `lo` to `hi`, `hi` left out, of one tree: what one job computes.
+/// The leaves from `lo` to before `hi` of one tree: the work of one job.
 #[derive(Clone, Copy, PartialEq, Eq, Debug)]
 pub struct JobRange {
     /// The tree.

@@ -5,7 +5,7 @@
 //! - `par`: keys, signatures and verdicts by the workers of `slh_par` are those of one thread;
 //! - `jobs`: keys and signatures by the jobs of `slh_jobs`, and starts and answers that don't fit together.
 //!
-//! Of the first three also where memory is refused: each growth that a call asks for is refused in turn.
+//! Of the first three also if memory is refused: each growth that a call asks for is refused in turn.
 #![tactic(auto, using(slh_params::proofs::Bounds::bounds))]
 
 #[cfg(test)]
@@ -14,6 +14,8 @@ mod board;
 mod jobs;
 #[cfg(test)]
 mod par;
+#[cfg(test)]
+mod seeds;
 #[cfg(test)]
 mod shared;
 #[cfg(test)]

@@ -4,6 +4,7 @@ mod fixtures;
 mod gates;
 mod growths;
 mod questions;
+mod records;
 mod refusals;
 mod schedules;
 mod signing;

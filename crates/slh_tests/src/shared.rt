@@ -1,43 +1,12 @@
-//! What the tests of several crates share.
-ghost use Rattle.std.specs.Prelude.{◌≡◌};
-
-use slh_core::{SecretKey, keygen_internal};
-use slh_params::ParamSet;
+//! Functions that the tests of several crates share.
 use slh_workers::{Gate, Go};
 use std::fmt::Debug;
 use std::process::Abort;
 use std::sync::atomic::{AtomicU64, Ordering};
 
-/// Fails the test where the two are not equal.
+/// Fails the test unless the two are equal.
 pub(crate) fn equal<T: PartialEq + Debug>(rt: &impl Abort, found: &T, expected: &T) {
     assert_eq!(rt; found, expected);
-}
-
-/// The bytes from `first` on.
-pub(crate) fn counting(first: u8) -> [u8; 96] {
-    let mut bytes = [0; 96];
-    let mut next = first;
-    for byte in &mut bytes {
-        *byte = next;
-        next = next.wrapping_add(1);
-    }
-    bytes
-}
-
-/// The key whose seeds are the bytes from `first` on.
-pub(crate) fn key_from(set: ParamSet, first: u8) -> SecretKey
-    ensures { result.set ≡ set }
-{
-    let bytes = counting(first);
-    let n = set.n();
-    keygen_internal(set, &bytes[..n], &bytes[n..2 * n], &bytes[2 * n..3 * n])
-}
-
-/// The key whose seeds are the bytes 00, 01, 02, ...
-pub(crate) fn key(set: ParamSet) -> SecretKey
-    ensures { result.set ≡ set }
-{
-    key_from(set, 0)
 }
 
 /// More growths of memory than any call of a test asks for.
@@ -51,7 +20,7 @@ pub(crate) fn check_count(rt: &impl Abort, least: u64, refusals: u64, number: u8
     );
 }
 
-/// How often a job looks for what it waits for, before it gives up.
+/// How often a job looks at a counter before it gives up.
 const TURNS: u64 = 1_000_000_000;
 
 /// Whether the counter reached the number before the turns ran out.

@@ -1,4 +1,4 @@
--- The command line of the program, as what a parse of `clap` reads of its command.
+-- The command line of the program, as the result of a parse by `clap`.
 use Rattle.std.specs.Prelude.{◌≡◌, true, false, List, [], ◌∷◌, ◌++◌, Some, codes, pos}
 use Rattle.clap.specs.Words.{App, Rule, Shape, Text, new_app, new_rule, shape_of, with_subcommand}
 use Rattle.clap.specs.Simple.{new_shape, on_top}
@@ -19,11 +19,11 @@ required name = record (optional name) { required = true }
 abbrev pub flag : Text → Rule
 flag name = record (new_rule name) { long = Some name; action = Some SetTrue }
 
--- the number of workers, from 1 to 64, and 1 where the option is left out
+-- the number of workers, from 1 to 64, and 1 if the option is left out
 abbrev pub workers_rule : Rule
 workers_rule = record (optional (codes "workers")) { parser = Some (parsers.Signed (pos 1) (pos 64)); defaults = codes "1" ∷ [] }
 
--- the levels by which trees are cut, from 0 to 8, and 0 where the option is left out
+-- the levels by which trees are cut, from 0 to 8, and 0 if the option is left out
 abbrev pub levels_rule : Text → Rule
 levels_rule name = record (optional name) { parser = Some (parsers.Signed (pos 0) (pos 8)); defaults = codes "0" ∷ [] }
 
@@ -61,7 +61,7 @@ message_rules = required (codes "key") ∷ required (codes "message") ∷ []
 abbrev pub form_rules : List Rule
 form_rules = optional (codes "context") ∷ optional (codes "prehash") ∷ []
 
--- what signing has against hardware that fails
+-- the options of signing against hardware that fails
 abbrev pub safety_rules : List Rule
 safety_rules = optional (codes "random") ∷ flag (codes "twice") ∷ []
 
@@ -83,7 +83,7 @@ vectors_shape = subcommand (codes "vectors") (required (codes "file") ∷ worker
 abbrev pub HasNoGlobals : Command → Type 0
 HasNoGlobals c = (fields_of c).has_globals ≡ false
 
--- what a subcommand is, and that it may go into `slh`
+-- the form of a subcommand, and that it may go into `slh`
 abbrev pub CommandIs : Shape → Command → Type 0
 CommandIs s c = (shape_of c ≡ s) × HasNoGlobals c
 
@@ -100,7 +100,7 @@ abbrev pub with_subcommands : App → List Shape → App
 with_subcommands a [] = a
 with_subcommands a (s ∷ rest) = with_subcommands (with_subcommand a s) rest
 
--- the program: its arguments are those after its own name
+-- the program: its arguments are those after its name
 abbrev pub no_command : App
 no_command = on_top (λ s. record s { no_binary_name = true }) (new_app (codes "slh"))
 

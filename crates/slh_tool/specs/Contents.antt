@@ -1,4 +1,4 @@
--- What is signed of a message file.
+-- The signed content of a message file.
 use Rattle.std.specs.Prelude.{◌≡◌}
 use Rattle.clap.specs.Words.{Text}
 use Rattle.slh_core.specs.Messages.{message_in_form, pre_hash_message, pure_message}

@@ -36,12 +36,12 @@ parts_of text = slice_split (λ b. b == 44) text
 unfoldable pub points_in : Text → Option (List ℕ)
 points_in text = (if nat_le (length (parts_of text)) 256 then numbers_in (parts_of text) else None)
 
--- the cut points that an option gives, if it stands there
+-- the cut points that an option gives, if it is given
 unfoldable pub points_of : Option Text → Option (Option (List ℕ))
 points_of None = Some None
 points_of (Some text) = option_map (λ points. Some points) (points_in text)
 
--- the options on one kind of tree ask for these cuts: the cut points where there is a list, and else the levels
+-- the options on one kind of tree ask for these cuts: the cut points if there is a list, and else the levels
 abbrev pub AreCuts : CutOptions → Cuts → Type 0
 AreCuts options (Levels level) = (points_of options.points ≡ Some None) × (level ≡ options.levels)
 AreCuts options (Points points) = points_of options.points ≡ Some (Some points.now)

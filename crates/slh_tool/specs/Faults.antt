@@ -78,13 +78,13 @@ head fault = codes "slh: " ++ decimal (number fault) ++ codes " " ++ name fault
 abbrev pub place_text : ℕ → Member → List ℕ
 place_text test member = (codes " test " ++ decimal test ++ codes " member ") ++ member_name member
 
--- where the fault is, for those of a vector file
+-- the place of a fault in a vector file
 abbrev pub place : Fault → List ℕ
 place (Missing test member) = place_text test member
 place (Bad test member) = place_text test member
 place fault = []
 
--- what the standard error is told, as `slh: NUMBER NAME` and a line feed, with ` test T member M` before the line feed
--- where a test of a vector file is at fault
+-- the text on standard error, as `slh: NUMBER NAME` and a line feed, with ` test T member M` before the line feed if a
+-- test of a vector file is at fault
 abbrev pub line : Fault → List ℕ
 line fault = head fault ++ place fault ++ codes "\n"

@@ -14,17 +14,17 @@ use Rattle.slh_tool.specs.Requests.{FormOptions}
 use Rattle.slh_tool.specs.declared.fault.Fault.{Fault}
 use Rattle.slh_tool.specs.declared.fault.Fault.TheVariants.{BadOption, NoMemory}
 
--- the context of its digits, which is empty where there are none
+-- the context of its digits, which is empty if there are none
 unfoldable pub context_of : Option Text → Option Text
 context_of None = Some []
 context_of (Some digits) = result_ok (decode_of digits)
 
--- the pre-hash form with the function that an option names, or the pure form where it does not stand
+-- the pre-hash form with the function that an option names, or the pure form if it is absent
 unfoldable pub form_of : Option Text → Option Form
 form_of None = Some Pure
 form_of (Some text) = option_map (λ function. PreHash function) (function_named text)
 
--- the n bytes of a randomizer that an option spells, if it stands there
+-- the n bytes of a randomizer that an option spells, if it is given
 unfoldable pub random_of : ParamSet → Option Text → Option (Option Text)
 random_of set None = Some None
 random_of set (Some digits) = option_map (λ bytes. Some bytes) (result_ok (decode_sized digits (params set).n))

@@ -17,11 +17,11 @@ pub record IsFile (files : FilesState) (path bytes : List ℕ) : Type 0 where
   pub known : IfSome (files.bytes_at path) (λ whole. bytes ≡ whole)
   pub at_most : length bytes ≤ file_limit
 
--- the first bytes of the file at this path: one more than this many, or all where it has fewer
+-- the first bytes of the file at this path: one more than this many, or all if it has fewer
 abbrev pub IsFrontOfFile : FilesState → List ℕ → ℕ → List ℕ → Type 0
 IsFrontOfFile files path most bytes = (whole : List ℕ) × IsFile files path whole × (bytes ≡ take (most + 1) whole)
 
--- what is held of the key file at this path: at most 513 bytes, which are read as the whole file is
+-- the stored bytes of the key file at this path: at most 513, which are read as the whole file is
 pub record IsFrontOfKeyFile (files : FilesState) (path bytes : List ℕ) : Type 0 where
   pub whole : List ℕ
   pub read : IsFile files path whole

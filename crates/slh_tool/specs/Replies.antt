@@ -1,4 +1,4 @@
--- What each command writes, and why it is refused.
+-- The output of each command, and the reasons of its refusals.
 use Rattle.std.specs.Prelude.{◌≡◌, ⊤, ◌⊎◌, ◌↔◌, ℕ, ◌<◌, ◌≤◌, List, Bool, true, false, IsTrue, [], ◌∷◌, ◌++◌, length, Option, Some, None, Ok, codes}
 use Rattle.clap.specs.Words.{Kinds, Text, fault_of, subcommand_of}
 use Rattle.hex.specs.Hex.{encode_lower}
@@ -143,7 +143,7 @@ abbrev pub VerifiesMessage : VerifyOptions → FilesState → ℕ → Text → T
 VerifiesMessage options files status text = (key : Key) × HoldsKey Public files options.key key
     × ((answer : Bool) × JudgesWith options files key answer × IsVerdict answer (line (codes "valid")) (line (codes "invalid")) status text)
 
--- why the files are not judged: the message, or then the signature, is not read
+-- why the files give no verdict: the message, or then the signature, is not read
 abbrev pub RefusesFiles : VerifyOptions → FilesState → FilesState → Fault → Type 0
 RefusesFiles options old new fault = RefusesFile old new options.message fault
     ⊎ ((message : Text) × IsFile old options.message message × RefusesFile old new options.signature fault)
@@ -191,7 +191,7 @@ input_limit (Some (requests.root name)) = limit_of_set (set_of_label name)
 input_limit (Some (requests.keygen options)) = limit_of_set (set_of_label options.set)
 input_limit other = 0
 
--- none where `clap` refuses the arguments or shows help, else as many as the command takes
+-- none if `clap` refuses the arguments or shows help, else as many as the command takes
 abbrev pub limit_where : Kinds → Option Asked → ℕ
 limit_where [] a = input_limit a
 limit_where (kind ∷ kinds) a = 0

@@ -1,4 +1,4 @@
--- What the arguments ask for.
+-- The command that the arguments ask for.
 use Rattle.std.specs.Prelude.{◌≡◌, ◌≢◌, ⊤, ℕ, Bool, false, List, [], Option, Some, None, if◌then◌else◌, option_map, codes}
 use Rattle.std.specs.Option.{option_and_then, option_map_or}
 use Rattle.std.specs.Str.{bytes_eq}
@@ -24,7 +24,7 @@ pub record FormOptions : Type 0 where
   pub context : Option Text
   pub prehash : Option Text
 
--- the options on how the trees of one kind are cut: the levels, and the list of cut points where the option stands
+-- the options on how the trees of one kind are cut: the levels, and the list of cut points if the option is given
 pub record CutOptions : Type 0 where
   pub levels : ℕ
   pub points : Option Text
@@ -94,7 +94,7 @@ asked (request.Sign words) = sign (sign_asked words)
 asked (request.Verify words) = verify (verify_asked words)
 asked (request.Vectors path workers) = vectors path.now workers
 
--- what subcommands ask for, by the rows of their values
+-- the requests of subcommands, by the rows of their values
 abbrev pub form_in : List Row → FormOptions
 form_in rows = record { context = first_of (codes "context") rows; prehash = first_of (codes "prehash") rows }
 

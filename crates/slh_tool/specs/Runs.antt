@@ -1,4 +1,4 @@
--- What a run of the program did.
+-- The effects of a run of the program.
 use Rattle.std.specs.Prelude.{◌≡◌, ◌⊎◌, ⊤, ℕ, List}
 use Rattle.std.specs.Io.KnownBytes.{Appends}
 use Rattle.clap.specs.Words.{Text}
@@ -22,7 +22,7 @@ RefusesWords words fault = ⊥
 abbrev pub Refuses : List Text → FilesState → FilesState → SourceState → SourceState → Fault → Type 0
 Refuses words before after old new fault = ((a : Asked) × Asks words a × IsRefusal a before after old new fault) ⊎ RefusesWords words fault
 
--- a sink was told a text, or the prefix of it that was written before a write failed
+-- a sink got a text, or the prefix of it that was written before a write failed
 abbrev pub IsTold : SinkState → SinkState → Text → Type 0
 IsTold old new text = (Appends old.contents new.contents text × (new.failures ≡ old.failures))
     ⊎ (LetsThrough old.contents new.contents text × Grew old.failures new.failures)

@@ -22,7 +22,7 @@ seeds_of set text = result_ok (decode_sized (without_line_feed text) (3 * (param
 abbrev pub seeds_limit : ParamSet → ℕ
 seeds_limit set = 6 * (params set).n + 2
 
--- the bytes that a source handed out: at most this many, and all that it had where they are fewer
+-- the bytes that a source handed out: at most this many, and all that it had if they are fewer
 pub record IsInput (old new : SourceState) (limit : ℕ) (bytes : List ℕ) : Type 0 where
   pub taken : Consumes old.left new.left bytes
   pub at_most : length bytes ≤ limit

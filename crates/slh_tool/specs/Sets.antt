@@ -1,4 +1,4 @@
--- What is said of parameter sets.
+-- The texts about parameter sets.
 use Rattle.std.specs.Prelude.{ℕ, List, [], ◌∷◌, ◌++◌, codes}
 use Rattle.std.specs.Fmt.{decimal}
 use Rattle.slh_params.specs.Params.{h, m, pk_len, sk_len, sig_len}

@@ -18,7 +18,7 @@ use Rattle.slh_vectors.specs.declared.outcome.Outcome.TheVariants.{Pass}
 abbrev pub HaveAllPassed : List Outcome → Type 0
 HaveAllPassed outcomes = All (λ o. o ≡ Pass) outcomes
 
--- the status of a report: 0 where all tests passed, else 1
+-- the status of a report: 0 if all tests passed, else 1
 abbrev pub IsStatus : List Outcome → ℕ → Type 0
 IsStatus outcomes status = (HaveAllPassed outcomes × (status ≡ 0)) ⊎ ((¬ (HaveAllPassed outcomes)) × (status ≡ 1))
 

@@ -10,7 +10,7 @@ use std::alloc::{AllocError, Global};
 
 mod options;
 
-/// A subcommand with no options so far, what it is for and an example of it.
+/// A subcommand with no options so far, with its purpose and an example.
 fn subcommand<'a>(alloc: Global, name: &'a str, about: &'a str, example: &'a str) -> Command<'a>
     ensures { CommandIs (subcommand name.entry.now []) result }
 {
@@ -148,7 +148,7 @@ fn vectors_command<'a>(alloc: Global) -> Result<Command<'a>, AllocError>
         alloc,
         "vectors",
         "Runs the tests of a vector file and reports on them",
-        "Refusals: man slh, docs/FORMATS.md\nExample: slh vectors --file vectors/smoke-128f.json",
+        "Refusals: man slh, docs/FORMATS.md\nExample: slh vectors --file tests/vectors/smoke-128f.json",
     )
     .arg(required(alloc, "file", "FILE", "A vector file"))?
     .arg(workers(alloc))
@@ -162,7 +162,7 @@ table of refusals, with the usual causes.";
 /// The version is that of the file `VERSION`.
 const ABOUT: &str = "slh 0.10.0: keys and signatures of SLH-DSA (FIPS 205) with SHA-2";
 
-/// The program with no subcommand so far, what it is for and what its help ends with.
+/// The program with no subcommand so far, with its purpose and the end of its help.
 fn no_command<'a>(alloc: Global, about: &'a str, help: &'a str) -> Result<Command<'a>, AllocError>
     ensures { IfOk result (λ c. app_of c ≡ no_command) }
 {
@@ -173,7 +173,7 @@ fn no_command<'a>(alloc: Global, about: &'a str, help: &'a str) -> Result<Comman
         .bin_name("slh")
 }
 
-/// The program with one more subcommand, where that was made.
+/// The program with one more subcommand, if that was made.
 fn with_subcommand<'a>(
     program: Command<'a>,
     made: Result<Command<'a>, AllocError>,

@@ -1,3 +1,4 @@
+//! The message of `sign`: its bytes, or its digest in the pre-hash form.
 ghost use Rattle.std.specs.Prelude.{◌≡◌, ◌↔◌, ◌<◌, Err, IfOk, IfErr, OnOk, length};
 ghost use Rattle.slh_core.specs.Randomizers.{HasLength};
 ghost use Rattle.slh_core.specs.Signatures.{signature_by};
@@ -24,7 +25,7 @@ pub(crate) enum Content<A: Allocator> {
     Digest(MessageDigest),
 }
 
-/// What is signed of a message file in a form.
+/// The signed content of a message file in a form.
 pub(crate) fn content_of<A: Allocator, F: Files>(
     alloc: A,
     files: &mut F,
@@ -33,6 +34,7 @@ pub(crate) fn content_of<A: Allocator, F: Files>(
 ) -> Result<Content<A>, Fault>
     ensures done { IfOk result (IsContentOf (F.state files.old) path.now form) }
     ensures refused { IfErr result (RefusesFile (F.state files.old) (F.state files.new) path.now) }
+    ensures kept { OnOk result (F.state files.new ≡ F.state files.old) }
 {
     match form {
         Form::Pure => Ok(Content::Message(read_file(alloc, files, path)?)),

@@ -1,3 +1,4 @@
+//! The options for the workers and the cutting.
 ghost use Rattle.std.specs.Prelude.{◌≡◌, ◌≤◌, Some, IfErr, IfOk, option_map};
 ghost use Rattle.std.specs.Char.{is_ascii_digit};
 ghost use Rattle.std.specs.List.{list_all};
@@ -44,7 +45,7 @@ pub(crate) fn workers_of(number: u8) -> Workers
     workers
 }
 
-/// The cuts of one kind of tree: the levels are not looked at where there are cut points.
+/// The cuts of one kind of tree: if there are cut points, the levels are ignored.
 fn cuts_of<'a>(words: CutWords<'_>, points: &'a Option<Points>) -> Cuts<'a>
     requires { points_of (cut_asked words).points ≡ Some (option_map (λ v. v.items) points.now) }
     ensures { AreCuts (cut_asked words.entry) result }
@@ -55,7 +56,7 @@ fn cuts_of<'a>(words: CutWords<'_>, points: &'a Option<Points>) -> Cuts<'a>
     }
 }
 
-/// The cut points, where the option stands.
+/// The cut points, if the option is given.
 #[tactic(auto, unfolding(crate::specs::Cuts::points_of))]
 fn points_of(words: CutWords<'_>) -> Option<Option<Points>>
     ensures { option_map (λ points. option_map (λ v. v.items) points) result

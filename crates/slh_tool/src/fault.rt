@@ -1,3 +1,4 @@
+//! The refusals of the program: numbers, names and the heads of their lines.
 ghost use Rattle.std.specs.Prelude.{◌≡◌};
 ghost use Rattle.slh_tool.specs.Faults.{head, name, number, of_file, of_vectors};
 ghost use Rattle.slh_tool.specs.declared.fault.Fault.TheVariants.{NoMemory};
@@ -46,7 +47,7 @@ pub enum Fault {
     BadOption,
     #[error("the file has over 2^30 bytes")]
     FileTooLong,
-    /// Told as `Fault`. It is proved never to be told, so the memory or the processor failed.
+    /// Reported as `Fault`. It is proved never to be reported, so the memory or the processor failed.
     #[error("two computations of one signature differ")]
     RunsDiffer,
 }

@@ -1,3 +1,4 @@
+//! The commands `root` and `keygen` (FIPS 205, section 9.1).
 ghost use Rattle.std.specs.Prelude.{◌≡◌, ◌*◌, ◌++◌, ◌∷◌, [], length, IfOk, IfErr, string_bytes};
 ghost use Rattle.hex.specs.Hex.{encode_lower};
 ghost use Rattle.slh_core.specs.Keys.{public_of};
@@ -37,7 +38,7 @@ pub(crate) fn root<A: Allocator, S: Source>(
     Ok(root_line(alloc, &key)?)
 }
 
-/// The secret key file of the seeds on the input. The cutting is judged before the seeds are read.
+/// The secret key file of the seeds on the input. The cutting is checked before the seeds are read.
 #[inline(never)]
 pub(crate) fn keygen<R: Threads + Sync, A: Allocator + Clone + Send + Sync, S: Source>(
     rt: &R,

@@ -1,3 +1,4 @@
+//! Key files as input, and the commands `public`, `upgrade` and `check`.
 ghost use Rattle.std.specs.Prelude.{◌≡◌, IfOk, IfErr, OnOk, string_bytes};
 ghost use Rattle.slh_key_files.specs.declared.key_kind.KeyKind.TheVariants.{Public, Secret};
 ghost use Rattle.slh_key_files.specs.KeyFile.{any_key_text};
@@ -52,6 +53,7 @@ pub(crate) fn public<A: Allocator + Clone, F: Files>(
 ) -> Result<String<A>, Fault>
     ensures done { IfOk result (λ s. WritesPublic path.now (F.state files.old) (string_bytes s)) }
     ensures refused { IfErr result (RefusesKey Secret (F.state files.old) (F.state files.new) path.now) }
+    ensures kept { OnOk result (F.state files.new ≡ F.state files.old) }
 {
     let key = secret_key(alloc.clone()?, files, path)?;
     let Ok(text) = write_public(alloc, &key.public()) else {
@@ -69,6 +71,7 @@ pub(crate) fn upgrade<A: Allocator + Clone, F: Files>(
 ) -> Result<String<A>, Fault>
     ensures done { IfOk result (λ s. UpgradesKey path.now (F.state files.old) (string_bytes s)) }
     ensures refused { IfErr result (RefusesAnyKey (F.state files.old) (F.state files.new) path.now) }
+    ensures kept { OnOk result (F.state files.new ≡ F.state files.old) }
 {
     let key = any_key(alloc.clone()?, files, path)?;
     let Ok(text) = key_text(alloc, &key) else {
@@ -81,6 +84,7 @@ pub(crate) fn upgrade<A: Allocator + Clone, F: Files>(
 fn any_key<A: Allocator, F: Files>(alloc: A, files: &mut F, path: &str) -> Result<AnyKey, Fault>
     ensures done { IfOk result (HoldsAnyKey (F.state files.old) path.now) }
     ensures refused { IfErr result (RefusesAnyKey (F.state files.old) (F.state files.new) path.now) }
+    ensures kept { OnOk result (F.state files.new ≡ F.state files.old) }
 {
     let bytes = read_key_file(alloc, files, path)?;
     Ok(read_key(bytes.as_slice())?)
@@ -106,6 +110,7 @@ pub(crate) fn check<A: Allocator + Clone, F: Files>(
 ) -> Result<Reply<A>, Fault>
     ensures done { IfOk result (λ r. ChecksKey path.now (F.state files.old) r.status r.output.items) }
     ensures refused { IfErr result (RefusesKey Secret (F.state files.old) (F.state files.new) path.now) }
+    ensures kept { OnOk result (F.state files.new ≡ F.state files.old) }
 {
     let key = secret_key(alloc.clone()?, files, path)?;
     Ok(Reply::verdict(alloc, check_pair(&key), "consistent\n", "inconsistent\n")?)

@@ -1,3 +1,4 @@
+//! The options for the form, the context and the randomizer.
 ghost use Rattle.std.specs.Prelude.{◌≡◌, Some, option_map, IfOk, IfErr, IfSome, length};
 ghost use Rattle.std.specs.Result.{result_ok};
 ghost use Rattle.hex.specs.Hex.{decode_sized};
@@ -34,7 +35,7 @@ pub(crate) fn form_and_context<A: Allocator>(
     Ok(FormAndContext { form, context })
 }
 
-/// The context, which is empty where the option does not stand.
+/// The context, which is empty if the option is absent.
 #[tactic(auto, unfolding(crate::specs::Options::context_of))]
 fn context_of<A: Allocator>(alloc: A, words: FormWords<'_>) -> Result<Vec<u8, A>, Fault>
     ensures done { IfOk result (λ context. context_of (form_asked words.entry).context ≡ Some context.items) }
@@ -50,7 +51,7 @@ fn context_of<A: Allocator>(alloc: A, words: FormWords<'_>) -> Result<Vec<u8, A>
     }
 }
 
-/// The pre-hash form with the function that the option names, or the pure form where it does not stand. `None` where it
+/// The pre-hash form with the function that the option names, or the pure form where it does not stand. `None` if it
 /// names no function.
 #[tactic(auto, unfolding(crate::specs::Options::form_of))]
 fn form_of(words: FormWords<'_>) -> Option<Form>
@@ -66,7 +67,7 @@ fn form_of(words: FormWords<'_>) -> Option<Form>
 /// A randomizer of any set.
 pub(crate) type Random = ArrayVec<u8, 32>;
 
-/// The randomizer, `Some(None)` where the option does not stand. `None` where it spells no n bytes.
+/// The randomizer, `Some(None)` if the option is absent. `None` if its value is not n bytes.
 #[tactic(auto, unfolding(crate::specs::Options::random_of))]
 pub(crate) fn random_of(set: ParamSet, words: SignWords<'_>) -> Option<Option<Random>>
     ensures value { option_map (λ random. option_map (λ bytes. bytes.items) random) result

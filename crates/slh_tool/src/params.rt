@@ -1,3 +1,4 @@
+//! The command `params`.
 ghost use Rattle.std.specs.Prelude.{None, Some, IfOk, IfErr, string_bytes};
 ghost use Rattle.slh_tool.specs.Replies.{RefusesSets, ShowsSets};
 

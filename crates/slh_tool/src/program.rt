@@ -1,4 +1,5 @@
-ghost use Rattle.std.specs.Prelude.{◌≡◌, ◌≢◌, ◌⊎◌, map, IfOk, IfErr, string_bytes, Some};
+//! The program: takes the arguments, runs the command, and writes the reply or the refusal.
+ghost use Rattle.std.specs.Prelude.{◌≡◌, ◌≢◌, ◌⊎◌, map, IfOk, IfErr, string_bytes, Some, OnOk};
 ghost use Rattle.std.specs.Io.KnownBytes.{Appends};
 ghost use Rattle.clap.specs.Words.{Text};
 ghost use Rattle.slh_io.specs.Devices.{TakesAtMost};
@@ -27,8 +28,8 @@ use std::thread::Threads;
 /// Runs the command of the arguments after the program's name, and gives the exit status: 0 for done, valid,
 /// consistent or all tests passed, 1 for invalid, inconsistent or a failed test, 2 for refused.
 ///
-/// `clap` and `serde_json` take their memory from the runtime, and all else takes it from `alloc`. Of several workers of
-/// `keygen`, `sign` and `vectors` each has a thread of its own. These wait only for the threads that they started.
+/// `clap` and `serde_json` take their memory from the runtime, and all else takes it from `alloc`. Each of several
+/// workers of `keygen`, `sign` and `vectors` runs in another thread. These wait only for the threads that they started.
 pub fn command<
     R: AllocGlobal + Threads + Sync,
     A: Allocator + Clone + Send + Sync,
@@ -45,7 +46,7 @@ pub fn command<
     output: &mut O,
     errors: &mut E,
 ) -> u8
-    // The output is what the arguments, the files and the input give, and the status is the one of that answer.
+    // The output and the status follow from the arguments, the files and the input.
     ensures done { result ≢ 2 → (text : Text)
         × Replies (map string_bytes words.now) (F.state files.old) (S.state input.old) (S.state input.new) result text
         × Appends (O.state output.old).contents (O.state output.new).contents text
@@ -57,7 +58,9 @@ pub fn command<
         × (output.new ≡ output.old))
         ⊎ ((fault ≡ WriteFailed) × BreaksOff (O.state output.old) (O.state output.new)
         (Replies (map string_bytes words.now) (F.state files.old) (S.state input.old) (S.state input.new)))) }
-    // Of the input no more is taken than the command reads, and none where the arguments are refused or ask for help.
+    // A run that is not refused has met no failure of a file, and the files are as they were.
+    ensures files { result ≢ 2 → F.state files.new ≡ F.state files.old }
+    // The command takes only the input that it reads, and none if the arguments are refused or ask for help.
     ensures at_most { TakesAtMost (S.state input.old).left (S.state input.new).left
         (words_limit (map string_bytes words.now)) }
 {
@@ -92,6 +95,7 @@ fn respond<
         (S.state input.old) (S.state input.new)) }
     ensures at_most { TakesAtMost (S.state input.old).left (S.state input.new).left
         (words_limit (map string_bytes words.now)) }
+    ensures kept { OnOk result (F.state files.new ≡ F.state files.old) }
 {
     match parsed(rt.alloc(), words) {
         Ok(request) => run(rt, alloc, request, files, input),
@@ -109,8 +113,7 @@ fn help<A: Allocator>(global: Global, alloc: A, error: &clap::Error) -> Result<R
     Ok(Reply::text(String::from_str(alloc, text.as_str())?))
 }
 
-/// The answer to a request, or the refusal. Each command is kept out of line, so that the stack holds the locals of one
-/// alone.
+/// The answer to a request, or the refusal. No command is inlined, so that the stack holds the locals of only one.
 fn run<R: AllocGlobal + Threads + Sync, A: Allocator + Clone + Send + Sync, F: Files, S: Source>(
     rt: &R,
     alloc: A,
@@ -124,6 +127,7 @@ fn run<R: AllocGlobal + Threads + Sync, A: Allocator + Clone + Send + Sync, F: F
         (S.state input.old) (S.state input.new)) }
     ensures at_most { TakesAtMost (S.state input.old).left (S.state input.new).left
         (input_limit (Some (asked request.entry))) }
+    ensures kept { OnOk result (F.state files.new ≡ F.state files.old) }
 {
     match request {
         Request::Params(Some(name)) => Ok(Reply::text(named_set(alloc, name)?)),

@@ -1,3 +1,4 @@
+//! Reads files by pieces, up to their limits.
 ghost use Rattle.std.specs.Prelude.{◌≡◌, ℕ, ◌+◌, ◌≤◌, ◌^◌, List, ◌++◌, [], length, take, IfOk, IfErr, OnOk};
 ghost use Rattle.slh_core.specs.Keys.{Key};
 ghost use Rattle.slh_core.specs.PreHashing.{HasFed};
@@ -19,7 +20,7 @@ const FILE_LIMIT: usize = 1 << 30;
 /// The bytes that are read at a time.
 const PIECE: usize = 4096;
 
-/// What the bytes of a file are handed to, a piece at a time.
+/// A receiver of the bytes of a file, a piece at a time.
 pub(crate) trait Receiver {
     // That it has received these bytes, put end to end, since it was the first of the two.
     ghost has_received: { Self → Self → List ℕ → Type 0 };
@@ -82,7 +83,7 @@ impl Receiver for Verifier<'_> {
     }
 }
 
-/// What keeps nothing of a file.
+/// A receiver that stores nothing.
 #[derive(Drop)]
 struct Nothing;
 
@@ -156,7 +157,7 @@ pub(crate) fn read_front<A: Allocator, F: Files>(
     Ok(front.bytes)
 }
 
-/// Reads a file for its refusal alone: nothing of it is held.
+/// Reads a file only for its refusal: nothing of it is stored.
 pub(crate) fn read_past<F: Files>(files: &mut F, path: &str) -> Result<(), Fault>
     ensures done { OnOk result ((whole : List ℕ) × IsFile (F.state files.old) path.now whole) }
     ensures refused { IfErr result (RefusesFile (F.state files.old) (F.state files.new) path.now) }
@@ -165,7 +166,7 @@ pub(crate) fn read_past<F: Files>(files: &mut F, path: &str) -> Result<(), Fault
     read_through(files, path, &mut Nothing)
 }
 
-/// What the key of a key file depends on, or its first fault: the other bytes are read, but not held.
+/// The bytes that decide the key of a key file, or its first fault. The other bytes are read, but not stored.
 pub(crate) fn read_key_file<A: Allocator, F: Files>(
     alloc: A,
     files: &mut F,

@@ -1,10 +1,11 @@
+//! The output of a command, with its exit status.
 ghost use Rattle.std.specs.Prelude.{◌≡◌, ◌<◌, IfOk, string_bytes};
 ghost use Rattle.slh_tool.specs.Replies.{IsVerdict};
 
 use std::alloc::{AllocError, Allocator};
 
-/// What a command writes to the standard output, and its exit status: 0 for done, valid, consistent or all
-/// tests passed, 1 for invalid, inconsistent or a failed test.
+/// The standard output of a command, and its exit status: 0 for done, valid, consistent or all tests passed, 1 for
+/// invalid, inconsistent or a failed test.
 #[derive(Drop)]
 pub(crate) struct Reply<A: Allocator> {
     pub(crate) status: u8,

@@ -1,3 +1,4 @@
+//! The command that the arguments ask for, with its options.
 ghost use Rattle.std.specs.Prelude.{◌≡◌, Some, option_map, map, IfOk, IfErr, string_bytes};
 ghost use Rattle.clap.specs.Words.{first_of, found_of, rows_of, subcommand_rows_of};
 ghost use Rattle.slh_tool.specs.Requests.{Asks, RefusesRequest, asked, asked_by, asked_in, asked_of_file, cut_asked, cut_in, flag_of, form_asked, form_in, keygen_in, number_of, sign_in, vectors_in, verify_in, work_asked, work_in};
@@ -7,7 +8,7 @@ use clap::ArgMatches;
 use clap::error::ErrorKind;
 use std::alloc::Global;
 
-/// What the arguments ask for.
+/// The command that the arguments ask for.
 #[derive(Clone, Copy)]
 pub(crate) enum Request<'a> {
     Params(Option<&'a str>),
@@ -28,7 +29,7 @@ pub(crate) struct FormWords<'a> {
     pub(crate) prehash: Option<&'a str>,
 }
 
-/// The options on how the trees of one kind are cut: where a list of cut points stands, the levels are not looked at.
+/// The options on how the trees of one kind are cut: if a list of cut points is given, the levels are ignored.
 #[derive(Clone, Copy)]
 pub(crate) struct CutWords<'a> {
     pub(crate) levels: u32,
@@ -78,8 +79,8 @@ pub(crate) enum Refusal {
     NoMemory,
 }
 
-/// The request of the arguments after the program's name. It is kept out of line, so that the stack holds nothing of
-/// the parser while a command runs.
+/// The request of the arguments after the program's name. It is never inlined, so that the stack holds nothing of the
+/// parser while a command runs.
 #[inline(never)]
 pub(crate) fn parsed<'a>(alloc: Global, words: &'a [String]) -> Result<Request<'a>, Refusal>
     ensures ok { IfOk result (λ r. Asks (map string_bytes words.entry.now) (asked r)) }

@@ -1,3 +1,4 @@
+//! The seeds on standard input (docs/FORMATS.md, "Seeds on standard input").
 ghost use Rattle.std.specs.Prelude.{◌≡◌, ◌*◌, length, option_map, IfSome, IfOk, IfErr};
 ghost use Rattle.slh_io.specs.Devices.{TakesAtMost};
 ghost use Rattle.slh_params.specs.ParamSet.{params};

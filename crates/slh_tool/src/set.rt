@@ -1,3 +1,4 @@
+//! The lines of `slh params`.
 ghost use Rattle.std.specs.Prelude.{◌≡◌, IfOk, string_bytes};
 ghost use Rattle.slh_tool.specs.Sets.{length_text, line, lines, tree_text};
 

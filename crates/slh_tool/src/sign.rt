@@ -1,3 +1,4 @@
+//! The command `sign` (FIPS 205, section 10.2).
 ghost use Rattle.std.specs.Prelude.{◌≡◌, ◌<◌, ◌≤◌, ◌⊎◌, IfOk, IfErr, IfSome, OnOk, length, option_map};
 ghost use Rattle.slh_params.specs.ParamSet.{params};
 ghost use Rattle.slh_tool.specs.Contents.{formatted};
@@ -28,6 +29,7 @@ pub(crate) fn sign_file<R: Threads + Sync, A: Allocator + Clone + Send + Sync, F
 ) -> Result<Vec<u8, A>, Fault>
     ensures done { IfOk result (λ bytes. SignsMessage (sign_asked words.entry) (F.state files.old) bytes.items) }
     ensures refused { IfErr result (RefusesSign (sign_asked words.entry) (F.state files.old) (F.state files.new)) }
+    ensures kept { OnOk result (F.state files.new ≡ F.state files.old) }
 {
     let key = secret_key(alloc.clone()?, files, words.key)?;
     sign_with(rt, alloc, words, files, &key)
@@ -44,6 +46,7 @@ fn sign_with<R: Threads + Sync, A: Allocator + Clone + Send + Sync, F: Files>(
     ensures done { IfOk result (λ bytes. SignsWith (sign_asked words.entry) (F.state files.old) key.now bytes.items) }
     ensures refused { IfErr result (RefusesSigning (sign_asked words.entry) key.now.set
         (F.state files.old) (F.state files.new)) }
+    ensures kept { OnOk result (F.state files.new ≡ F.state files.old) }
 {
     let form = form_and_context(alloc.clone()?, words.form)?;
     let Some(random) = random_of(key.set(), words) else {
@@ -99,7 +102,7 @@ fn signature_of<R: Threads + Sync, A: Allocator + Clone + Send + Sync>(
     Ok(first)
 }
 
-/// The signature, computed once. It is kept out of line, so that the compiler cannot take one computation for both.
+/// The signature, computed once. It is never inlined, so that the compiler cannot take one computation for both.
 #[inline(never)]
 fn signed_once<R: Threads + Sync, A: Allocator + Clone + Send + Sync>(
     rt: &R,

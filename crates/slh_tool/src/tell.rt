@@ -1,3 +1,4 @@
+//! The line of a refusal.
 ghost use Rattle.std.specs.Prelude.{◌≡◌, ◌++◌};
 ghost use Rattle.slh_io.specs.Devices.{CountsFailure, Puts};
 ghost use Rattle.slh_tool.specs.Faults.{line, place, place_text};
@@ -7,7 +8,7 @@ use super::fault::Fault;
 use slh_io::{Sink, WriteFault, put_number, put_text};
 use slh_vectors::Member;
 
-/// Puts the line of a fault: its number and name, and where it is, if that is in a test of a vector file.
+/// Puts the line of a fault: its number and name, and for a fault in a test of a vector file the place.
 pub(crate) fn tell<E: Sink>(errors: &mut E, fault: Fault) -> Result<(), WriteFault>
     ensures puts { Puts (E.state errors.old).contents (E.state errors.new).contents result (line fault) }
     ensures failed { CountsFailure (E.state errors.old).failures (E.state errors.new).failures result }

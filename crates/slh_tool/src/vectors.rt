@@ -1,4 +1,5 @@
-ghost use Rattle.std.specs.Prelude.{◌≡◌, IfErr, IfOk, length};
+//! The command `vectors`.
+ghost use Rattle.std.specs.Prelude.{◌≡◌, IfErr, IfOk, length, OnOk};
 ghost use Rattle.slh_tool.specs.TestRuns.{IsStatus, RefusesVectors, RunsVectors};
 ghost use Rattle.slh_tool.specs.declared.fault.Fault.TheVariants.{NoMemory};
 ghost use Rattle.slh_vectors.specs.Cases.{views};
@@ -22,6 +23,7 @@ pub(crate) fn run_file<
 >(rt: &R, alloc: A, path: &str, workers: Workers, files: &mut F) -> Result<Reply<A>, Fault>
     ensures done { IfOk result (λ r. RunsVectors path.now (F.state files.old) r.status r.output.items) }
     ensures refused { IfErr result (RefusesVectors path.now (F.state files.old) (F.state files.new)) }
+    ensures kept { OnOk result (F.state files.new ≡ F.state files.old) }
 {
     let bytes = read_file(alloc.clone()?, files, path)?;
     let tests = read_vectors(rt.alloc(), bytes.as_slice())?;
@@ -37,7 +39,7 @@ fn reported<A: Allocator>(alloc: A, tests: &[Test], outcomes: &[Outcome]) -> Res
     ensures refused { IfErr result (λ e. e ≡ NoMemory) }
 {
     let mut output = Writer::new(Vec::new(alloc));
-    // A write to memory fails only where a growth is refused.
+    // A write to memory fails only if a growth is refused.
     if report(tests, outcomes, &mut output).is_err() {
         return Err(Fault::NoMemory);
     }

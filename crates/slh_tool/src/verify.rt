@@ -1,3 +1,4 @@
+//! The command `verify` (FIPS 205, section 10.3).
 ghost use Rattle.std.specs.Prelude.{◌≡◌, ◌↔◌, IsTrue, IfOk, IfErr, OnOk};
 ghost use Rattle.slh_params.specs.Params.{sig_len};
 ghost use Rattle.slh_params.specs.ParamSet.{params};
@@ -27,6 +28,7 @@ pub(crate) fn verify_file<A: Allocator + Clone, F: Files>(
     ensures done { IfOk result (λ r. VerifiesMessage (verify_asked words.entry)
         (F.state files.old) r.status r.output.items) }
     ensures refused { IfErr result (RefusesVerify (verify_asked words.entry) (F.state files.old) (F.state files.new)) }
+    ensures kept { OnOk result (F.state files.new ≡ F.state files.old) }
 {
     let key = public_key(alloc.clone()?, files, words.key)?;
     let answer = verify_with(alloc.clone()?, words, files, &key)?;
@@ -43,6 +45,7 @@ fn verify_with<A: Allocator + Clone, F: Files>(
     ensures done { IfOk result (JudgesWith (verify_asked words.entry) (F.state files.old) key.now) }
     ensures refused { IfErr result (RefusesVerifying (verify_asked words.entry)
         (F.state files.old) (F.state files.new)) }
+    ensures kept { OnOk result (F.state files.new ≡ F.state files.old) }
 {
     let FormAndContext { form, context } = form_and_context(alloc.clone()?, words.form)?;
     let context = context.as_slice();
@@ -52,8 +55,8 @@ fn verify_with<A: Allocator + Clone, F: Files>(
     }
 }
 
-/// The same in the pure form. The signature is read first, since the message is hashed after its R, by pieces and never
-/// held. Where both files are refused, the refusal is that of the message.
+/// `verify` in the pure form. The signature is read first, since the message is hashed after its R, by pieces and never
+/// held. If both files are refused, the refusal is that of the message.
 fn verify_pure<A: Allocator, F: Files>(
     alloc: A,
     words: VerifyWords<'_>,
@@ -64,6 +67,7 @@ fn verify_pure<A: Allocator, F: Files>(
     ensures done { IfOk result (JudgesFiles (verify_asked words.entry)
         (F.state files.old) key.now context.now forms.Pure) }
     ensures refused { IfErr result (RefusesFiles (verify_asked words.entry) (F.state files.old) (F.state files.new)) }
+    ensures kept { OnOk result (F.state files.new ≡ F.state files.old) }
 {
     match signature_in(alloc, words, files, key) {
         Ok(signature) => verdict_on(files, words.message, context, signature.as_slice(), key),
@@ -84,13 +88,14 @@ fn verdict_on<F: Files>(
 ) -> Result<bool, Fault>
     ensures done { IfOk result (JudgesMessage (F.state files.old) path.now key.now context.now signature.now) }
     ensures refused { IfErr result (RefusesFile (F.state files.old) (F.state files.new) path.now) }
+    ensures kept { OnOk result (F.state files.new ≡ F.state files.old) }
 {
     let mut verifier = Verifier::new(context, signature, key);
     read_through(files, path, &mut verifier)?;
     Ok(verifier.finish())
 }
 
-/// The same in the pre-hash form. The message is hashed by pieces and never held.
+/// `verify` in the pre-hash form. The message is hashed by pieces and never held.
 fn verify_digest<A: Allocator, F: Files>(
     alloc: A,
     words: VerifyWords<'_>,
@@ -102,6 +107,7 @@ fn verify_digest<A: Allocator, F: Files>(
     ensures done { IfOk result (JudgesFiles (verify_asked words.entry)
         (F.state files.old) key.now context.now (forms.PreHash function)) }
     ensures refused { IfErr result (RefusesFiles (verify_asked words.entry) (F.state files.old) (F.state files.new)) }
+    ensures kept { OnOk result (F.state files.new ≡ F.state files.old) }
 {
     let digest = digest_file(files, words.message, function)?;
     let signature = signature_in(alloc, words, files, key)?;

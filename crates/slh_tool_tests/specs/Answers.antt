@@ -21,16 +21,16 @@ pub record RepliesOver (words : List Text) (files : List NamedFile) (status : �
   pub new : SourceState
   pub reply : Replies words (files_of files) old new status text
 
--- a status and a line that tell whether a fact holds
+-- a status and a line that say whether a fact holds
 abbrev pub Tells : Type 0 → Text → Text → ℕ → Text → Type 0
 Tells fact affirmed denied status text = (fact × ((status ≡ 0) × (text ≡ line affirmed))) ⊎ ((fact → ⊥) × ((status ≡ 1) × (text ≡ line denied)))
 
--- the bytes are a secret key file, and the answer tells whether PK.root of its key is the root that the seeds give
+-- the bytes are a secret key file, and the answer says whether PK.root of its key is the root that the seeds give
 abbrev pub TellsConsistency : Text → ℕ → Text → Type 0
 TellsConsistency file status text = (key : Key) × (key_file Secret file ≡ Ok key) × Tells (IsGeneratedKey key) (codes "consistent") (codes "inconsistent") status text
 
--- the bytes are a public key file, and the answer tells whether the signature of the message, in the pure form with an
--- empty context, is valid under its key (FIPS 205, Algorithm 24)
+-- the bytes are a public key file, and the answer says whether the signature is valid under its key (FIPS 205,
+-- Algorithm 24): that of the message, in the pure form with an empty context
 abbrev pub TellsValidity : Text → Text → Text → ℕ → Text → Type 0
 TellsValidity file message signature status text = (key : Key) × (key_file Public file ≡ Ok key)
     × Tells (IsValid key (pure_message [] message) signature) (codes "valid") (codes "invalid") status text

@@ -1,3 +1,4 @@
+//! Runs a command over files of known bytes, and stores its answer.
 ghost use Rattle.std.specs.Prelude.{◌≡◌, ◌≢◌, IfOk, map, string_bytes};
 ghost use Rattle.slh_tool_tests.specs.Answers.{RepliesOver};
 
@@ -7,7 +8,7 @@ use slh_tool::command;
 use std::alloc::{AllocError, Global};
 use std::thread::Threads;
 
-/// What a command answered: its status, and what it wrote to the output and to the errors.
+/// The answer of a command: its status, its output and its errors.
 #[derive(Drop)]
 pub struct Answer {
     pub status: u8,

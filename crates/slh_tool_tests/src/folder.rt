@@ -1,3 +1,4 @@
+//! Files in memory, whose bytes contracts know, and whose fetches can fail.
 ghost use Rattle.std.specs.Prelude.{◌≡◌, Some, option_map, drop};
 ghost use Rattle.slh_tool_tests.specs.Folder.{bytes_in};
 

@@ -1,3 +1,4 @@
+//! The commands `check` and `verify` over known bytes, with contracts that state their answers.
 ghost use Rattle.std.specs.Prelude.{◌≢◌, IfOk};
 ghost use Rattle.slh_tool_tests.specs.Answers.{TellsConsistency, TellsValidity};
 
@@ -5,7 +6,7 @@ use super::answer::{Answer, answer_over, words_of};
 use std::alloc::AllocError;
 use std::thread::Threads;
 
-/// What `check` answers over these bytes of a key file.
+/// The answer of `check` over these bytes of a key file.
 pub fn check_known<R: AllocGlobal + Threads + Sync>(
     rt: &R,
     key: &[u8],
@@ -16,7 +17,7 @@ pub fn check_known<R: AllocGlobal + Threads + Sync>(
     Ok(answer_over(rt, words.as_slice(), &[("key", key)]))
 }
 
-/// What `verify` answers over these bytes of a key file, of a message and of a signature, in the pure form with an
+/// The answer of `verify` over these bytes of a key file, of a message and of a signature, in the pure form with an
 /// empty context.
 pub fn verify_known<R: AllocGlobal + Threads + Sync>(
     rt: &R,

@@ -1,4 +1,4 @@
-//! Tests of the program's commands through `command`, and callers that show what its contract gives over files whose
+//! Tests of the program's commands through `command`, and callers that show the use of its contract over files whose
 //! bytes are known.
 #![tactic(auto)]
 

@@ -1,4 +1,4 @@
-//! Commands through `command`, where memory is refused and where files, inputs and outputs fail or never end.
+//! Commands through `command`, with memory refused, and with files, inputs and outputs that fail or never end.
 mod callers;
 mod devices;
 mod disk;
@@ -8,6 +8,7 @@ mod fixtures;
 mod key_files;
 mod memory;
 mod own_files;
+mod passing;
 mod roots;
 mod vector_memory;
 mod vectors;
@@ -20,7 +21,7 @@ use std::process::Abort;
 use std::test::Fail;
 use std::thread::Threads;
 
-/// Fails the test where the two are not equal.
+/// Fails the test unless the two are equal.
 fn equal<T: PartialEq + Debug>(rt: &impl Abort, found: &T, expected: &T) {
     assert_eq!(rt; found, expected);
 }

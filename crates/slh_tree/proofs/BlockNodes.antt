@@ -140,7 +140,8 @@ gains_sibling t k r0 r r1 p pz pi bytes now note = record {
         pi ∙ ap (λ l. sibling_index l k) (sym now.leaf) ∙ ap (sibling_index r.leaf) (sym pz) in
         ap (known r1) (jk ∙ sym pz) ∙ note.noted (omega (arith, now.height, pz)) here ∙ ap Some (bytes ∙ ap (sibling t r0.leaf) (sym jk))
   ];
-  kept = λ j off. note.kept j (λ jz below here. off (omega (arith, jz, pz))) ∙ now.kept j (λ lt. off (omega arith));
+  kept = λ j off.
+      note.kept j (λ jz below here. off (omega (arith, now.height)) (omega (arith, jz, pz))) ∙ now.kept j (λ below lt. off below (omega arith));
 }
 
 -- of a block with the leaf the path's nodes below are all
@@ -155,7 +156,7 @@ gains_own t z i r0 r r1 p pz pi own now note = record {
       note.kept j (λ jz below here.
       let index : sibling_index r0.leaf z ≡ p.i = ap (sibling_index r0.leaf) (sym (jz ∙ pz)) ∙ ap (λ l. sibling_index l j) (sym now.leaf) ∙ sym here in
       other_index r0.leaf z (index ∙ pi ∙ sym own))
-      ∙ now.kept j (λ lt. off (below_own r0.leaf z i j own lt));
+      ∙ now.kept j (λ below lt. off below (below_own r0.leaf z i j own lt));
 }
 
 -- of a block without it the block's own node
@@ -171,7 +172,7 @@ gains_beside t z i r0 r1 p pz pi bytes other note = record {
   kept = λ j off. note.kept j (λ jz below here.
       let index : sibling_index r0.leaf j ≡ i = sym here ∙ pi in
       let height : j ≡ z = jz ∙ pz in
-      off (record {
+      off below (record {
         from = omega (arith, ap (first_leaf j) index, ap (λ k. first_leaf k i) height);
         to = omega (arith, ap (past_leaf j) index, ap (λ k. past_leaf k i) height);
       }));

@@ -51,7 +51,7 @@ pub record Gathered (t : MerkleTree) (cs : List Cover) (k : ℕ) (s : List Place
   pub height : r.height ≡ r0.height
   pub leaf : r.leaf ≡ r0.leaf
   pub noted : (j : ℕ) → j < r0.height → past_leaf j (sibling_index r0.leaf j) ≤ end → (LiesInOne cs r0.leaf j → ⊥) → known r j ≡ Some (sibling t r0.leaf j)
-  pub kept : (j : ℕ) → LiesInOne cs r0.leaf j → known r j ≡ known r0 j
+  pub kept : (j : ℕ) → (j < r0.height → LiesInOne cs r0.leaf j) → known r j ≡ known r0 j
 
 module _ (t : MerkleTree) (cs : List Cover) (all : AreCovers t 0 cs) (k : ℕ) (s : List Placed) (r0 r : KnownPath) (now : Gathered t cs k s r0 r) where
   -- the covers from place k on
@@ -74,7 +74,7 @@ module _ (t : MerkleTree) (cs : List Cover) (all : AreCovers t 0 cs) (k : ℕ) (
         noted = λ j below to off.
             elim (cases_lt c.lo (past_leaf j (sibling_index r0.leaf j))) [
               | inr early ↦
-                  cross.kept j (λ done. let d = subst (Cr j) now.leaf done in omega (arith, d.after))
+                  cross.kept j (λ _ done. let d = subst (Cr j) now.leaf done in omega (arith, d.after))
                   ∙ now.noted j below (omega (arith, here.0)) off
               | inl late ↦
                   elim (cases_lt (first_leaf j (sibling_index r0.leaf j)) c.lo) [
@@ -85,7 +85,8 @@ module _ (t : MerkleTree) (cs : List Cover) (all : AreCovers t 0 cs) (k : ℕ) (
                   ]
             ];
         kept = λ j lies.
-            cross.kept j (λ done. crosses_no_other t 0 cs k c r0.leaf j all within read lies (subst (Cr j) now.leaf done)) ∙ now.kept j lies;
+            cross.kept j (λ low done. crosses_no_other t 0 cs k c r0.leaf j all within read (lies (omega (arith, now.height))) (subst (Cr j) now.leaf done))
+            ∙ now.kept j lies;
       }
 
   -- all covers reach the end of the tree

@@ -55,6 +55,10 @@ cover-last t lo hi ps p c within read =
     in
     (subst At shape (from_end c)).1
 
+-- what a stack says of each node
+abbrev pub IsLow : Placed → Type 0
+IsLow p = (p.z ≤ 14) × (past_leaf p.z p.i ≤ 2 ^ 14)
+
 -- a node of a tree of height 14 or less
-pub low_enough : (t : MerkleTree) (p : Placed) → IsNodeOf t p → t.height ≤ 14 → (p.z ≤ 14) × (past_leaf p.z p.i ≤ 2 ^ 14)
+pub low_enough : (t : MerkleTree) (p : Placed) → IsNodeOf t p → t.height ≤ 14 → IsLow p
 low_enough t p own low = (omega (arith, own.height), omega (arith, own.within, pow_mono low))

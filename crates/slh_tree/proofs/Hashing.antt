@@ -35,7 +35,7 @@ hashed_more t lo i r0 r r1 r2 p pz pi bytes le now note push =
     -- neither the leaf nor a node that ends with it
     let same_before : (j : ℕ) → (past_leaf j (sibling_index r0.leaf j) ≡ i + 1 → ⊥) → known r2 j ≡ known r j =
     λ j off.
-    push.kept j (λ done. off (let d = subst (At j) leaf done in d.ends ∙ past))
+    push.kept j (λ below done. off (let d = subst (At j) leaf done in d.ends ∙ past))
     ∙ note.kept j (λ jz below here.
     let index : sibling_index r0.leaf j ≡ p.i = ap (λ (l : ℕ). sibling_index l j) (sym now.leaf) ∙ sym here in
     off (ap (past_leaf j) index ∙ ap (λ (z : ℕ). past_leaf z p.i) jz ∙ past))
@@ -62,18 +62,18 @@ hashed_more t lo i r0 r r1 r2 p pz pi bytes le now note push =
                       let here : p.i ≡ sibling_index r.leaf p.z =
                       pi ∙ sym index ∙ ap (λ (l : ℕ). sibling_index l j) (sym now.leaf) ∙ ap (sibling_index r.leaf) jz
                       in
-                      push.kept j (λ done. let d = subst (At j) leaf done in omega (arith, d.before))
+                      push.kept j (λ _ done. let d = subst (At j) leaf done in omega (arith, d.before))
                       ∙ ap (known r1) jz
                       ∙ note.noted (omega (arith, now.height)) here
                       ∙ ap Some (bytes ∙ ap t.leaf (sym index) ∙ sym (node-leaf t (sibling_index r0.leaf j)) ∙ ap (λ (z : ℕ). node t z (sibling_index r0.leaf j)) (sym bottom))
                 ]
           ];
       kept = λ j off.
-          push.kept j (λ done. let d = subst (At j) leaf done in off (record { from = d.from; to = omega (arith, d.ends) }))
+          push.kept j (λ low done. let d = subst (At j) leaf done in off (omega (arith, note.height, now.height)) (record { from = d.from; to = omega (arith, d.ends) }))
           ∙ note.kept j (λ jz below here.
           let index : sibling_index r0.leaf j ≡ p.i = ap (λ (l : ℕ). sibling_index l j) (sym now.leaf) ∙ sym here in
           let first_is : first_leaf j (sibling_index r0.leaf j) ≡ i = ap (first_leaf j) index ∙ ap (λ (z : ℕ). first_leaf z p.i) jz ∙ first in
           let past_is : past_leaf j (sibling_index r0.leaf j) ≡ i + 1 = ap (past_leaf j) index ∙ ap (λ (z : ℕ). past_leaf z p.i) jz ∙ past in
-          off (record { from = omega arith; to = omega arith }))
-          ∙ now.kept j (λ lies. off (record { from = lies.from; to = omega (arith, lies.to) }));
+          off (omega (arith, now.height)) (record { from = omega arith; to = omega arith }))
+          ∙ now.kept j (λ low lies. off low (record { from = lies.from; to = omega (arith, lies.to) }));
     }

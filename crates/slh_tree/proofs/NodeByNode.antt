@@ -50,7 +50,7 @@ crossed_more t lo hi ps k p r0 r r2 at now push =
       noted = λ j below cross.
           elim (cases_lt (first_leaf p.z p.i) (past_leaf j (sibling_index r0.leaf j))) [
             | inr early ↦
-                push.kept j (λ done. let d = subst (At j) now.leaf done in omega (arith, d.ends, first-lt-past p.z p.i))
+                push.kept j (λ _ done. let d = subst (At j) now.leaf done in omega (arith, d.ends, first-lt-past p.z p.i))
                 ∙ now.noted j below (record { before = cross.before; after = cross.after; to = early })
             | inl late ↦
                 let wide : p.z ≤ j =
@@ -67,14 +67,14 @@ crossed_more t lo hi ps k p r0 r r2 at now push =
                 push.noted j (omega (arith, now.height)) (subst (At j) (sym now.leaf) done) ∙ ap (λ (l : ℕ). Some (sibling t l j)) now.leaf
           ];
       kept = λ j off.
-          push.kept j (λ done.
+          push.kept j (λ below done.
           let d = subst (At j) now.leaf done in
-          off (record {
+          off (omega (arith, now.height)) (record {
             before = begins_outside t lo j (sibling_index r0.leaf j) p (reverse (take k ps)) at.upto d.before d.ends;
             after = omega (arith, d.ends, first-lt-past p.z p.i);
             to = omega (arith, d.ends);
           }))
-          ∙ now.kept j (λ cross. off (record { before = cross.before; after = cross.after; to = omega (arith, cross.to, first-lt-past p.z p.i) }));
+          ∙ now.kept j (λ below cross. off below (record { before = cross.before; after = cross.after; to = omega (arith, cross.to, first-lt-past p.z p.i) }));
     }
 
 -- the nodes of a cover before place k are on the stack

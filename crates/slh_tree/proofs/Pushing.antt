@@ -31,7 +31,8 @@ pub record Joining (t : MerkleTree) (p0 : Placed) (s0 : List Placed) (r0 : Known
       known r j ≡ Some (sibling t r0.leaf j)
   pub kept :
       (j : ℕ) →
-      (j ≤ p.z →
+      (j < r0.height →
+      j ≤ p.z →
       first_leaf j (sibling_index r0.leaf j) < first_leaf p0.z p0.i →
       past_leaf j (sibling_index r0.leaf j) ≡ past_leaf p0.z p0.i →
       ⊥) →
@@ -117,8 +118,8 @@ module _ (t : MerkleTree) (p0 : Placed) (s0 : List Placed) (r0 : KnownPath) (s :
             let here : sibling_index r0.leaf j ≡ p'.i = ap (λ (l : ℕ). sibling_index l j) (sym now.leaf) ∙ sym i in
             let first_is : first_leaf j (sibling_index r0.leaf j) ≡ first_leaf p'.z p'.i = ap (first_leaf j) here ∙ ap (λ (z : ℕ). first_leaf z p'.i) same in
             let past_is : past_leaf j (sibling_index r0.leaf j) ≡ past_leaf p'.z p'.i = ap (past_leaf j) here ∙ ap (λ (z : ℕ). past_leaf z p'.i) same in
-            off (omega arith) (omega arith) (past_is ∙ ends'))
-            ∙ now.kept j (λ le before ends. off (omega arith) before ends);
+            off (omega (arith, now.height)) (omega arith) (omega arith) (past_is ∙ ends'))
+            ∙ now.kept j (λ low le before ends. off low (omega arith) before ends);
       }
 
   -- nothing more to join
@@ -137,12 +138,12 @@ module _ (t : MerkleTree) (p0 : Placed) (s0 : List Placed) (r0 : KnownPath) (s :
       now.noted j below high done.before done.ends
 
   -- and no others
-  joining_kept : (lo j : ℕ) → IsCover t lo (first_leaf p0.z p0.i) s0 → (Completes lo p0 r0.leaf j → ⊥) → known r j ≡ known r0 j
+  joining_kept : (lo j : ℕ) → IsCover t lo (first_leaf p0.z p0.i) s0 → (j < r0.height → Completes lo p0 r0.leaf j → ⊥) → known r j ≡ known r0 j
   joining_kept lo j c off =
-      now.kept j (λ le before ends.
+      now.kept j (λ below le before ends.
       let b = begins_before j (sibling_index r0.leaf j) p.z p.i (ends ∙ sym now.ends) le in
       let low = cover-le t lo (first_leaf p.z p.i) (reverse s) (from_end (now.covers lo c)) in
-      off (record { from = omega arith; before = before; ends = ends }))
+      off below (record { from = omega arith; before = before; ends = ends }))
 
   -- so the record gains exactly these
   pub joining_gained : (lo : ℕ) → IsCover t lo (first_leaf p0.z p0.i) s0 → EndsApart (reverse s) p → Gains t (Completes lo p0 r0.leaf) r0 r

@@ -15,8 +15,8 @@ path t i = path_below t i t.height
 abbrev pub parent : MerkleTree → ℕ → ℕ → List ℕ → List ℕ → List ℕ
 parent t z i own other = if (i % 2 == 0) then t.join z (i / 2) own other else t.join z (i / 2) other own
 
--- The node of height j of the climb from x at leaf i, where p gives the sibling at each height (FIPS 205, the loops of
--- Algorithms 11 and 17).
+-- The node of height j of the climb from x at leaf i (FIPS 205, the loops of Algorithms 11 and 17). p gives the sibling
+-- at each height.
 unfoldable pub climb_to : MerkleTree → ℕ → List ℕ → (ℕ → List ℕ) → ℕ → List ℕ
 climb_to t i x p zero = x
 climb_to t i x p (suc j) = parent t (suc j) (i / 2 ^ j) (climb_to t i x p j) (p j)

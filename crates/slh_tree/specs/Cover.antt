@@ -12,7 +12,7 @@ first_leaf z i = i * 2 ^ z
 abbrev pub past_leaf : ℕ → ℕ → ℕ
 past_leaf z i = (i + 1) * 2 ^ z
 
--- the tree's own node at its place
+-- the tree's node at its place
 pub record IsNodeOf (t : MerkleTree) (p : Placed) : Type 0 where
   pub height : p.z ≤ t.height
   pub within : past_leaf p.z p.i ≤ 2 ^ t.height
@@ -29,14 +29,13 @@ abbrev pub Spans : ℕ → ℕ → List Placed → Type 0
 Spans lo hi [] = lo ≡ hi
 Spans lo hi (p ∷ ps) = (first_leaf p.z p.i ≡ lo) × Spans (past_leaf p.z p.i) hi ps
 
--- no left child is followed by its own right sibling
+-- no left child is followed by its right sibling
 abbrev pub NoSiblingsMeet : List Placed → Type 0
 NoSiblingsMeet [] = ⊤
 NoSiblingsMeet (p ∷ []) = ⊤
 NoSiblingsMeet (p ∷ q ∷ ps) = (AreSiblings p q → ⊥) × NoSiblingsMeet (q ∷ ps)
 
--- The tree's own nodes whose leaves, put end to end, are lo .. hi, with no left child followed by its own right
--- sibling.
+-- The tree's nodes whose leaves, put end to end, are lo .. hi, with no left child followed by its right sibling.
 pub record IsCover (t : MerkleTree) (lo hi : ℕ) (ps : List Placed) : Type 0 where
   pub own : All (IsNodeOf t) ps
   pub spans : Spans lo hi ps

@@ -1,4 +1,4 @@
--- What a path record knows: ours.
+-- The nodes that a path record knows: ours.
 use Rattle.std.specs.Prelude.{◌≡◌, ℕ, ◌<◌, ◌≤◌, ◌⊎◌, List, [], ◌∷◌, Option, None, Some, slice_index_or}
 use Rattle.arrayvec.specs.ArrayVec.{ArrayVec}
 use Rattle.slh_tree.specs.declared.cover.Cover.{Cover}
@@ -21,20 +21,20 @@ bytes_of (Some node) = Some node.items
 abbrev pub known : KnownPath → ℕ → Option (List ℕ)
 known r j = slice_index_or r.nodes j None
 
--- What a call does to a record: of the nodes of its leaf's path in the tree, the new one also knows those whose heights
--- are `Gained`, and nothing else changes.
+-- The effect of a call on a record: the new one also knows the nodes of its leaf's path whose heights are `Gained` and
+-- below the record's. Nothing else changes.
 pub record Gains (t : MerkleTree) (Gained : ℕ → Type 0) (old new : KnownPath) : Type 0 where
   pub height : new.height ≡ old.height
   pub leaf : new.leaf ≡ old.leaf
   pub noted : (j : ℕ) → j < old.height → Gained j → known new j ≡ Some (sibling t old.leaf j)
-  pub kept : (j : ℕ) → (Gained j → ⊥) → known new j ≡ known old j
+  pub kept : (j : ℕ) → (j < old.height → Gained j → ⊥) → known new j ≡ known old j
 
--- the leaves of the node of height j of leaf i's path all lie in lo .. hi
+-- the leaves of the node of height j of leaf i's path are all in lo .. hi
 pub record LiesInRange (lo hi i j : ℕ) : Type 0 where
   pub from : lo ≤ first_leaf j (sibling_index i j)
   pub to : past_leaf j (sibling_index i j) ≤ hi
 
--- the leaves of the node of height j of leaf i's path all lie in the range of one of the covers
+-- the leaves of the node of height j of leaf i's path are all in the range of one of the covers
 abbrev pub LiesInOne : List Cover → ℕ → ℕ → Type 0
 LiesInOne [] i j = ⊥
 LiesInOne (c ∷ cs) i j = LiesInRange c.lo c.hi i j ⊎ LiesInOne cs i j
@@ -45,7 +45,7 @@ pub record Completes (lo : ℕ) (p : Placed) (i j : ℕ) : Type 0 where
   pub before : first_leaf j (sibling_index i j) < first_leaf p.z p.i
   pub ends : past_leaf j (sibling_index i j) ≡ past_leaf p.z p.i
 
--- the last leaf of the node of height j of leaf i's path lies in lo .. hi, and its first one before
+-- the last leaf of the node of height j of leaf i's path is in lo .. hi, and its first one before
 pub record Crosses (lo hi i j : ℕ) : Type 0 where
   pub before : first_leaf j (sibling_index i j) < lo
   pub after : lo < past_leaf j (sibling_index i j)

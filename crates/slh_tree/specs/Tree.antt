@@ -20,7 +20,7 @@ unfoldable pub node : MerkleTree → ℕ → ℕ → List ℕ
 node t zero i = t.leaf i
 node t (suc z) i = t.join (suc z) i (node t z (2 * i)) (node t z (2 * i + 1))
 
--- the one node of the tree's own height
+-- the one node of the tree's height
 abbrev pub root : MerkleTree → List ℕ
 root t = node t t.height 0
 

@@ -1,4 +1,4 @@
-//! Nodes at their places, and covers of a range of leaves.
+//! Nodes at their places, and covers of a range of leaves (ours).
 ghost use Rattle.std.specs.Prelude.{◌≡◌, ℕ, ◌^◌, ◌≤◌, ◌↔◌, List, reverse};
 ghost use Rattle.slh_tree.specs.declared.cover.Placed.{Placed};
 ghost use Rattle.slh_tree.specs.Tree.{MerkleTree};
@@ -15,8 +15,8 @@ pub struct Placed {
     pub node: Node,
 }
 
-/// The nodes that cover the leaves from `lo` to `hi`, `hi` left out: their leaves, put end to end, are these, and no
-/// left child is followed by its own right sibling.
+/// The nodes that cover the leaves from `lo` to before `hi`. Their leaves, end to end, are these, and no left child is
+/// followed by its right sibling.
 #[derive(Drop)]
 pub struct Cover {
     pub lo: u32,
@@ -44,7 +44,7 @@ impl Placed {
     }
 }
 
-/// The law that a cover can as well be read from its last node, each node ending where the one after it begins. It does
+/// The law that a cover can as well be read from its last node: each node ends at the beginning of the next. It does
 /// nothing: the law is its contract.
 pub fn covers_read_from_the_end()
     ensures { (t : MerkleTree) (lo hi : ℕ) (nodes : List Placed) → IsCover t lo hi nodes

@@ -1,4 +1,4 @@
-//! A whole tree from the covers of its ranges.
+//! A whole tree from the covers of its ranges (ours).
 ghost use Rattle.std.specs.Prelude.{◌≡◌, ℕ, ◌^◌, ◌<◌, ◌≤◌, Some};
 ghost use Rattle.slh_tree.specs.Tree.{sibling, root};
 ghost use Rattle.slh_tree.specs.Cover.{IsCover, AreCovers};
@@ -7,7 +7,7 @@ ghost use Rattle.slh_tree.specs.Record.{known, Gains, Crosses, LiesInOne};
 use crate::cover::{Cover, Placed};
 use crate::record::PathRec;
 use crate::stack::Stack;
-use crate::tree::Tree;
+use crate::tree::Climbs;
 use slh_params::{Node, copy_of};
 
 /// A copy of the node at its place.
@@ -23,7 +23,7 @@ fn copy_placed(placed: &Placed) -> Placed
 
 /// Adds the nodes of the next cover. The record gains those nodes of its path that end in the range and begin before
 /// it.
-fn push_cover<T: Tree>(stack: &mut Stack, tree: &T, cover: &Cover, rec: &mut PathRec)
+fn push_cover<T: Climbs>(stack: &mut Stack, tree: &T, cover: &Cover, rec: &mut PathRec)
     requires cover { IsCover (T.tree tree.now) cover.now.lo cover.now.hi cover.now.nodes.items }
     requires follows { IsCover (T.tree tree.now) 0 cover.now.lo stack.old }
     requires same_height { rec.old.height ≡ (T.tree tree.now).height }
@@ -37,7 +37,7 @@ fn push_cover<T: Tree>(stack: &mut Stack, tree: &T, cover: &Cover, rec: &mut Pat
 }
 
 /// The one node of a cover of the whole tree.
-fn only_node<T: Tree>(tree: &T, cover: &Cover) -> Node
+fn only_node<T: Climbs>(tree: &T, cover: &Cover) -> Node
     requires { IsCover (T.tree tree.now) 0 (2 ^ (T.tree tree.now).height) cover.now.nodes.items }
     ensures { result.items ≡ root (T.tree tree.now) }
 {
@@ -45,9 +45,9 @@ fn only_node<T: Tree>(tree: &T, cover: &Cover) -> Node
 }
 
 /// The root of the tree from covers that, put end to end, span it. The record gains exactly those nodes of its path
-/// whose leaves do not all lie in one cover's range. So once the record also has what `hash_range` noted over each
-/// range, it knows the whole path.
-pub fn gather<T: Tree>(tree: &T, covers: &[Cover], rec: &mut PathRec) -> Node
+/// whose leaves are not all in one cover's range. So once the record also has what `hash_range` noted over each range,
+/// it knows the whole path.
+pub fn gather<T: Climbs>(tree: &T, covers: &[Cover], rec: &mut PathRec) -> Node
     requires covers { AreCovers (T.tree tree.now) 0 covers.now }
     requires same_height { rec.old.height ≡ (T.tree tree.now).height }
     requires leaf { rec.old.leaf < 2 ^ rec.old.height }

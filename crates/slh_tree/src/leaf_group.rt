@@ -1,4 +1,4 @@
-//! The leaves of a range, several at once.
+//! Several leaves of a range at once (ours).
 ghost use Rattle.std.specs.Prelude.{◌≡◌, ◌^◌, ◌<◌, ◌≤◌};
 ghost use Rattle.slh_tree.specs.Tree.{MerkleTree};
 ghost use Rattle.slh_tree.specs.Leaves.{AreLeaves};
@@ -24,8 +24,8 @@ impl LeafGroup {
         }
     }
 
-    /// Leaf `i`. Where the group has it not, the group becomes that leaf and those after it, up to `MOST_LEAVES`
-    /// and below `hi`.
+    /// Leaf `i`. If the group does not have it, the group becomes that leaf and the next ones, up to `MOST_LEAVES` and
+    /// below `hi`.
     pub(crate) fn leaf<T: Tree>(&mut self, tree: &T, i: u32, hi: u32) -> Node
         requires own { AreLeaves (T.tree tree.now) self.old }
         requires index { i < hi }

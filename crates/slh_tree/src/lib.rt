@@ -1,5 +1,5 @@
-//! Merkle trees over a trait: roots, authentication paths, the climb from a leaf to the root, and trees that are built
-//! range by range. Nothing here allocates, and nothing is refused.
+//! Merkle trees over a trait (FIPS 205, sections 6 and 8): roots, authentication paths, and the root from a leaf and
+//! its path. Trees can be built range by range. No call allocates, and none refuses.
 #![tactic(auto)]
 
 mod cover;
@@ -17,4 +17,4 @@ pub use paths::{climb, parent, path};
 pub use range::{hash_range, node, root};
 pub use record::PathRec;
 pub use stack::Stack;
-pub use tree::{Leaves, MOST_LEAVES, Tree};
+pub use tree::{Climbs, Leaves, MOST_LEAVES, Tree};

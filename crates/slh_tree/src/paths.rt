@@ -1,16 +1,17 @@
-//! The authentication path of a leaf, and the climb along a path.
+//! The authentication path of a leaf, and the root from a leaf and its path (FIPS 205, sections 6.2, 6.3, 8.3, 8.4).
 ghost use Rattle.std.specs.Prelude.{◌≡◌, ◌+◌, ◌*◌, ◌/◌, ◌^◌, ◌<◌, ◌≤◌, length};
 ghost use Rattle.slh_tree.specs.Tree.{root};
 ghost use Rattle.slh_tree.specs.Climb.{climb as climb_of, parent as parent_of, path};
 
 use crate::range::node;
-use crate::tree::Tree;
+use crate::tree::{Climbs, Tree};
 use slh_params::{Node, copy_of, node_of, put_node};
 
-/// Writes the authentication path of leaf `idx` into `out`: for each height below the tree's, the sibling of the node
-/// over the leaf, end to end (FIPS 205, AUTH of Algorithms 10 and 16).
+/// Writes the authentication path of leaf `idx` into `out` (FIPS 205, AUTH of Algorithms 10 and 16). For each height
+/// below the tree's, it has the sibling of the node over the leaf, end to end.
 ///
-/// Each sibling is made from its own leaves, so that `2^height - 1` leaves are computed, and never leaf `idx` itself.
+/// Each sibling is made from the leaves below it, so that `2^height - 1` leaves are computed, and never leaf `idx`
+/// itself.
 pub fn path<T: Tree>(tree: &T, idx: u32, out: &mut [u8])
     requires index { idx < 2 ^ (T.tree tree.now).height }
     requires length { length out.old ≡ (T.tree tree.now).height * (T.tree tree.now).width }
@@ -24,7 +25,7 @@ pub fn path<T: Tree>(tree: &T, idx: u32, out: &mut [u8])
 
 /// The parent of the node of height `level` over leaf `idx`, from that node and its sibling.
 #[tactic(auto, using(crate::proofs::Branch::parent_below))]
-pub fn parent<T: Tree>(tree: &T, idx: u32, level: u32, node: &Node, sibling: &Node) -> Node
+pub fn parent<T: Climbs>(tree: &T, idx: u32, level: u32, node: &Node, sibling: &Node) -> Node
     requires index { idx < 2 ^ (T.tree tree.now).height }
     requires level { level < (T.tree tree.now).height }
     requires high { level < 14 }
@@ -42,11 +43,11 @@ pub fn parent<T: Tree>(tree: &T, idx: u32, level: u32, node: &Node, sibling: &No
     }
 }
 
-/// The root that follows from `leaf` at index `idx` and the path `auth`, which is as long as the tree's paths are
-/// (FIPS 205, the loops of Algorithms 11 and 17).
+/// The root from `leaf` at index `idx` and the path `auth` (FIPS 205, the loops of Algorithms 11 and 17). The path is
+/// as long as the tree's paths are.
 ///
-/// It joins nodes alone and asks for no leaf. From the tree's own leaf and its path it gives the tree's root.
-pub fn climb<T: Tree>(tree: &T, idx: u32, leaf: &Node, auth: &[u8]) -> Node
+/// It only joins nodes, and makes no leaf. From a leaf of the tree and its path it gives the tree's root.
+pub fn climb<T: Climbs>(tree: &T, idx: u32, leaf: &Node, auth: &[u8]) -> Node
     requires index { idx < 2 ^ (T.tree tree.now).height }
     requires leaf_width { length leaf.now.items ≡ (T.tree tree.now).width }
     requires path_width { length auth.now ≡ (T.tree tree.now).height * (T.tree tree.now).width }

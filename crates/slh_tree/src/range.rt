@@ -1,4 +1,4 @@
-//! The cover of a range of leaves, a node, and the root.
+//! The cover of a range of leaves, a node, and the root (FIPS 205, Algorithms 9 and 15).
 ghost use Rattle.std.specs.Prelude.{◌≡◌, ℕ, ◌*◌, ◌^◌, ◌<◌, ◌≤◌, [], ◌∷◌, length};
 ghost use Rattle.slh_tree.specs.Tree.{node, root};
 ghost use Rattle.slh_tree.specs.declared.cover.Placed.{Placed};
@@ -12,9 +12,9 @@ use crate::stack::Stack;
 use crate::tree::Tree;
 use slh_params::{Node, copy_of};
 
-/// The cover of the leaves from `lo` to `hi`, `hi` left out, which has at most twice as many nodes as the tree has
-/// levels above the leaves; the leaves below one node give that node alone. The record gains exactly those nodes of its
-/// path whose leaves all lie in the range.
+/// The cover of the leaves from `lo` to before `hi`. It has at most twice as many nodes as the tree has levels above
+/// the leaves. The leaves below one node give only that node. The record gains exactly those nodes of its path whose
+/// leaves are all in the range.
 pub fn hash_range<T: Tree>(tree: &T, lo: u32, hi: u32, rec: &mut PathRec) -> Cover
     requires order { lo < hi }
     requires within { hi ≤ 2 ^ (T.tree tree.now).height }
@@ -43,7 +43,7 @@ pub fn hash_range<T: Tree>(tree: &T, lo: u32, hi: u32, rec: &mut PathRec) -> Cov
     stack.into_cover()
 }
 
-/// The node of height `z` at index `i`, from its own leaves alone: xmss_node of an XMSS tree, fors_node of a FORS tree
+/// The node of height `z` at index `i`, from the leaves below it: xmss_node of an XMSS tree, fors_node of a FORS tree
 /// (FIPS 205, Algorithms 9 and 15).
 pub fn node<T: Tree>(tree: &T, z: u32, i: u32) -> Node
     requires height { z ≤ (T.tree tree.now).height }
@@ -59,7 +59,7 @@ pub fn node<T: Tree>(tree: &T, z: u32, i: u32) -> Node
     copy_of(&cover.nodes[0].node)
 }
 
-/// The root of the tree: the node of the tree's own height.
+/// The root of the tree: the node of the tree's height.
 pub fn root<T: Tree>(tree: &T) -> Node
     ensures value { result.items ≡ root (T.tree tree.now) }
     ensures width { length result.items ≡ (T.tree tree.now).width }

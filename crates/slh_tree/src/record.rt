@@ -1,4 +1,4 @@
-//! The nodes of one leaf's path, as far as they are known.
+//! A partial authentication path: the nodes of one leaf's path that are known so far (ours).
 ghost use Rattle.std.specs.Prelude.{◌≡◌, ◌≢◌, ℕ, ◌<◌, ◌≤◌, ◌^◌, Option, None, Some, IfNone, IfSome, MatchOption};
 ghost use Rattle.slh_tree.specs.Tree.{sibling_index};
 ghost use Rattle.slh_tree.specs.Record.{known};
@@ -60,7 +60,7 @@ impl PathRec {
         self.leaf
     }
 
-    /// Keeps the node where it is one of the path's, below the tree's height.
+    /// Stores the node if it is one of the path's, below the tree's height.
     pub fn note(&mut self, placed: &Placed)
         ensures height { self.new.height ≡ self.old.height }
         ensures leaf { self.new.leaf ≡ self.old.leaf }
@@ -75,7 +75,7 @@ impl PathRec {
         }
     }
 
-    /// Keeps the path's node of height `level`.
+    /// Stores the path's node of height `level`.
     fn keep(&mut self, level: u32, node: &Node)
         requires { level < 14 }
         ensures height { self.new.height ≡ self.old.height }
@@ -86,7 +86,7 @@ impl PathRec {
         self.nodes[level as usize] = Some(copy_of(node));
     }
 
-    /// The path's node of height `j`, where it is known.
+    /// The path's node of height `j`, if it is known.
     pub fn at(&self, j: u32) -> Option<&Node>
         ensures none { IfNone result (known self.now j ≡ None) }
         ensures some { IfSome result (λ node. known self.now j ≡ Some node.now.items) }

@@ -1,4 +1,4 @@
-//! The stack of nodes that are not joined yet.
+//! The stack of nodes that are not joined yet (ours): treehash over a range of leaves.
 ghost use Rattle.std.specs.Prelude.{◌≡◌, ℕ, ◌+◌, ◌-◌, ◌*◌, ◌/◌, ◌^◌, ◌<◌, ◌≤◌, List, [], ◌∷◌, ◌++◌, Some, length, reverse, IfSome, IfNone};
 ghost use Rattle.slh_tree.specs.declared.cover.Placed.{Placed};
 ghost use Rattle.slh_tree.specs.Tree.{MerkleTree};
@@ -7,7 +7,7 @@ ghost use Rattle.slh_tree.specs.Record.{Gains, Completes};
 
 use crate::cover::{Cover, Placed};
 use crate::record::PathRec;
-use crate::tree::Tree;
+use crate::tree::Climbs;
 use arrayvec::ArrayVec;
 use std::marker::Model;
 
@@ -18,16 +18,20 @@ pub struct Stack {
 }
 
 impl Model for Stack {
-    ghost use Rattle.std.specs.Prelude.{List};
+    ghost use Rattle.std.specs.Prelude.{◌≤◌, ◌^◌, List, All};
     ghost use Rattle.slh_tree.specs.declared.cover.Placed.{Placed};
+    ghost use Rattle.slh_tree.specs.Cover.{past_leaf};
 
     ghost Value = { List Placed };
 
     ghost view = { λ s. s.nodes.items };
+
+    // No tree has more than 2^14 leaves.
+    ghost invariant = { λ s. All (λ p. (p.z ≤ 14) × (past_leaf p.z p.i ≤ 2 ^ 14)) s.nodes.items };
 }
 
-/// The parent of two siblings, both the tree's own nodes.
-fn join_siblings<T: Tree>(tree: &T, left: &Placed, right: &Placed) -> Placed
+/// The parent of two siblings, both nodes of the tree.
+fn join_siblings<T: Climbs>(tree: &T, left: &Placed, right: &Placed) -> Placed
     requires left { IsNodeOf (T.tree tree.now) left.now }
     requires right { IsNodeOf (T.tree tree.now) right.now }
     requires siblings { AreSiblings left.now right.now }
@@ -56,7 +60,7 @@ impl Stack {
         }
     }
 
-    /// Takes the last node off where it is the left sibling of `right`.
+    /// Takes the last node off if it is the left sibling of `right`.
     fn take_left(&mut self, right: &Placed) -> Option<Placed>
         ensures some { IfSome result (λ left. (self.old ≡ self.new ++ left ∷ []) × AreSiblings left right.now) }
         ensures none { IfNone result ((self.new ≡ self.old) × EndsApart (reverse self.old) right.now) }
@@ -69,9 +73,9 @@ impl Stack {
         }
     }
 
-    /// Adds the tree's own node `placed`, whose leaves begin where those of the last node end. While the last two nodes
+    /// Adds the tree's node `placed`, whose leaves begin at the end of those of the last node. While the last two nodes
     /// are siblings, they are joined, and each node that arises is noted in the record; `placed` itself is not.
-    pub fn push<T: Tree>(&mut self, tree: &T, placed: Placed, rec: &mut PathRec)
+    pub fn push<T: Climbs>(&mut self, tree: &T, placed: Placed, rec: &mut PathRec)
         requires own { IsNodeOf (T.tree tree.now) placed }
         requires follows { (lo : ℕ) × IsCover (T.tree tree.now) lo (first_leaf placed.z placed.i) self.old }
         requires same_height { rec.old.height ≡ (T.tree tree.now).height }
@@ -92,9 +96,7 @@ impl Stack {
 
     /// The nodes as a cover of their leaves. Something was pushed.
     pub fn into_cover(self) -> Cover
-        requires some { 0 < length self }
-        requires of_a_tree { (t : MerkleTree) × (lo : ℕ) × (hi : ℕ)
-            × (t.height ≤ 14) × (hi ≤ 2 ^ t.height) × IsCover t lo hi self }
+        requires { 0 < length self }
         ensures nodes { result.nodes.items ≡ self }
         ensures range { (t : MerkleTree) (lo hi : ℕ) → IsCover t lo hi self → (result.lo ≡ lo) × (result.hi ≡ hi) }
     {

@@ -1,4 +1,4 @@
-//! What a Merkle tree is.
+//! The traits of Merkle trees (FIPS 205, sections 6.1 and 8.2): joining two nodes, and making a leaf.
 ghost use Rattle.std.specs.Prelude.{◌≡◌, ◌+◌, ◌-◌, ◌^◌, ◌<◌, ◌≤◌, length};
 ghost use Rattle.slh_tree.specs.Tree.{MerkleTree, Lawful};
 ghost use Rattle.slh_tree.specs.Leaves.{AreLeavesFrom};
@@ -12,11 +12,12 @@ pub const MOST_LEAVES: usize = 8;
 /// Leaves of a tree in their order.
 pub type Leaves = ArrayVec<Node, MOST_LEAVES>;
 
-/// A Merkle tree of height 1 to 14, whose nodes all have one length of at most 32 bytes.
+/// A Merkle tree of height 1 to 14, whose nodes all have one length of at most 32 bytes, and which joins nodes. A climb
+/// needs no more.
 ///
 /// The node of height `z` at index `i` is over the leaves from `i * 2^z` to `(i + 1) * 2^z - 1`. The XMSS trees and the
 /// FORS trees are such trees (FIPS 205, Sections 6 and 8).
-pub trait Tree {
+pub trait Climbs {
     /// The height, the length of a node, the leaves and the join.
     ghost tree: { Self → MerkleTree };
 
@@ -25,28 +26,6 @@ pub trait Tree {
         ensures value { result ≡ (tree self.now).height }
         ensures low { 1 ≤ result }
         ensures high { result ≤ 14 };
-
-    /// The leaf at index `i`.
-    fn leaf(&self, i: u32) -> Node
-        requires { i < 2 ^ (tree self.now).height }
-        ensures { result.items ≡ (tree self.now).leaf i };
-
-    /// The leaves from `first` on, as many as `count`. A tree that makes several leaves at once has a body of its own.
-    fn leaves(&self, first: u32, count: u32) -> Leaves
-        requires some { 1 ≤ count }
-        requires few { count ≤ MOST_LEAVES }
-        requires within { first + count ≤ 2 ^ (tree self.now).height }
-        ensures len { length result.items ≡ count }
-        ensures leaves { AreLeavesFrom (tree self.now) first result.items }
-    {
-        // For the prover: a tree has a height of at most 14.
-        let _highest = self.height();
-        let mut leaves = Leaves::new();
-        for j in 0..count {
-            leaves.push(self.leaf(first + j));
-        }
-        leaves
-    }
 
     /// The node of height `z` at index `i`, from its left and its right child.
     fn join(&self, z: u32, i: u32, l: &Node, r: &Node) -> Node
@@ -59,4 +38,29 @@ pub trait Tree {
 
     /// All nodes have one length.
     ghost lawful: { (t : Self) → Lawful (tree t) };
+}
+
+/// A Merkle tree that can also make its leaves.
+pub trait Tree: Climbs {
+    /// The leaf at index `i`.
+    fn leaf(&self, i: u32) -> Node
+        requires { i < 2 ^ (Self.tree self.now).height }
+        ensures { result.items ≡ (Self.tree self.now).leaf i };
+
+    /// The leaves from `first` on, as many as `count`. A tree that makes several leaves at once has another body.
+    fn leaves(&self, first: u32, count: u32) -> Leaves
+        requires some { 1 ≤ count }
+        requires few { count ≤ MOST_LEAVES }
+        requires within { first + count ≤ 2 ^ (Self.tree self.now).height }
+        ensures len { length result.items ≡ count }
+        ensures leaves { AreLeavesFrom (Self.tree self.now) first result.items }
+    {
+        // For the prover: a tree has a height of at most 14.
+        let _highest = self.height();
+        let mut leaves = Leaves::new();
+        for j in 0..count {
+            leaves.push(self.leaf(first + j));
+        }
+        leaves
+    }
 }

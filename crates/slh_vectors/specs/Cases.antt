@@ -1,4 +1,4 @@
--- Tests without where they lie in memory.
+-- Tests without their places in memory.
 use Rattle.std.specs.Prelude.{ℕ, List, Bool, map}
 use Rattle.slh_params.specs.declared.param_set.ParamSet.{ParamSet}
 use Rattle.slh_vectors.specs.declared.test.Kind.{Kind}

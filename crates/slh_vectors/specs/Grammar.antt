@@ -1,4 +1,4 @@
--- What a vector file says, apart from the order in which it is judged. Its sets are the standard's.
+-- The content of a vector file, apart from the order in which it is checked. Its sets are the standard's.
 use Rattle.std.specs.Prelude.{◌≡◌, ◌≢◌, ◌*◌, ℕ, List, [], ◌∷◌, length, Some, Ok, codes}
 use Rattle.hex.specs.Hex.{decode_of}
 use Rattle.std.specs.Str.{IsUtf8}

@@ -1,4 +1,4 @@
--- What names stand for.
+-- The meaning of names.
 use Rattle.std.specs.Prelude.{List, ℕ, Option, Some, None, option_map, codes, if◌then◌else◌}
 use Rattle.std.specs.Str.{bytes_eq}
 use Rattle.slh_core.specs.PreHash as pre_hash

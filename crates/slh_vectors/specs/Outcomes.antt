@@ -1,4 +1,4 @@
--- What comes of a test, by FIPS 205.
+-- The outcome of a test, by FIPS 205.
 use Rattle.std.specs.Prelude.{◌≡◌, ◌↔◌, ◌≤◌, ⊤, ℕ, List, [], ◌∷◌, length, IsTrue}
 use Rattle.slh_core.specs.Keys.{Key, generated_key, pk_seed, public_of}
 use Rattle.slh_core.specs.Messages.{message_in_form}
@@ -46,7 +46,7 @@ SignPasses t = IsSigned t (record { set = t.set; bytes = t.sk })
 abbrev pub IsValidFor : InputCase → Key → List ℕ → Type 0
 IsValidFor i pk sig = HasMessage i.form i.context × IsValid pk (message_of i) sig
 
--- and that is what the test says
+-- and that is the test's value
 abbrev pub VerifyPasses : VerifyCase → Type 0
 VerifyPasses t = IsTrue t.valid ↔ IsValidFor t.input (record { set = t.set; bytes = t.pk }) t.signature
 

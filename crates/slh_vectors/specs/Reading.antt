@@ -28,7 +28,7 @@ abbrev pub or_fault : {A : Type 0} → Option A → VectorFault → Result A Vec
 or_fault (Some x) f = Ok x
 or_fault None f = Err f
 
--- a fault is what reading gives, unless memory ran out
+-- a fault is that of reading, unless memory ran out
 abbrev pub Fails : {Y : Type 0} → VectorFault → Result Y VectorFault → Type 0
 Fails NoMemory reading = Unit {0}
 Fails NotJson reading = reading ≡ Err NotJson
@@ -36,7 +36,7 @@ Fails NotAList reading = reading ≡ Err NotAList
 Fails (Missing n m) reading = reading ≡ Err (Missing n m)
 Fails (Bad n m) reading = reading ≡ Err (Bad n m)
 
--- what a function returned, seen by view, is what reading gives, unless memory ran out
+-- the result of a function, seen by view, is that of reading, unless memory ran out
 abbrev pub Gives : {X Y : Type 0} → (X → Y) → Result X VectorFault → Result Y VectorFault → Type 0
 Gives view (Ok x) reading = reading ≡ Ok (view x)
 Gives view (Err e) reading = Fails e reading
@@ -105,7 +105,7 @@ unfoldable pub context_in : ℕ → Interface → Data → Result (List ℕ) Vec
 context_in n Internal d = Ok []
 context_in n (External form) d = hex_in n members.Context d
 
--- no bytes stand for the deterministic variant
+-- no bytes mean the deterministic variant
 unfoldable pub random_in : ℕ → ParamSet → Data → Result (List ℕ) VectorFault
 random_in n set d = hex_in n members.Random d >>= λ bytes.
     if length bytes == 0 || length bytes == (params set).n then Ok bytes else Err (Bad n members.Random)

@@ -1,3 +1,4 @@
+//! The kind and the set of a test, as a report names them.
 ghost use Rattle.std.specs.Prelude.{◌≡◌};
 ghost use Rattle.slh_vectors.specs.Cases.{test_view, kind_of, set_of};
 ghost use Rattle.slh_vectors.specs.Names.{kind_name};

@@ -1,3 +1,4 @@
+//! The report on the tests of a vector file.
 ghost use Rattle.std.specs.Prelude.{◌≡◌, ◌+◌, ◌<◌, ◌^◌, ◌++◌, ℕ, List, length, map, codes, OnOk, Result};
 ghost use Rattle.std.specs.Fmt.{decimal};
 ghost use Rattle.std.specs.List.{count_by};
@@ -72,9 +73,9 @@ fn put_counts<W: Sink>(output: &mut W, passed: u64, failed: u64) -> Result<(), W
     put_number(output, "failed ", failed, "\n")
 }
 
-/// Puts a line `test N KIND SET pass` or `test N KIND SET fail` for each test, in their order and counted from 1,
-/// and the line `passed P failed F`. It takes no memory. Refused where a write failed, after a prefix of that
-/// text was written.
+/// Puts a line `test N KIND SET pass` or `test N KIND SET fail` for each test, in their order and counted from 1, and
+/// the line `passed P failed F`. It takes no memory. Refused if a write failed, after a prefix of that text was
+/// written.
 pub fn report<W: Sink>(
     tests: &[Test],
     outcomes: &[Outcome],

@@ -1,3 +1,4 @@
+//! The members of a test, with their first fault.
 ghost use Rattle.std.specs.Prelude.{◌≡◌, ◌≢◌, ◌*◌, length, IfOk};
 ghost use Rattle.slh_params.specs.ParamSet.{params};
 ghost use Rattle.serde_json.specs.View.{view};

@@ -1,3 +1,4 @@
+//! The kinds and forms by their names in a vector file.
 ghost use Rattle.std.specs.Prelude.{◌≡◌};
 ghost use Rattle.slh_vectors.specs.Names.{form_named, kind_named};
 

@@ -1,9 +1,10 @@
+//! The outcome of a test.
 ghost use Rattle.std.specs.Prelude.{◌≡◌, ◌↔◌, IsTrue};
 ghost use Rattle.std.specs.List.{All};
 ghost use Rattle.slh_vectors.specs.Report.{outcome_name};
 ghost use Rattle.slh_vectors.specs.declared.outcome.Outcome.TheVariants.{Pass};
 
-/// What came of a test.
+/// The outcome of a test.
 #[derive(Clone, Copy, Debug, PartialEq, Eq)]
 pub enum Outcome {
     /// The answers are those of the test.

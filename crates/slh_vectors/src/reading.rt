@@ -1,3 +1,4 @@
+//! Reads vector files (docs/FORMATS.md, "Vector file").
 ghost use Rattle.std.specs.Prelude.{◌≡◌, ◌≤◌, ◌<◌, ◌^◌, List, length, IfOk, Ok};
 ghost use Rattle.slh_vectors.specs.Sizes.{AreSeeds};
 ghost use Rattle.slh_vectors.specs.Grammar.{IsVectorFile};
@@ -29,7 +30,7 @@ fn seeds(alloc: Global, n: u64, set: ParamSet, test: &Value) -> Result<Seeds, Ve
     })
 }
 
-/// What a sign or verify test signs.
+/// The signed content of a sign or verify test.
 #[tactic(auto, unfolding(crate::specs::Reading::input_in))]
 fn input(alloc: Global, n: u64, test: &Value) -> Result<Input, VectorFault>
     ensures { Gives input_view result (input_in n (view test.now)) }
@@ -160,11 +161,11 @@ fn tests_of_file(alloc: Global, bytes: &[u8]) -> Result<Vec<Test>, VectorFault>
     }
 }
 
-/// The tests of a vector file, in its order. Refused with the first fault: the file is not JSON, then it is not a
-/// list, then, test by test, a member that is missing or has no valid value, the members being judged in the order of
-/// `Member`; or for lack of memory, at the step that meets it.
+/// The tests of a vector file, in its order. Refused with the first fault: the file is not JSON, then it is not a list,
+/// then, test by test, a member is missing or has no valid value. Members are checked in the order of `Member`. It is
+/// refused for lack of memory at the step that meets it.
 pub fn read_vectors(alloc: Global, bytes: &[u8]) -> Result<Vec<Test>, VectorFault>
-    // What is read are the tests of the file.
+    // The result is the tests of the file.
     ensures found { IfOk result (λ ts. IsVectorFile bytes.now (views ts.items)) }
     // A file of tests is read, unless memory runs out.
     ensures only { (cs : List Case) → IsVectorFile bytes.now cs → Gives (λ ts. views ts.items) result (Ok cs) }

@@ -1,3 +1,4 @@
+//! The outcome of one test: key generation, signing or verifying (FIPS 205, sections 9 and 10).
 ghost use Rattle.std.specs.Prelude.{◌≡◌, ◌≢◌, ◌↔◌, ◌≤◌, ℕ, List, IsOk, IsSome, IsTrue, IfErr, IfOk, IfSome, OnOk, length};
 ghost use Rattle.slh_core.specs.Randomizers.{HasLength, opt_rand};
 ghost use Rattle.slh_core.specs.Signatures.{signature_by};
@@ -16,10 +17,10 @@ use slh_core::{
 };
 use std::alloc::Allocator;
 
-/// What comes of a test. A keygen test passes where both keys are the generated ones; a sign test where signing is
-/// not refused and gives exactly its signature; a verify test where the answer is its `valid`. Refused only for lack
-/// of memory, which a sign test takes for one signature. It is kept out of line, so that the stack holds no signature's
-/// locals while a file is read.
+/// The outcome of a test. A keygen test passes if both keys are the generated ones. A sign test passes if signing is
+/// not refused and gives exactly its signature. A verify test passes if the answer is its `valid`. Refused only for
+/// lack of memory, which a sign test takes for one signature. It is never inlined, so that the stack holds no
+/// signature's locals while a file is read.
 #[inline(never)]
 pub fn run_test<A: Allocator>(alloc: A, test: &Test) -> Result<Outcome, VectorFault>
     ensures done { IfOk result (IsOutcome (test_view test.now)) }
@@ -64,7 +65,7 @@ fn sign_passes<A: Allocator>(alloc: A, test: &SignTest) -> Result<bool, VectorFa
     }
 }
 
-/// The signature of the input of a test. `None` where signing is refused.
+/// The signature of the input of a test. `None` if signing is refused.
 fn signature_of<A: Allocator>(
     alloc: A,
     key: &SecretKey,
@@ -85,7 +86,7 @@ fn signature_of<A: Allocator>(
     }
 }
 
-/// The randomizer of the random bytes of a test: no bytes stand for the deterministic variant.
+/// The randomizer of the random bytes of a test: no bytes mean the deterministic variant.
 fn randomizer_of(random: &[u8]) -> Randomizer<'_>
     ensures value { (seed : List ℕ) → opt_rand result seed ≡ opt_rand_of random.now seed }
     ensures len { (n : ℕ) → (length random.now ≢ 0 → length random.now ≡ n) → HasLength result n }

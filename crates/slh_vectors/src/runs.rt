@@ -1,3 +1,4 @@
+//! The outcomes of all tests, by several workers.
 ghost use Rattle.std.specs.Prelude.{◌≡◌, IfErr, IfOk, length};
 ghost use Rattle.slh_vectors.specs.Cases.{test_view, views};
 ghost use Rattle.slh_vectors.specs.Outcomes.{AreOutcomes, IsOutcome};
@@ -11,7 +12,7 @@ use slh_workers::{NoMemory, Question, Workers, answer_all};
 use std::alloc::Allocator;
 use std::thread::Threads;
 
-/// What comes of a test, which takes its memory from the allocator.
+/// The outcome of a test, which takes its memory from the allocator.
 #[derive(Drop)]
 struct Running<A> {
     alloc: A,
@@ -30,7 +31,7 @@ impl<A: Allocator + Clone + Sync> Question<Test> for Running<A> {
     }
 }
 
-/// What comes of each test, in their order, by several workers. Over 2^32 - 1 tests are run in several runs. Refused
+/// The outcome of each test, in their order, by several workers. Over 2^32 - 1 tests are run in several runs. Refused
 /// only for lack of memory. It waits only for the threads that it started.
 pub fn run_vectors<R: Threads + Sync, A: Allocator + Clone + Send + Sync>(
     rt: &R,

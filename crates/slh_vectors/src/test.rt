@@ -1,3 +1,4 @@
+//! The tests of a vector file.
 ghost use Rattle.std.specs.Prelude.{◌≡◌, ◌*◌, ◌≢◌, length};
 ghost use Rattle.slh_params.specs.ParamSet.{params};
 ghost use Rattle.slh_vectors.specs.Sizes.{AreSeeds};
@@ -5,7 +6,7 @@ ghost use Rattle.slh_vectors.specs.Sizes.{AreSeeds};
 use slh_core::Form;
 use slh_params::ParamSet;
 
-/// What is tested.
+/// The tested operation, with its inputs.
 #[derive(Clone, Copy, Debug, PartialEq, Eq)]
 pub enum Kind {
     /// Key generation.
@@ -33,7 +34,7 @@ pub struct Seeds {
     pub pk_seed: Vec<u8>,
 }
 
-/// What is signed. The context of an internal message is empty.
+/// The signed content. The context of an internal message is empty.
 #[derive(Debug, Drop)]
 pub struct Input {
     pub form: Interface,
@@ -53,8 +54,8 @@ pub struct KeygenTest {
     pub ghost pk_sized: { length pk.items ≡ 2 * (params set).n },
 }
 
-/// A test of signing: the input has this signature under a key of 4n bytes and n random bytes. No random bytes stand
-/// for the deterministic variant.
+/// A test of signing: the input has this signature under a key of 4n bytes and n random bytes. No random bytes mean the
+/// deterministic variant.
 #[derive(Debug, Drop)]
 pub struct SignTest {
     pub set: ParamSet,

@@ -1,8 +1,8 @@
-//! How many lanes a build's vectors have. No contract tells it, so that what is proved holds for each width, and
-//! `tools/clang.sh` writes the numbers of each kind of processor into the proved module that is compiled.
+//! How many lanes a build's vectors have. No contract states it, so all proofs hold for each width. `tools/clang.sh`
+//! writes the numbers of a kind of processor into the proved module before it is compiled.
 #![tactic(auto)]
 
-/// How many words one vector has, each in a lane of its own.
+/// The number of words of one vector, one word in each lane.
 #[derive(Clone, Copy)]
 pub enum Width {
     One,
@@ -14,9 +14,9 @@ pub enum Width {
 /// The widths of the vectors in which blocks are hashed side by side.
 #[derive(Clone, Copy)]
 pub struct Widths {
-    /// Of words of 32 bits, for SHA-256.
+    /// For words of 32 bits, as of SHA-256.
     pub short: Width,
-    /// Of words of 64 bits, for SHA-512. Sixteen means eight here.
+    /// For words of 64 bits, as of SHA-512. Sixteen means eight here.
     pub long: Width,
 }
 

@@ -2,4 +2,5 @@ pub mod Places
 pub mod Draws
 pub mod Seated
 pub mod Covered
+pub mod Outcomes
 pub mod ItemAnswers

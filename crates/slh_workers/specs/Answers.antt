@@ -1,4 +1,4 @@
--- What answers to numbered jobs are: right for their numbers, and none missing.
+-- Answers to numbered jobs: right for their numbers, and none missing.
 use Rattle.std.specs.Prelude.{◌≡◌, ℕ, ◌<◌, List, [], ◌∷◌, ◌++◌, length, map, slice_index_or}
 use Rattle.std.specs.List.{All, Contains}
 

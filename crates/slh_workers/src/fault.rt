@@ -1,4 +1,4 @@
-// Why a run gave no answers.
+//! The reason why a run gave no answers.
 ghost use Rattle.std.specs.Prelude.{◌≡◌};
 ghost use Rattle.slh_workers.specs.declared.fault.RunFault.TheVariants.{NoMemory as NoMemoryFault};
 ghost use Rattle.slh_workers.specs.RunFault.{fault_number, fault_name};

@@ -1,8 +1,8 @@
-// Gates, which see each job before and after it runs.
+//! The trait of gates, which are asked before each job and informed after it.
 ghost use Rattle.std.specs.Prelude.{ℕ};
 ghost use Rattle.slh_workers.specs.Gates.{GoFits};
 
-/// What a gate says to a worker that asks to run a job.
+/// The answer of a gate to a worker that asks to run a job.
 #[derive(Clone, Copy, PartialEq, Eq, Debug, Drop)]
 pub enum Go {
     /// Run it.
@@ -11,16 +11,16 @@ pub enum Go {
     Stop,
 }
 
-/// Is asked before each job, and told after it, by the thread that runs it.
+/// A gate, which the thread of a job asks before the job and informs after it.
 pub trait Gate: Sync {
     // whether the gate may answer Stop
     ghost may_stop: { Self → Type 0 };
 
-    // that the gate let this worker run this job: `enter` answered On. A gate may leave out both this and the next, and
-    // then they say nothing of it; what is proved for every gate keeps to them all the same
+    // that the gate let this worker run this job: `enter` answered On. A gate may leave out this and the next. Then
+    // both hold of every job, and the proofs for every gate hold of it, too
     ghost admitted: { Self → ℕ → ℕ → Type 0 } = { λ _ _ _. Unit {0} };
 
-    // that the gate was told, by `leave`, that this worker has run this job
+    // that the gate was informed, by `leave`, that this worker has run this job
     ghost reported: { Self → ℕ → ℕ → Type 0 } = { λ _ _ _. Unit {0} };
 
     /// Whether the worker may run the job.

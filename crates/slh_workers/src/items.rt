@@ -1,4 +1,4 @@
-// One question to each item of a list, by several threads.
+//! One question to each item of a list, asked by several threads.
 ghost use Rattle.std.specs.Prelude.{◌≡◌, ℕ, ◌<◌, ◌^◌, length, IfOk, slice_index_or};
 ghost use Rattle.slh_workers.specs.Items.{AreAnswers};
 
@@ -15,13 +15,13 @@ const MOST_ITEMS: usize = 4294967295;
 
 /// A question that can be asked about any `T`.
 pub trait Question<T>: Sync {
-    /// What answers it.
+    /// The type of an answer.
     type Answer: Send + Drop;
 
     // whether this answers the question about that item
     ghost is_answer: { Self → T → Self.Answer → Type 0 };
 
-    /// The answer about the item. Refuses `NoMemory` where a growth of memory was refused.
+    /// The answer about the item. Refuses `NoMemory` if a growth of memory was refused.
     fn answer(&self, item: &T) -> Result<Self::Answer, NoMemory>
         ensures { IfOk result (λ answer. is_answer self.now item.now answer) };
 }
@@ -70,7 +70,7 @@ fn answer_run<R: Threads + Sync, A: Allocator + Clone + Send + Sync, T: Sync, Q:
 }
 
 /// The answer about each item, in the order of the items, by several workers. Over 2^32 - 1 items are taken in several
-/// runs. Refuses `NoMemory` where a growth was refused. It waits only for the threads that it started.
+/// runs. Refuses `NoMemory` if a growth was refused. It waits only for the threads that it started.
 pub fn answer_all<R: Threads + Sync, A: Allocator + Clone + Send + Sync, T: Sync, Q: Question<T>>(
     rt: &R,
     alloc: A,

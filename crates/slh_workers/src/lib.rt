@@ -1,10 +1,10 @@
 //! Numbered jobs, run by several threads that share a board.
 //!
 //! A `Work` has jobs numbered from 0, and says which answers of each are right. `run_all` runs all of them on 1 to 64
-//! workers and gives the answers by number. `work_off` is what one worker does: it draws jobs from a `slh_board::Board`
-//! and runs them; a caller with threads of its own may call it there. A `Gate` is asked before each job and told after
-//! it, and may stop the run. `answer_all` asks one question about each item of a list, and `by_number` puts numbered
-//! answers in order. No call waits for anything but the threads that it started.
+//! workers and gives the answers by number. `work_off` is the work of one worker: it draws jobs from a
+//! `slh_board::Board` and runs them. A caller may call it in threads of the caller. A worker asks a `Gate` before each
+//! job and informs it afterwards. A gate may stop the run. `answer_all` asks one question about each item of a list,
+//! and `by_number` puts numbered answers in order. No call waits for anything but the threads that it started.
 #![tactic(auto)]
 
 mod fault;

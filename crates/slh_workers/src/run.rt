@@ -1,24 +1,24 @@
-// All jobs of a work.
-ghost use Rattle.std.specs.Prelude.{◌≡◌, ℕ, ◌<◌, IfOk, IfErr};
+//! All jobs of a work, run by several workers.
+ghost use Rattle.std.specs.Prelude.{◌≡◌, ◌↔◌, ℕ, ◌<◌, Err, IfOk, IfErr};
 ghost use Rattle.std.specs.Vec.{vec_len};
-ghost use Rattle.slh_workers.specs.declared.fault.RunFault.TheVariants.{Stopped};
+ghost use Rattle.slh_workers.specs.declared.fault.RunFault.TheVariants.{NoMemory as NoMemoryFault, Stopped};
 ghost use Rattle.slh_workers.specs.Answers.{RightByPlace};
-ghost use Rattle.slh_workers.specs.Runs.{IsReported};
+ghost use Rattle.slh_workers.specs.Runs.{HaveAnswered, HaveEnded, HaveStopped, IsReported, WereRefused};
 
 use crate::fault::RunFault;
 use crate::gate::Gate;
 use crate::order::by_number;
-use crate::seats::run_seats;
+use crate::seats::{Worked, run_seats};
 use crate::work::{NoMemory, Work};
 use crate::workers::Workers;
 use slh_board::Board;
 use std::alloc::Allocator;
 use std::thread::Threads;
 
-/// The answers of all jobs, in the order of their numbers. The workers share one board: each has a seat of it and does
-/// what `work_off` does. One worker works on this thread. Of several each has a thread of its own where one can be had,
-/// else a thread that another worker has left, and this thread waits for them. Refuses `NoMemory` where a growth of
-/// memory was refused, and else `Stopped` where the gate stopped the run. Waits only for the threads that it started.
+/// The answers of all jobs, in the order of their numbers. The workers share one board: each has a seat of it and works
+/// as `work_off` does. One worker works on this thread. If there are several, each gets a new thread, or if the system
+/// gives none, a thread that another worker has left. This thread waits for them. Refuses `NoMemory` if a growth of
+/// memory was refused, and else `Stopped` if the gate stopped the run. Waits only for the threads that it started.
 pub fn run_all<R: Threads + Sync, A: Allocator + Clone + Send + Sync, W: Work, G: Gate>(
     rt: &R,
     alloc: A,
@@ -32,13 +32,30 @@ pub fn run_all<R: Threads + Sync, A: Allocator + Clone + Send + Sync, W: Work, G
         → IsReported (G.reported gate.now) 0 workers job) }
     ensures stopped { IfErr result (λ fault. fault ≡ Stopped → G.may_stop gate.now) }
 {
-    let count = work.count();
     let places = alloc.clone().map_err(NoMemory::from)?;
     let boards = alloc.clone().map_err(NoMemory::from)?;
-    let (board, seats) = Board::start(boards, count, workers.number())?;
-    let Ok((seats, answers)) = run_seats(rt, alloc, &board, seats, work, 0, gate) else {
-        return Err(RunFault::NoMemory);
+    let (board, seats) = Board::start(boards, work.count(), workers.number())?;
+    let worked = run_seats(rt, alloc, &board, seats, work, 0, gate);
+    outcome(places, board, worked)
+}
+
+// The answers in the order of their numbers, or why there are none. It has no gate to ask, so it goes by the ends of
+// the workers: `NoMemory` if memory was refused to one of them, and else `Stopped` if one of them stopped the board.
+fn outcome<T: Drop, A: Allocator + Clone>(
+    places: A,
+    board: Board<A>,
+    worked: Worked<T, A>,
+) -> Result<Vec<T, A>, RunFault>
+    requires { HaveEnded board worked }
+    ensures no_memory { WereRefused worked → result ≡ Err NoMemoryFault }
+    ensures stopped { (result ≡ Err Stopped) ↔ HaveStopped worked }
+    ensures answered { IfOk result (λ outs. HaveAnswered board.jobs outs.items worked) }
+{
+    let (seats, answers) = match worked {
+        Ok(ran) => ran,
+        Err(_seat) => return Err(RunFault::NoMemory),
     };
+    let count = board.jobs();
     if board.finish(seats).stopped {
         return Err(RunFault::Stopped);
     }

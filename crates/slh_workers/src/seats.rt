@@ -1,4 +1,4 @@
-// Workers at all seats of a board.
+//! The workers at all seats of a board, each in a thread of its own if the system gives one.
 ghost use Rattle.std.specs.Prelude.{◌≡◌, ◌≢◌, ◌≤◌, ◌++◌, ◌∷◌, [], IfOk, IfErr, OnErr, length};
 ghost use Rattle.std.specs.List.{All};
 ghost use Rattle.std.specs.Thread.{IsSync, IsSend};
@@ -15,14 +15,14 @@ use std::alloc::Allocator;
 use std::thread::{Threads, join};
 
 // The seats, and the answers of their workers.
-type Ran<T, A> = (Vec<Seat, A>, Vec<(u32, T), A>);
+pub type Ran<T, A> = (Vec<Seat, A>, Vec<(u32, T), A>);
 
-// A `Ran`; or where memory was refused one of the seats, which stopped the board.
-type Worked<T, A> = Result<Ran<T, A>, Seat>;
+// A `Ran`; or, if memory was refused, one of the seats, which stopped the board.
+pub type Worked<T, A> = Result<Ran<T, A>, Seat>;
 
-// The workers at these seats of the board, numbered from `first` on: a single one on this thread, and else each on a
-// thread of its own, where one can be had. The list of seats is halved, so that 64 seats nest 6 deep: the stack of a
-// thread bounds the depth. Where memory is refused, one of the seats has stopped the board.
+// The workers at these seats of the board, numbered from `first` on: a single one on this thread, and several each on a
+// new thread, if the system gives one. The list of seats is halved, so that 64 seats nest 6 deep: the stack of a thread
+// bounds the depth. If memory is refused, one of the seats has stopped the board.
 #[cycle(run_seats)]
 pub fn run_seats<R: Threads + Sync, A: Allocator + Clone + Send + Sync, W: Work, G: Gate>(
     rt: &R,
@@ -62,9 +62,9 @@ pub fn run_seats<R: Threads + Sync, A: Allocator + Clone + Send + Sync, W: Work,
     both(board, front, back)
 }
 
-// The same, but a single worker has a thread of its own, too, where one can be had. The system may put a thread on the
-// processor of the one that started it, where it waits while that one works. So a thread that has started another does
-// no work, and waits for it.
+// As `run_seats`, but a single worker gets a new thread, too, if the system gives one. The system may put a thread on
+// the processor of the one that started it: there it waits while that one works. So a thread that has started another
+// does no work, and waits for it.
 #[cycle(run_seats)]
 fn run_elsewhere<R: Threads + Sync, A: Allocator + Clone + Send + Sync, W: Work, G: Gate>(
     rt: &R,
@@ -92,8 +92,8 @@ fn run_elsewhere<R: Threads + Sync, A: Allocator + Clone + Send + Sync, W: Work,
     worked
 }
 
-// What the worker at the only seat gives by its end. Neither this nor `both` is compiled into the recursion over seats:
-// each level would then keep room on the stack for an answer that it drops.
+// The result of the worker at the only seat, by its end. Neither this nor `both` is compiled into the recursion over
+// seats: each level would then reserve stack for an answer that it drops.
 #[inline(never)]
 fn ended<T: Drop, A: Allocator>(
     mut seats: Vec<Seat, A>,

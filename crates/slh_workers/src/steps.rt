@@ -1,4 +1,4 @@
-// The steps of one worker at a job, and the conditions that put them in order.
+//! The steps of one worker at a job, and the conditions that fix their order.
 ghost use Rattle.std.specs.Prelude.{◌≡◌, ℕ, ◌<◌, IfOk};
 ghost use Rattle.slh_workers.specs.Gates.{GoFits};
 
@@ -6,7 +6,7 @@ use crate::gate::{Gate, Go};
 use crate::work::{NoMemory, Work};
 
 // The three steps of a worker at a job. The code that works off jobs is generic over them and has no other way to a
-// gate or a work. So it can run a job only where `enter` answered On, and report one only that it ran.
+// gate or a work. So it can run a job only if `enter` answered On, and report only a job that it ran.
 pub trait Steps {
     // the answer of a job
     type Out: Send + Drop;

@@ -1,4 +1,4 @@
-// Jobs with numbers.
+//! The trait of work: jobs with numbers, which threads may run at the same time.
 ghost use Rattle.std.specs.Prelude.{◌≡◌, ℕ, ◌<◌, IfOk};
 
 use std::alloc::{AllocError, AllocFailed};
@@ -36,7 +36,7 @@ pub trait Work: Sync {
     fn count(&self) -> u32
         ensures { result ≡ jobs self.now };
 
-    /// The answer of the job `i`. Refuses `NoMemory` where a growth of memory was refused.
+    /// The answer of the job `i`. Refuses `NoMemory` if a growth of memory was refused.
     fn run(&self, i: u32) -> Result<Self::Out, NoMemory>
         requires { i < jobs self.now }
         ensures { IfOk result (λ out. is_right self.now i out) };

@@ -1,4 +1,4 @@
-// One worker at a seat of a board.
+//! One worker at a seat of a board.
 ghost use Rattle.std.specs.Prelude.{◌≡◌};
 ghost use Rattle.std.specs.List.{All};
 ghost use Rattle.slh_workers.specs.Answers.{AllRight, numbers};
@@ -10,7 +10,7 @@ use crate::work::Work;
 use slh_board::{Board, Claim, Seat};
 use std::alloc::Allocator;
 
-/// What a worker ended by.
+/// The cause that ended a worker.
 #[derive(Clone, Copy, PartialEq, Eq, Debug, Drop)]
 pub enum End {
     /// No job was left.
@@ -23,20 +23,20 @@ pub enum End {
     NoMemory,
 }
 
-/// The answers of a worker by the numbers of their jobs, in the order in which it ran them, and what it ended by.
+/// The answers of a worker by the numbers of their jobs, in the order in which it ran them, and the cause of its end.
 #[derive(Drop)]
 pub struct WorkerEnd<T, A: Allocator> {
     /// The numbers, with their answers.
     pub answers: Vec<(u32, T), A>,
-    /// What the worker ended by.
+    /// The cause that ended the worker.
     pub end: End,
 }
 
-/// What one worker does: it draws jobs by its seat and runs each, until no job is left or the board is stopped. It asks
-/// the gate before each job, and tells it after, also of a job whose run was refused memory. Where the gate answers
-/// Stop, or a growth of memory is refused, it stops the board and ends; after Stop `run` and `leave` of that job are
-/// not called. The seat is one of the board's, fresh and not raised, and the board has as many jobs as the work. Waits
-/// for nobody.
+/// The work of one worker: it draws jobs by its seat and runs each, until no job is left or the board is stopped. It
+/// asks the gate before each job and informs it afterwards, also of a job whose run was refused memory. If the gate
+/// answers Stop, or a growth of memory is refused, it stops the board and ends. After Stop it does not call `run` and
+/// `leave` of that job. The seat is one of the board's, fresh and not raised, and the board has as many jobs as the
+/// work. Waits for nobody.
 pub fn work_off<A: Allocator, B: Allocator, W: Work, G: Gate>(
     alloc: A,
     board: &Board<B>,
@@ -51,15 +51,15 @@ pub fn work_off<A: Allocator, B: Allocator, W: Work, G: Gate>(
     ensures mine { seat.new.board ≡ board.now }
 
     // The numbers of the answers are those that the seat drew in this call, in their order, and each answer is right
-    // for its number. Only where this worker stopped the board may the last number lack its answer.
+    // for its number. The last number may lack its answer only if this worker stopped the board.
     ensures numbers { IsAnswered (may_lack result.end) seat.old.drawn seat.new.drawn (numbers result.answers.items) }
     ensures right { AllRight (W.is_right work.now) (W.jobs work.now) result.answers.items }
 
     // Each job that is answered was reported to the gate under the worker's number, so the gate had admitted it.
     ensures reported { All (G.reported gate.now worker) (numbers result.answers.items) }
 
-    // Each number that the seat drew in this call was so reported, answered or not. Only where the gate answered Stop
-    // may the last one not be.
+    // Each number that the seat drew in this call was so reported, answered or not. Only the last one may not be, if
+    // the gate answered Stop.
     ensures told { IsTold (G.reported gate.now worker) (may_hide result.end) seat.old.drawn seat.new.drawn }
 
     ensures ended { EndFits (G.may_stop gate.now) result.end seat.new }
@@ -67,8 +67,8 @@ pub fn work_off<A: Allocator, B: Allocator, W: Work, G: Gate>(
     run_steps(alloc, board, seat, &Worker::new(work, gate, worker))
 }
 
-// What `work_off` does, by steps alone, so that no other order of them can be proved. It is not compiled into the
-// recursion over seats, which would else hold the locals of a job at each level.
+// `work_off` over the steps, so that no other order of them can be proved. It is not compiled into the recursion over
+// seats, which would else hold the locals of a job at each level.
 #[inline(never)]
 pub fn run_steps<A: Allocator, B: Allocator, S: Steps>(
     alloc: A,

@@ -1,4 +1,4 @@
-// How many workers there are.
+//! The number of workers.
 ghost use Rattle.std.specs.Prelude.{◌≡◌, ℕ, ◌≤◌, ◌↔◌, IsSome, IfSome};
 
 use std::marker::Model;
@@ -20,7 +20,7 @@ impl Model for Workers {
 }
 
 impl Workers {
-    /// That many workers. `None` exactly where the number is not from 1 to 64.
+    /// That many workers. `None` exactly if the number is not from 1 to 64.
     pub fn new(number: u8) -> Option<Workers>
         ensures accepted { IsSome result ↔ ((1 ≤ number) × (number ≤ 64)) }
         ensures value { IfSome result (λ workers. workers ≡ number) }

@@ -3,14 +3,16 @@ ghost use Rattle.std.specs.Prelude.{◌≡◌, ◌≢◌, ℕ, List, ◌+◌, �
 ghost use Rattle.slh_params.specs.AdrsType.{type_number};
 ghost use Rattle.slh_params.specs.Params.{Params, len};
 ghost use Rattle.slh_params.specs.ParamSet.{params};
-ghost use Rattle.slh_lanes.specs.Lanes.{HasAddress, IsSeededLanes, value_at};
+ghost use Rattle.slh_lanes.specs.Lanes.{HasAddress, value_at};
 ghost use Rattle.slh_few.specs.Parts.{end_to_end, part};
 ghost use Rattle.slh_few.specs.RunningChains.{ChainsAt, EndAt, IsSameChain, StaysWithin};
 ghost use Rattle.slh_few.specs.Wots.{wots_address, chain as chain_of, secret};
 
+use crate::context::HashContext;
 use crate::lanes::chain_order::by_steps;
+use crate::lanes::sixteen_chains::run_values_in_groups;
 use crate::nodes::{part_at, put_part};
-use crate::place::{Place, Public, Seeds};
+use crate::place::Place;
 use crate::wots::{MOST_STEPS, run_values_alone, wots_adrs};
 use slh_lanes::{
     GROUP, LaneAdrs, LaneNodes, SeededLanes, Width, Words, adrs_lanes, build_widths, lane_node,
@@ -29,7 +31,7 @@ pub(crate) type ChainNumbers = [u32; MOST_DIGITS];
 pub(crate) type ChainGroup = [u32; GROUP];
 
 /// The eight numbers from place `first` on.
-fn group_at(order: &ChainNumbers, first: usize) -> ChainGroup
+pub(crate) fn group_at(order: &ChainNumbers, first: usize) -> ChainGroup
     requires { first + GROUP ≤ MOST_DIGITS }
     ensures { (j : ℕ) → j < GROUP → slice_index result j ≡ slice_index order.now (first + j) }
 {
@@ -80,8 +82,9 @@ pub(crate) fn secret_lanes(
     at: Place,
     group: &ChainGroup,
 ) -> LaneNodes
-    ensures { (p : Params) (pk_seed : List ℕ) → IsSeededLanes lanes.now p pk_seed → (j : ℕ) → j < GROUP
-        → value_at result j p.n ≡ secret p sk_seed.now pk_seed at (slice_index group.now j) }
+    requires sk_seed { length sk_seed.now ≡ (params lanes.now.set).n }
+    ensures { let p = params lanes.now.set in (j : ℕ) → j < GROUP
+        → value_at result j p.n ≡ secret p sk_seed.now lanes.now.pk_seed.now at (slice_index group.now j) }
 {
     lanes.prf(sk_seed, &chain_adrs(at, AdrsType::WotsPrf, group))
 }
@@ -96,9 +99,9 @@ pub(crate) fn run_lanes(
     counts: Words,
 ) -> LaneNodes
     requires { (j : ℕ) → j < GROUP → slice_index from j + slice_index counts j ≤ MOST_STEPS }
-    ensures { (p : Params) (pk_seed : List ℕ) → IsSeededLanes lanes.now p pk_seed → (j : ℕ) → j < GROUP
+    ensures { let p = params lanes.now.set in (j : ℕ) → j < GROUP
         → value_at result j p.n
-        ≡ chain_of p pk_seed at (slice_index group.now j) (value_at x.now j p.n)
+        ≡ chain_of p lanes.now.pk_seed.now at (slice_index group.now j) (value_at x.now j p.n)
         (slice_index from j) (slice_index counts j) }
 {
     lanes.chains_each(&chain_adrs(at, AdrsType::WotsHash, group), x, from, counts)
@@ -114,9 +117,9 @@ pub(crate) fn run_alike(
     count: u32,
 ) -> LaneNodes
     requires { from + count ≤ MOST_STEPS }
-    ensures { (p : Params) (pk_seed : List ℕ) → IsSeededLanes lanes.now p pk_seed → (j : ℕ) → j < GROUP
+    ensures { let p = params lanes.now.set in (j : ℕ) → j < GROUP
         → value_at result j p.n
-        ≡ chain_of p pk_seed at (slice_index group.now j) (value_at x.now j p.n) from count }
+        ≡ chain_of p lanes.now.pk_seed.now at (slice_index group.now j) (value_at x.now j p.n) from count }
 {
     let counts = Words::splat(count);
     run_lanes(lanes, at, group, x, Words::splat(from), counts)
@@ -144,7 +147,7 @@ pub(crate) fn put_lanes(
 }
 
 /// The parts of n bytes that have the chains' numbers.
-fn lanes_at(values: &[u8], n: usize, group: &ChainGroup) -> LaneNodes
+pub(crate) fn lanes_at(values: &[u8], n: usize, group: &ChainGroup) -> LaneNodes
     requires n { n ≤ 32 }
     requires whole { n % 4 ≡ 0 }
     requires within { (j : ℕ) → j < GROUP → slice_index group.now j * n + n ≤ length values.now }
@@ -157,24 +160,30 @@ fn lanes_at(values: &[u8], n: usize, group: &ChainGroup) -> LaneNodes
     nodes
 }
 
-/// Writes the value of each chain of a key after its number of steps from its secret.
-pub(crate) fn run_secrets(seeds: &Seeds, at: Place, counts: &ChainNumbers, out: &mut [u8])
+/// Writes the value of each chain of a key after its number of steps from its secret, eight chains at a time.
+pub(crate) fn run_secrets_in_lanes(
+    lanes: &SeededLanes,
+    sk_seed: &[u8],
+    at: Place,
+    counts: &ChainNumbers,
+    out: &mut [u8],
+)
+    requires sk_seed { length sk_seed.now ≡ (params lanes.now.set).n }
     requires steps { (c : ℕ) → slice_index counts.now c ≤ MOST_STEPS }
-    requires out { length out.old ≡ len (params seeds.now.set) * (params seeds.now.set).n }
-    ensures { let p = params seeds.now.set in let sk_seed = seeds.now.sk_seed.now in
-        let pk_seed = seeds.now.pk_seed.now in
+    requires out { length out.old ≡ len (params lanes.now.set) * (params lanes.now.set).n }
+    ensures { let p = params lanes.now.set in let sk_seed = sk_seed.now in
+        let pk_seed = lanes.now.pk_seed.now in
         out.new ≡ end_to_end
         (λ c. chain_of p pk_seed at c (secret p sk_seed pk_seed at c) 0 (slice_index counts.now c)) (len p) }
 {
-    let lanes = SeededLanes::new(seeds.set, seeds.pk_seed);
-    let n = seeds.set.n();
-    let count = seeds.set.len();
+    let n = lanes.set.n();
+    let count = lanes.set.len();
     let order = by_steps(counts, count);
     for turn in 0..count.div_ceil(GROUP) {
         let group = group_at(&order, GROUP * turn);
-        let secrets = secret_lanes(&lanes, seeds.sk_seed, at, &group);
+        let secrets = secret_lanes(lanes, sk_seed, at, &group);
         let steps = numbers_of(counts, &group);
-        let nodes = run_lanes(&lanes, at, &group, &secrets, Words::splat(0), steps);
+        let nodes = run_lanes(lanes, at, &group, &secrets, Words::splat(0), steps);
         put_lanes(out, n, &group, &nodes, (count - GROUP * turn).min(GROUP));
     }
 }
@@ -199,7 +208,7 @@ fn with_word(words: Words, j: usize, word: u32) -> Words
 }
 
 /// The values with another value in lane `j`. No word is stored alone: a load of its vector would wait for that store.
-fn with_node(nodes: &LaneNodes, j: usize, value: &[u8]) -> LaneNodes
+pub(crate) fn with_node(nodes: &LaneNodes, j: usize, value: &[u8]) -> LaneNodes
     requires lane { j < GROUP }
     requires few { length value.now ≤ 32 }
     requires whole { length value.now % 4 ≡ 0 }
@@ -227,7 +236,7 @@ fn less(words: Words, number: u32) -> Words
 }
 
 /// A lane of those whose numbers are the least.
-fn least_lane(numbers: Words) -> usize
+pub(crate) fn least_lane(numbers: Words) -> usize
     requires { (j : ℕ) → j < GROUP → slice_index numbers j ≤ MOST_STEPS }
     ensures lane { result < GROUP }
     ensures least { (j : ℕ) → j < GROUP → slice_index numbers result ≤ slice_index numbers j }
@@ -242,8 +251,24 @@ fn least_lane(numbers: Words) -> usize
 }
 
 impl RunningChains {
+    /// The group's chains, each at its own step and with its own number of steps left.
+    pub(crate) fn of(group: &ChainGroup, steps: &ChainNumbers, left: &ChainNumbers) -> Self
+        requires { (j : ℕ) → j < GROUP → slice_index group.now j < MOST_DIGITS }
+        ensures numbers { (j : ℕ) → j < GROUP → slice_index result.numbers j ≡ slice_index group.now j }
+        ensures steps { (j : ℕ) → j < GROUP
+            → slice_index result.steps j ≡ slice_index steps.now (slice_index group.now j) }
+        ensures left { (j : ℕ) → j < GROUP
+            → slice_index result.left j ≡ slice_index left.now (slice_index group.now j) }
+    {
+        RunningChains {
+            numbers: Words::from_array(*group),
+            steps: numbers_of(steps, group),
+            left: numbers_of(left, group),
+        }
+    }
+
     /// Another chain in lane `j`.
-    fn put(&mut self, j: usize, number: u32, step: u32, left: u32)
+    pub(crate) fn put(&mut self, j: usize, number: u32, step: u32, left: u32)
         requires { j < GROUP }
         ensures number { slice_index self.new.numbers j ≡ number }
         ensures step { slice_index self.new.steps j ≡ step }
@@ -256,7 +281,7 @@ impl RunningChains {
     }
 
     /// So many steps are taken, of those that each chain has left.
-    fn advance(&mut self, count: u32)
+    pub(crate) fn advance(&mut self, count: u32)
         requires left { (j : ℕ) → j < GROUP → count ≤ slice_index self.old.left j }
         requires within { StaysWithin MOST_STEPS self.old }
         ensures numbers { self.new.numbers ≡ self.old.numbers }
@@ -269,7 +294,7 @@ impl RunningChains {
 }
 
 /// The address of a chain of the key in each lane.
-fn hash_adrs(at: Place) -> LaneAdrs
+pub(crate) fn hash_adrs(at: Place) -> LaneAdrs
     ensures { ChainsAt result at }
 {
     adrs_lanes(&wots_adrs(at, AdrsType::WotsHash, 0, 0))
@@ -286,19 +311,19 @@ fn run_to_an_end(
     out: &mut [u8],
 ) -> usize
     requires within { StaysWithin MOST_STEPS running.old }
-    requires n { n ≤ 32 }
+    requires n { n ≡ (params lanes.now.set).n }
     requires out { (j : ℕ) → j < GROUP → slice_index running.old.numbers j * n + n ≤ length out.old }
     ensures lane { result < GROUP }
     ensures numbers { running.new.numbers ≡ running.old.numbers }
     ensures within { StaysWithin MOST_STEPS running.new }
-    ensures ends { (f : ℕ → List ℕ) (p : Params) (pk_seed : List ℕ) (at : Place) → IsSeededLanes lanes.now p pk_seed
-        → ChainsAt adrs.now at → EndAt f p pk_seed at running.old nodes.old
+    ensures ends { let p = params lanes.now.set in let pk_seed = lanes.now.pk_seed.now in
+        (f : ℕ → List ℕ) (at : Place) → ChainsAt adrs.now at → EndAt f p pk_seed at running.old nodes.old
         → EndAt f p pk_seed at running.new nodes.new }
-    ensures written { (f : ℕ → List ℕ) (p : Params) (pk_seed : List ℕ) (at : Place) → IsSeededLanes lanes.now p pk_seed
-        → ChainsAt adrs.now at → EndAt f p pk_seed at running.old nodes.old → p.n ≡ n
+    ensures written { let p = params lanes.now.set in let pk_seed = lanes.now.pk_seed.now in
+        (f : ℕ → List ℕ) (at : Place) → ChainsAt adrs.now at → EndAt f p pk_seed at running.old nodes.old
         → part n out.new (slice_index running.old.numbers result) ≡ f (slice_index running.old.numbers result) }
-    ensures kept { (f : ℕ → List ℕ) (p : Params) (pk_seed : List ℕ) (at : Place) → IsSeededLanes lanes.now p pk_seed
-        → ChainsAt adrs.now at → EndAt f p pk_seed at running.old nodes.old → p.n ≡ n
+    ensures kept { let p = params lanes.now.set in let pk_seed = lanes.now.pk_seed.now in
+        (f : ℕ → List ℕ) (at : Place) → ChainsAt adrs.now at → EndAt f p pk_seed at running.old nodes.old
         → (c : ℕ) → part n out.old c ≡ f c → part n out.new c ≡ f c }
 {
     let j = least_lane(running.left);
@@ -312,11 +337,10 @@ fn run_to_an_end(
     j
 }
 
-/// Writes the value that each chain of a key has when it is run on from the value given, each from its own step and by
-/// its own number of steps, in lanes. The chains are taken from the longest to the shortest: a lane whose chain has
-/// ended takes the next.
+/// Runs each chain of a key on from its value and step, by its number of steps, in lanes, and writes the values that
+/// are reached. The longest chains run first: a lane whose chain has ended takes the next.
 fn run_values_in_lanes(
-    public: &Public,
+    lanes: &SeededLanes,
     at: Place,
     values: &[u8],
     from: &ChainNumbers,
@@ -324,39 +348,35 @@ fn run_values_in_lanes(
     out: &mut [u8],
 )
     requires steps { (c : ℕ) → c < MOST_DIGITS → slice_index from.now c + slice_index counts.now c ≤ MOST_STEPS }
-    requires values { length values.now ≡ len (params public.now.set) * (params public.now.set).n }
-    requires out { length out.old ≡ len (params public.now.set) * (params public.now.set).n }
-    ensures { let p = params public.now.set in let pk_seed = public.now.pk_seed.now in
+    requires values { length values.now ≡ len (params lanes.now.set) * (params lanes.now.set).n }
+    requires out { length out.old ≡ len (params lanes.now.set) * (params lanes.now.set).n }
+    ensures { let p = params lanes.now.set in let pk_seed = lanes.now.pk_seed.now in
         out.new ≡ end_to_end (λ c. chain_of p pk_seed at c (part p.n values.now c)
         (slice_index from.now c) (slice_index counts.now c)) (len p) }
 {
-    let lanes = SeededLanes::new(public.set, public.pk_seed);
-    let n = public.set.n();
-    let count = public.set.len();
+    let set = lanes.set;
+    let n = set.n();
+    let count = set.len();
     let order = by_steps(counts, count);
     let adrs = hash_adrs(at);
     let group = group_at(&order, 0);
     let mut nodes = lanes_at(values, n, &group);
-    let mut running = RunningChains {
-        numbers: Words::from_array(group),
-        steps: numbers_of(from, &group),
-        left: numbers_of(counts, &group),
-    };
+    let mut running = RunningChains::of(&group, from, counts);
     for place in GROUP..count {
-        let j = run_to_an_end(&lanes, &adrs, &mut running, &mut nodes, n, out);
+        let j = run_to_an_end(lanes, &adrs, &mut running, &mut nodes, n, out);
         let next = order[place];
         nodes = with_node(&nodes, j, part_at(values, n, next as usize));
         running.put(j, next, from[next as usize], counts[next as usize]);
     }
     let last = running.numbers.to_array();
-    let ends = run_lanes(&lanes, at, &last, &nodes, running.steps, running.left);
+    let ends = run_lanes(lanes, at, &last, &nodes, running.steps, running.left);
     put_lanes(out, n, &last, &ends, GROUP);
 }
 
-/// Writes the value that each chain of a key has when it is run on from the value given, each from its own step and by
-/// its own number of steps. A build with one lane runs one chain after another, and holds no code for lanes here.
+/// Runs each chain of a key on from its value and step, by its number of steps, and writes the values that are reached.
+/// A build with one lane runs one chain after another, without the code for lanes.
 pub(crate) fn run_values(
-    public: &Public,
+    context: &HashContext,
     at: Place,
     values: &[u8],
     from: &ChainNumbers,
@@ -364,16 +384,19 @@ pub(crate) fn run_values(
     out: &mut [u8],
 )
     requires steps { (c : ℕ) → c < MOST_DIGITS → slice_index from.now c + slice_index counts.now c ≤ MOST_STEPS }
-    requires values { length values.now ≡ len (params public.now.set) * (params public.now.set).n }
-    requires out { length out.old ≡ len (params public.now.set) * (params public.now.set).n }
-    ensures { let p = params public.now.set in let pk_seed = public.now.pk_seed.now in
+    requires values { length values.now ≡ len (params context.now.set) * (params context.now.set).n }
+    requires out { length out.old ≡ len (params context.now.set) * (params context.now.set).n }
+    ensures { let p = params context.now.set in let pk_seed = context.now.pk_seed.now in
         out.new ≡ end_to_end (λ c. chain_of p pk_seed at c (part p.n values.now c)
         (slice_index from.now c) (slice_index counts.now c)) (len p) }
 {
-    match build_widths().short {
-        Width::One => run_values_alone(public, at, values, from, counts, out),
-        Width::Four | Width::Eight | Width::Sixteen => {
-            run_values_in_lanes(public, at, values, from, counts, out)
-        }
+    match context.lanes() {
+        None => run_values_alone(context, at, values, from, counts, out),
+        Some(lanes) => match build_widths().short {
+            Width::Sixteen => run_values_in_groups(lanes, at, values, from, counts, out),
+            Width::One | Width::Four | Width::Eight => run_values_in_lanes(
+                lanes, at, values, from, counts, out,
+            ),
+        },
     }
 }

@@ -1,40 +1,36 @@
 //! The roots of FORS trees that a signature gives, eight at a time, one in each lane (FIPS 205, section 8.4).
-ghost use Rattle.std.specs.Prelude.{◌≡◌, ℕ, List, [], min, ◌+◌, ◌*◌, ◌/◌, ◌%◌, ◌^◌, ◌≤◌, ◌<◌, length, slice_index, slice_index_or};
+ghost use Rattle.std.specs.Prelude.{[], ◌≡◌, ℕ, min, ◌+◌, ◌*◌, ◌/◌, ◌%◌, ◌^◌, ◌≤◌, ◌<◌, length, slice_index, slice_index_or};
 ghost use Rattle.arrayvec.specs.ArrayVec.{ArrayVec};
-ghost use Rattle.slh_params.specs.Address.{Address, address, FORS_TREE};
+ghost use Rattle.slh_params.specs.Address.{address, FORS_TREE};
 ghost use Rattle.slh_params.specs.ParamSet.{params};
-ghost use Rattle.slh_lanes.specs.Lanes.{HasAddress, IsSeededLanes, value_at};
+ghost use Rattle.slh_lanes.specs.Lanes.{HasAddress, value_at};
 ghost use Rattle.slh_hash.specs.Hash.{H};
-ghost use Rattle.slh_hash.specs.Stream.{HasAbsorbed};
 ghost use Rattle.slh_few.specs.Fors.{fors_leaf, fors_part_len};
-ghost use Rattle.slh_few.specs.ForsHashes.{AreSeeded, JoinsUnder};
 ghost use Rattle.slh_few.specs.ForsRoots.{root_given};
-ghost use Rattle.slh_few.specs.Parts.{HasParts, end_to_end, part};
+ghost use Rattle.slh_few.specs.Parts.{HasParts, part};
 
+use crate::context::HashContext;
 use crate::fors::fors_part_len;
 use crate::fors_parts::MOST_TREES;
-use crate::fors_tree::{ForsTree, fors_adrs, index_in_forest};
+use crate::fors_tree::{ForsPlace, fors_adrs, index_in_forest};
 use crate::nodes::{first_nodes, part_at, put_part};
-use crate::place::Seeds;
-use crate::seeded_trees::ForsHashes;
-use slh_hash::TStream;
 use slh_lanes::{
-    GROUP, LaneAdrs, LaneNodes, SeededLanes, SeededTreeLanes, Width, Words, adrs_lanes,
-    build_widths, half, node_lanes, parity, pick_nodes, set_hashes, set_lane,
+    GROUP, LaneAdrs, LaneNodes, SeededLanes, Width, Words, adrs_lanes, build_widths, half,
+    node_lanes, parity, pick_nodes, set_hashes, set_lane,
 };
 use slh_params::{AdrsType, ParamSet};
 use slh_tree::Leaves;
 
 /// Eight trees one after another: this one, in lane 0, and those after it.
-impl<'a> ForsTree<'a> {
+impl ForsPlace {
     /// The index that the leaf asked for of each tree has among the leaves of all trees.
-    fn leaf_indices(&self, indices: &[u32; MOST_TREES]) -> Words
+    fn leaf_indices(&self, set: ParamSet, indices: &[u32; MOST_TREES]) -> Words
         requires trees { self.now.tree_no + GROUP ≤ MOST_TREES }
-        requires leaves { (j : ℕ) → slice_index indices.now j < 2 ^ (params self.now.seeds.set).a }
-        ensures { let p = params self.now.seeds.set in let first = self.now.tree_no in
+        requires leaves { (j : ℕ) → slice_index indices.now j < 2 ^ (params set).a }
+        ensures { let p = params set in let first = self.now.tree_no in
             (j : ℕ) → j < GROUP → slice_index result j ≡ (first + j) * 2 ^ p.a + slice_index indices.now (first + j) }
     {
-        let levels = self.seeds.set.a();
+        let levels = set.a();
         let mut all = [0; GROUP];
         for j in 0..GROUP {
             let tree = self.tree_no + j as u32;
@@ -56,15 +52,15 @@ impl<'a> ForsTree<'a> {
 
     /// Node `place` of each tree's part of a signature, up to the lane `used`: 0 is the secret, the path's nodes
     /// follow.
-    fn part_nodes(&self, used: usize, sig: &[u8], place: usize) -> LaneNodes
+    fn part_nodes(&self, set: ParamSet, used: usize, sig: &[u8], place: usize) -> LaneNodes
         requires lanes { used ≤ GROUP }
-        requires place { place ≤ (params self.now.seeds.set).a }
-        requires sig { (self.now.tree_no + used) * fors_part_len (params self.now.seeds.set) ≤ length sig.now }
-        ensures { let p = params self.now.seeds.set in (j : ℕ) → j < used
+        requires place { place ≤ (params set).a }
+        requires sig { (self.now.tree_no + used) * fors_part_len (params set) ≤ length sig.now }
+        ensures { let p = params set in (j : ℕ) → j < used
             → value_at result j p.n ≡ part p.n (part (fors_part_len p) sig.now (self.now.tree_no + j)) place }
     {
-        let n = self.seeds.set.n();
-        let size = fors_part_len(self.seeds.set);
+        let n = set.n();
+        let size = fors_part_len(set);
         let mut nodes = node_lanes(&[]);
         for j in 0..used {
             let own = part_at(sig, size, self.tree_no as usize + j);
@@ -75,9 +71,8 @@ impl<'a> ForsTree<'a> {
 
     /// The leaves over the secrets: F of each.
     fn leaves_over(&self, lanes: &SeededLanes, indices: Words, secrets: &LaneNodes) -> LaneNodes
-        requires { IsSeededLanes lanes.now (params self.now.seeds.set) self.now.seeds.pk_seed.now }
-        ensures { let t = self.now in let p = params t.seeds.set in (j : ℕ) → j < GROUP → value_at result j p.n
-            ≡ fors_leaf p t.seeds.pk_seed.now t.idx_tree t.idx_leaf (slice_index indices j)
+        ensures { let t = self.now in let p = params lanes.now.set in (j : ℕ) → j < GROUP → value_at result j p.n
+            ≡ fors_leaf p lanes.now.pk_seed.now t.idx_tree t.idx_leaf (slice_index indices j)
             (value_at secrets.now j p.n) }
     {
         lanes.f(&self.node_adrs(0, indices), secrets)
@@ -87,20 +82,19 @@ impl<'a> ForsTree<'a> {
     /// siblings: H of both.
     fn parents(
         &self,
-        lanes: &SeededTreeLanes,
+        lanes: &SeededLanes,
         z: u32,
         indices: Words,
         own: &LaneNodes,
         others: &LaneNodes,
     ) -> LaneNodes
-        requires lanes { JoinsUnder (params self.now.seeds.set) self.now.seeds.pk_seed.now lanes.now }
-        ensures even { let t = self.now in let p = params t.seeds.set in
+        ensures even { let t = self.now in let p = params lanes.now.set in
             (j : ℕ) → j < GROUP → slice_index indices j % 2 ≡ 0 → value_at result j p.n
-            ≡ H p t.seeds.pk_seed.now (address 0 t.idx_tree FORS_TREE t.idx_leaf z (slice_index indices j / 2))
+            ≡ H p lanes.now.pk_seed.now (address 0 t.idx_tree FORS_TREE t.idx_leaf z (slice_index indices j / 2))
             (value_at own.now j p.n) (value_at others.now j p.n) }
-        ensures odd { let t = self.now in let p = params t.seeds.set in
+        ensures odd { let t = self.now in let p = params lanes.now.set in
             (j : ℕ) → j < GROUP → slice_index indices j % 2 ≡ 1 → value_at result j p.n
-            ≡ H p t.seeds.pk_seed.now (address 0 t.idx_tree FORS_TREE t.idx_leaf z (slice_index indices j / 2))
+            ≡ H p lanes.now.pk_seed.now (address 0 t.idx_tree FORS_TREE t.idx_leaf z (slice_index indices j / 2))
             (value_at others.now j p.n) (value_at own.now j p.n) }
     {
         let right_children = parity(indices);
@@ -113,52 +107,50 @@ impl<'a> ForsTree<'a> {
     /// The roots of the trees up to the lane `used` that a whole signature gives.
     fn climb_lanes(
         &self,
-        lanes: &SeededTreeLanes,
+        lanes: &SeededLanes,
         indices: &[u32; MOST_TREES],
         used: usize,
         sig: &[u8],
     ) -> LaneNodes
-        requires lanes { JoinsUnder (params self.now.seeds.set) self.now.seeds.pk_seed.now lanes.now }
         requires trees { self.now.tree_no + GROUP ≤ MOST_TREES }
-        requires leaves { (j : ℕ) → slice_index indices.now j < 2 ^ (params self.now.seeds.set).a }
+        requires leaves { (j : ℕ) → slice_index indices.now j < 2 ^ (params lanes.now.set).a }
         requires used { used ≤ GROUP }
-        requires sig { (self.now.tree_no + used) * fors_part_len (params self.now.seeds.set) ≤ length sig.now }
-        ensures { let t = self.now in let p = params t.seeds.set in (j : ℕ) → j < used → value_at result j p.n
-            ≡ root_given p t.seeds.sk_seed.now t.seeds.pk_seed.now t.idx_tree t.idx_leaf indices.now sig.now
+        requires sig { (self.now.tree_no + used) * fors_part_len (params lanes.now.set) ≤ length sig.now }
+        ensures { let t = self.now in let p = params lanes.now.set in (j : ℕ) → j < used → value_at result j p.n
+            ≡ root_given p [] lanes.now.pk_seed.now t.idx_tree t.idx_leaf indices.now sig.now
             (t.tree_no + j) }
     {
-        let mut at = self.leaf_indices(indices);
-        let mut nodes = self.leaves_over(lanes.lanes(), at, &self.part_nodes(used, sig, 0));
-        for z in 0..self.seeds.set.a() {
-            let others = self.part_nodes(used, sig, z as usize + 1);
+        let mut at = self.leaf_indices(lanes.set, indices);
+        let mut nodes = self.leaves_over(lanes, at, &self.part_nodes(lanes.set, used, sig, 0));
+        for z in 0..lanes.set.a() {
+            let others = self.part_nodes(lanes.set, used, sig, z as usize + 1);
             nodes = self.parents(lanes, z + 1, at, &nodes, &others);
             at = half(at);
         }
         nodes
     }
 
-    /// The roots of this tree and of those after it, as many as `used`, that a whole signature gives for the leaves
-    /// asked for: n bytes each (Algorithm 17, lines 3 to 20).
+    /// The roots of this tree and of the next ones, as many as `used`, n bytes each, from a whole signature for the
+    /// selected leaves (Algorithm 17, lines 3 to 20).
     pub(crate) fn roots_from_lanes(
         &self,
-        lanes: &SeededTreeLanes,
+        lanes: &SeededLanes,
         indices: &[u32; MOST_TREES],
         used: usize,
         sig: &[u8],
     ) -> Leaves
-        requires lanes { JoinsUnder (params self.now.seeds.set) self.now.seeds.pk_seed.now lanes.now }
         requires trees { self.now.tree_no + GROUP ≤ MOST_TREES }
-        requires leaves { (j : ℕ) → slice_index indices.now j < 2 ^ (params self.now.seeds.set).a }
+        requires leaves { (j : ℕ) → slice_index indices.now j < 2 ^ (params lanes.now.set).a }
         requires used { used ≤ GROUP }
-        requires sig { (self.now.tree_no + used) * fors_part_len (params self.now.seeds.set) ≤ length sig.now }
+        requires sig { (self.now.tree_no + used) * fors_part_len (params lanes.now.set) ≤ length sig.now }
         ensures len { length result.items ≡ used }
-        ensures roots { let t = self.now in let p = params t.seeds.set in
+        ensures roots { let t = self.now in let p = params lanes.now.set in
             (j : ℕ) (d : ArrayVec ℕ) → j < used → (slice_index_or result.items j d).items
-            ≡ root_given p t.seeds.sk_seed.now t.seeds.pk_seed.now t.idx_tree t.idx_leaf indices.now sig.now
+            ≡ root_given p [] lanes.now.pk_seed.now t.idx_tree t.idx_leaf indices.now sig.now
             (t.tree_no + j) }
     {
         let roots = self.climb_lanes(lanes, indices, used, sig);
-        first_nodes(&roots, self.seeds.set.n(), used)
+        first_nodes(&roots, lanes.set.n(), used)
     }
 }
 
@@ -166,7 +158,7 @@ impl<'a> ForsTree<'a> {
 const LEAST_IN_LANES: u32 = 3;
 
 /// Whether this build climbs a set's trees in lanes. Leaves are hashed by SHA-256 in lanes of 32 bits, and so are nodes
-/// where n is 16. Where n is 24 or 32 these are hashed by SHA-512, in lanes of 64 bits.
+/// if n is 16. If n is 24 or 32, nodes are hashed by SHA-512, in lanes of 64 bits.
 fn has_lanes(set: ParamSet) -> bool {
     let widths = build_widths();
     let short = !matches!(widths.short, Width::One);
@@ -174,94 +166,37 @@ fn has_lanes(set: ParamSet) -> bool {
     short && (set.n() == 16 || long)
 }
 
-/// How many groups of eight trees are climbed in lanes, of which the last may have fewer: none where PK.seed has another
-/// length than n, nor where nodes are hashed one after another.
-fn lane_groups(seeds: &Seeds) -> u32
-    ensures trees { GROUP * result ≤ (params seeds.now.set).k + 5 }
-    ensures pk_seed { 1 ≤ result → length seeds.now.pk_seed.now ≡ (params seeds.now.set).n }
+/// How many groups of eight trees are climbed in lanes, of which the last may have fewer: none if nodes are hashed one
+/// after another.
+fn lane_groups(set: ParamSet) -> u32
+    ensures { GROUP * result ≤ (params set).k + 5 }
 {
-    if has_lanes(seeds.set) && seeds.pk_seed.len() == seeds.set.n() {
-        (seeds.set.k() + GROUP as u32 - LEAST_IN_LANES) / GROUP as u32
+    if has_lanes(set) {
+        (set.k() + GROUP as u32 - LEAST_IN_LANES) / GROUP as u32
     } else {
         0
     }
 }
 
-/// Adds the roots of the eight trees from this one on, or of fewer up to the last tree.
-fn absorb_eight(
-    roots: &mut TStream,
-    first: &ForsTree,
-    lanes: &SeededTreeLanes,
-    indices: &[u32; MOST_TREES],
-    sig: &[u8],
-)
-    requires lanes { JoinsUnder (params first.now.seeds.set) first.now.seeds.pk_seed.now lanes.now }
-    requires tree { first.now.tree_no < (params first.now.seeds.set).k }
-    requires trees { first.now.tree_no + GROUP ≤ MOST_TREES }
-    requires leaves { (j : ℕ) → slice_index indices.now j < 2 ^ (params first.now.seeds.set).a }
-    requires sig { let p = params first.now.seeds.set in length sig.now ≡ p.k * fors_part_len p }
-    ensures { let t = first.now in let p = params t.seeds.set in let pk_seed = t.seeds.pk_seed.now in
-        let given = root_given p t.seeds.sk_seed.now pk_seed t.idx_tree t.idx_leaf indices.now sig.now in
-        (a : Address) → HasAbsorbed roots.old p pk_seed a (end_to_end given t.tree_no)
-        → HasAbsorbed roots.new p pk_seed a (end_to_end given (min (t.tree_no + GROUP) p.k)) }
-{
-    let used = (first.seeds.set.k() - first.tree_no).min(GROUP as u32) as usize;
-    let group = first.roots_from_lanes(lanes, indices, used, sig);
-    for j in 0..used {
-        roots.absorb(&group[j]);
-    }
-}
-
-/// Adds the roots of the first trees, and gives their number: of all that are climbed in lanes.
-pub(crate) fn absorb_first_roots(
-    roots: &mut TStream,
-    seeds: &Seeds,
-    idx_tree: u64,
-    idx_leaf: u32,
-    indices: &[u32; MOST_TREES],
-    sig: &[u8],
-) -> u32
-    requires leaves { (j : ℕ) → slice_index indices.now j < 2 ^ (params seeds.now.set).a }
-    requires sig { let p = params seeds.now.set in length sig.now ≡ p.k * fors_part_len p }
-    ensures count { result ≤ (params seeds.now.set).k }
-    ensures roots { let p = params seeds.now.set in let sk_seed = seeds.now.sk_seed.now in
-        let pk_seed = seeds.now.pk_seed.now in
-        (a : Address) → HasAbsorbed roots.old p pk_seed a [] → HasAbsorbed roots.new p pk_seed a
-        (end_to_end (root_given p sk_seed pk_seed idx_tree idx_leaf indices.now sig.now) result) }
-{
-    let groups = lane_groups(seeds);
-    if groups == 0 {
-        return 0;
-    }
-    let lanes = SeededLanes::new(seeds.set, seeds.pk_seed);
-    let join_lanes = SeededTreeLanes::new(&lanes);
-    for turn in 0..groups {
-        let first = ForsTree::at(seeds, idx_tree, idx_leaf, GROUP as u32 * turn);
-        absorb_eight(roots, &first, &join_lanes, indices, sig);
-    }
-    (GROUP as u32 * groups).min(seeds.set.k())
-}
-
 /// Writes the roots of the eight trees from this one on, or of fewer up to the last tree, at their places among those
 /// of all trees.
 fn put_eight(
-    first: &ForsTree,
-    lanes: &SeededTreeLanes,
+    first: &ForsPlace,
+    lanes: &SeededLanes,
     indices: &[u32; MOST_TREES],
     sig: &[u8],
     out: &mut [u8],
 )
-    requires lanes { JoinsUnder (params first.now.seeds.set) first.now.seeds.pk_seed.now lanes.now }
-    requires tree { first.now.tree_no < (params first.now.seeds.set).k }
+    requires tree { first.now.tree_no < (params lanes.now.set).k }
     requires trees { first.now.tree_no + GROUP ≤ MOST_TREES }
-    requires leaves { (j : ℕ) → slice_index indices.now j < 2 ^ (params first.now.seeds.set).a }
-    requires sig { let p = params first.now.seeds.set in length sig.now ≡ p.k * fors_part_len p }
-    requires out { let p = params first.now.seeds.set in length out.old ≡ p.k * p.n }
-    ensures { let t = first.now in let p = params t.seeds.set in
-        let given = root_given p t.seeds.sk_seed.now t.seeds.pk_seed.now t.idx_tree t.idx_leaf indices.now sig.now in
+    requires leaves { (j : ℕ) → slice_index indices.now j < 2 ^ (params lanes.now.set).a }
+    requires sig { let p = params lanes.now.set in length sig.now ≡ p.k * fors_part_len p }
+    requires out { let p = params lanes.now.set in length out.old ≡ p.k * p.n }
+    ensures { let t = first.now in let p = params lanes.now.set in
+        let given = root_given p [] lanes.now.pk_seed.now t.idx_tree t.idx_leaf indices.now sig.now in
         HasParts p.n out.old given t.tree_no → HasParts p.n out.new given (min (t.tree_no + GROUP) p.k) }
 {
-    let set = first.seeds.set;
+    let set = lanes.set;
     let used = (set.k() - first.tree_no).min(GROUP as u32) as usize;
     let group = first.roots_from_lanes(lanes, indices, used, sig);
     for j in 0..used {
@@ -271,31 +206,31 @@ fn put_eight(
 
 /// Writes the roots of the first trees, and gives their number: of all that are climbed in lanes.
 pub(crate) fn put_first_roots(
-    hashes: &ForsHashes,
-    seeds: &Seeds,
+    context: &HashContext,
     idx_tree: u64,
     idx_leaf: u32,
     indices: &[u32; MOST_TREES],
     sig: &[u8],
     out: &mut [u8],
 ) -> u32
-    requires hashes { ∥ AreSeeded hashes.now (params seeds.now.set) seeds.now.pk_seed.now ∥₁ }
-    requires leaves { (j : ℕ) → slice_index indices.now j < 2 ^ (params seeds.now.set).a }
-    requires sig { let p = params seeds.now.set in length sig.now ≡ p.k * fors_part_len p }
-    requires out { let p = params seeds.now.set in length out.old ≡ p.k * p.n }
-    ensures count { result ≤ (params seeds.now.set).k }
-    ensures roots { let p = params seeds.now.set in let sk_seed = seeds.now.sk_seed.now in
-        let pk_seed = seeds.now.pk_seed.now in
-        HasParts p.n out.new (root_given p sk_seed pk_seed idx_tree idx_leaf indices.now sig.now) result }
+    requires leaves { (j : ℕ) → slice_index indices.now j < 2 ^ (params context.now.set).a }
+    requires sig { let p = params context.now.set in length sig.now ≡ p.k * fors_part_len p }
+    requires out { let p = params context.now.set in length out.old ≡ p.k * p.n }
+    ensures count { result ≤ (params context.now.set).k }
+    ensures roots { let p = params context.now.set in let pk_seed = context.now.pk_seed.now in
+        HasParts p.n out.new (root_given p [] pk_seed idx_tree idx_leaf indices.now sig.now) result }
 {
-    if let Some(lanes) = hashes.join_lanes() {
-        let groups = lane_groups(seeds);
-        for turn in 0..groups {
-            let first = ForsTree::at(seeds, idx_tree, idx_leaf, GROUP as u32 * turn);
-            put_eight(&first, lanes, indices, sig, out);
-        }
-        (GROUP as u32 * groups).min(seeds.set.k())
-    } else {
-        0
+    let Some(lanes) = context.lanes() else {
+        return 0;
+    };
+    let groups = lane_groups(context.set);
+    for turn in 0..groups {
+        let first = ForsPlace {
+            idx_tree,
+            idx_leaf,
+            tree_no: GROUP as u32 * turn,
+        };
+        put_eight(&first, lanes, indices, sig, out);
     }
+    (GROUP as u32 * groups).min(context.set.k())
 }

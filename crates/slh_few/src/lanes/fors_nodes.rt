@@ -1,138 +1,122 @@
 //! Nodes of a FORS tree eight at a time, one in each lane (FIPS 205, section 8.2).
-ghost use Rattle.std.specs.Prelude.{◌≡◌, ℕ, List, ◌+◌, ◌-◌, ◌*◌, ◌^◌, ◌≤◌, ◌<◌, length};
+ghost use Rattle.std.specs.Prelude.{[], ◌≡◌, ℕ, ◌+◌, ◌-◌, ◌*◌, ◌^◌, ◌≤◌, ◌<◌, length};
 ghost use Rattle.slh_params.specs.Address.{address};
 ghost use Rattle.slh_params.specs.AdrsType.{type_number};
 ghost use Rattle.slh_params.specs.ParamSet.{params};
-ghost use Rattle.slh_lanes.specs.Lanes.{HasAddress, IsSeededLanes, value_at};
-ghost use Rattle.slh_lanes.specs.TreeLanes.{IsSeededTreeLanes};
+ghost use Rattle.slh_lanes.specs.Lanes.{HasAddress, value_at};
 ghost use Rattle.slh_tree.specs.Cover.{past_leaf};
-ghost use Rattle.slh_tree.specs.Leaves.{AreLeavesFrom};
 ghost use Rattle.slh_tree.specs.Tree.{node};
 ghost use Rattle.slh_few.specs.Fors.{fors_tree};
 ghost use Rattle.slh_few.specs.Levels.{AreParents};
 ghost use Rattle.slh_few.specs.Parts.{part};
-ghost use Rattle.slh_few.specs.Trees.{fors_tree_of};
+ghost use Rattle.slh_few.specs.Trees.{fors_nodes_of};
+ghost use Rattle.slh_few.specs.declared.fors_parts.TheConstants.{MOST_TREES};
 
-use crate::fors_tree::{ForsTree, fors_adrs, index_in_forest};
+use crate::fors_tree::{ForsNodes, ForsPlace, fors_adrs, index_in_forest};
 use crate::nodes::{first_nodes, part_at};
-use crate::seeded_trees::SeededForsTree;
 use slh_lanes::{
-    GROUP, LaneAdrs, LaneNodes, SeededLanes, SeededTreeLanes, adrs_lanes, consecutive, even_lanes,
-    lane_node, node_lanes, odd_lanes, set_hashes, set_lane,
+    GROUP, LaneAdrs, LaneNodes, SeededLanes, adrs_lanes, consecutive, even_lanes, lane_node,
+    node_lanes, odd_lanes, set_hashes, set_lane,
 };
 use slh_params::{AdrsType, Node, ParamSet};
 use slh_tree::{Leaves, node};
 
-impl<'a> ForsTree<'a> {
-    /// The leaves from `first` on, as many as `count`: F of their secrets, eight at once.
-    pub(crate) fn leaves_from(&self, lanes: &SeededLanes, first: u32, count: u32) -> Leaves
-        requires some { 1 ≤ count }
-        requires few { count ≤ GROUP }
-        requires within { first + count ≤ 2 ^ (params self.now.seeds.set).a }
-        ensures len { length result.items ≡ count }
-        ensures leaves { let p = params self.now.seeds.set in let sk_seed = self.now.seeds.sk_seed.now in
-            (pk_seed : List ℕ) → IsSeededLanes lanes.now p pk_seed
-            → AreLeavesFrom (fors_tree p sk_seed pk_seed self.now.idx_tree self.now.idx_leaf self.now.tree_no)
-            first result.items }
-    {
-        let leaves = self.leaf_lanes(lanes, first);
-        first_nodes(&leaves, self.seeds.set.n(), count as usize)
-    }
-
-    /// The leaves from `first` on, one in each lane: F of their secrets.
-    fn leaf_lanes(&self, lanes: &SeededLanes, first: u32) -> LaneNodes
-        requires { first < 2 ^ (params self.now.seeds.set).a }
-        ensures { let p = params self.now.seeds.set in let sk_seed = self.now.seeds.sk_seed.now in
-            (pk_seed : List ℕ) → IsSeededLanes lanes.now p pk_seed → (j : ℕ) → j < GROUP → value_at result j p.n
-            ≡ (fors_tree p sk_seed pk_seed self.now.idx_tree self.now.idx_leaf self.now.tree_no).leaf (first + j) }
-    {
-        let secrets = lanes.prf(
-            self.seeds.sk_seed,
-            &self.lane_adrs(AdrsType::ForsPrf, 0, first),
-        );
-        lanes.f(&self.lane_adrs(AdrsType::ForsTree, 0, first), &secrets)
-    }
-
+impl ForsPlace {
     /// The addresses of a type of the nodes of height `z` from index `first` on, one in each lane.
-    fn lane_adrs(&self, kind: AdrsType, z: u32, first: u32) -> LaneAdrs
-        requires height { z ≤ (params self.now.seeds.set).a }
-        requires index { first < 2 ^ ((params self.now.seeds.set).a - z) }
+    fn lane_adrs(&self, set: ParamSet, kind: AdrsType, z: u32, first: u32) -> LaneAdrs
+        requires tree { self.now.tree_no < MOST_TREES }
+        requires height { z ≤ (params set).a }
+        requires index { first < 2 ^ ((params set).a - z) }
         ensures { (j : ℕ) → j < GROUP
             → HasAddress result j (address 0 self.now.idx_tree (type_number kind) self.now.idx_leaf z
-            (self.now.tree_no * 2 ^ ((params self.now.seeds.set).a - z) + (first + j))) }
+            (self.now.tree_no * 2 ^ ((params set).a - z) + (first + j))) }
     {
-        let index = index_in_forest(self.tree_no, self.seeds.set.a() - z, first);
+        let index = index_in_forest(self.tree_no, set.a() - z, first);
         let mut adrs = adrs_lanes(&fors_adrs(self.idx_tree, self.idx_leaf, kind, z, 0));
         set_hashes(&mut adrs, consecutive(index));
         adrs
     }
 
+    /// The leaves of the tree from `first` on, one in each lane: F of their secrets.
+    pub(crate) fn leaf_lanes(&self, lanes: &SeededLanes, sk_seed: &[u8], first: u32) -> LaneNodes
+        requires sk_seed { length sk_seed.now ≡ (params lanes.now.set).n }
+        requires tree { self.now.tree_no < MOST_TREES }
+        requires index { first < 2 ^ (params lanes.now.set).a }
+        ensures { let p = params lanes.now.set in let t = self.now in
+            (j : ℕ) → j < GROUP → value_at result j p.n
+            ≡ (fors_tree p sk_seed.now lanes.now.pk_seed.now t.idx_tree t.idx_leaf t.tree_no).leaf (first + j) }
+    {
+        let adrs = self.lane_adrs(lanes.set, AdrsType::ForsPrf, 0, first);
+        let secrets = lanes.prf(sk_seed, &adrs);
+        let adrs = self.lane_adrs(lanes.set, AdrsType::ForsTree, 0, first);
+        lanes.f(&adrs, &secrets)
+    }
+
     /// The nodes of height `z` from index `i` on: H of their children, which are the sixteen nodes of the two.
     fn join_lanes(
         &self,
-        lanes: &SeededTreeLanes,
+        lanes: &SeededLanes,
         z: u32,
         i: u32,
         left: &LaneNodes,
         right: &LaneNodes,
     ) -> LaneNodes
-        requires height { z ≤ (params self.now.seeds.set).a }
-        requires index { i < 2 ^ ((params self.now.seeds.set).a - z) }
-        ensures low { let p = params self.now.seeds.set in let sk_seed = self.now.seeds.sk_seed.now in
-            (pk_seed : List ℕ) → IsSeededTreeLanes lanes.now p pk_seed → length pk_seed ≡ p.n → (j : ℕ) → j < 4
+        requires tree { self.now.tree_no < MOST_TREES }
+        requires height { z ≤ (params lanes.now.set).a }
+        requires index { i < 2 ^ ((params lanes.now.set).a - z) }
+        ensures low { let p = params lanes.now.set in let t = self.now in (j : ℕ) → j < 4
             → value_at result j p.n
-            ≡ (fors_tree p sk_seed pk_seed self.now.idx_tree self.now.idx_leaf self.now.tree_no).join z (i + j)
+            ≡ (fors_tree p [] lanes.now.pk_seed.now t.idx_tree t.idx_leaf t.tree_no).join z (i + j)
             (value_at left.now (2 * j) p.n) (value_at left.now (2 * j + 1) p.n) }
-        ensures high { let p = params self.now.seeds.set in let sk_seed = self.now.seeds.sk_seed.now in
-            (pk_seed : List ℕ) → IsSeededTreeLanes lanes.now p pk_seed → length pk_seed ≡ p.n
-            → (j : ℕ) → j < 4 → value_at result (j + 4) p.n
-            ≡ (fors_tree p sk_seed pk_seed self.now.idx_tree self.now.idx_leaf self.now.tree_no).join z (i + (j + 4))
+        ensures high { let p = params lanes.now.set in let t = self.now in (j : ℕ) → j < 4
+            → value_at result (j + 4) p.n
+            ≡ (fors_tree p [] lanes.now.pk_seed.now t.idx_tree t.idx_leaf t.tree_no).join z (i + (j + 4))
             (value_at right.now (2 * j) p.n) (value_at right.now (2 * j + 1) p.n) }
     {
-        lanes.h(
-            &self.lane_adrs(AdrsType::ForsTree, z, i),
-            &even_lanes(left, right),
-            &odd_lanes(left, right),
-        )
+        let adrs = self.lane_adrs(lanes.set, AdrsType::ForsTree, z, i);
+        lanes.h(&adrs, &even_lanes(left, right), &odd_lanes(left, right))
     }
 
     /// The eight nodes of height `z` from index `i` on, as fors_node makes each (Algorithm 15).
-    fn eight_nodes(&self, lanes: &SeededTreeLanes, z: u32, i: u32) -> LaneNodes
-        requires height { z ≤ (params self.now.seeds.set).a }
-        requires within { i + GROUP ≤ 2 ^ ((params self.now.seeds.set).a - z) }
-        ensures { let p = params self.now.seeds.set in let sk_seed = self.now.seeds.sk_seed.now in
-            (pk_seed : List ℕ) → IsSeededTreeLanes lanes.now p pk_seed → length pk_seed ≡ p.n → (j : ℕ) → j < GROUP
+    fn eight_nodes(&self, lanes: &SeededLanes, sk_seed: &[u8], z: u32, i: u32) -> LaneNodes
+        requires sk_seed { length sk_seed.now ≡ (params lanes.now.set).n }
+        requires tree { self.now.tree_no < MOST_TREES }
+        requires height { z ≤ (params lanes.now.set).a }
+        requires within { i + GROUP ≤ 2 ^ ((params lanes.now.set).a - z) }
+        ensures { let p = params lanes.now.set in let t = self.now in (j : ℕ) → j < GROUP
             → value_at result j p.n
-            ≡ node (fors_tree p sk_seed pk_seed self.now.idx_tree self.now.idx_leaf self.now.tree_no) z (i + j) }
+            ≡ node (fors_tree p sk_seed.now lanes.now.pk_seed.now t.idx_tree t.idx_leaf t.tree_no) z (i + j) }
     {
         if z == 0 {
-            self.leaf_lanes(lanes.lanes(), i)
+            self.leaf_lanes(lanes, sk_seed, i)
         } else {
-            let left = self.eight_nodes(lanes, z - 1, 2 * i);
-            let right = self.eight_nodes(lanes, z - 1, 2 * i + GROUP as u32);
+            let left = self.eight_nodes(lanes, sk_seed, z - 1, 2 * i);
+            let right = self.eight_nodes(lanes, sk_seed, z - 1, 2 * i + GROUP as u32);
             self.join_lanes(lanes, z, i, &left, &right)
         }
     }
 
     /// The node of height `z` at index `i`.
-    pub(crate) fn node_from_lanes(&self, lanes: &SeededTreeLanes, z: u32, i: u32) -> Node
+    fn node_from_lanes(&self, lanes: &SeededLanes, sk_seed: &[u8], z: u32, i: u32) -> Node
+        requires sk_seed { length sk_seed.now ≡ (params lanes.now.set).n }
+        requires tree { self.now.tree_no < MOST_TREES }
         requires low { 3 ≤ z }
-        requires height { z ≤ (params self.now.seeds.set).a }
-        requires index { i < 2 ^ ((params self.now.seeds.set).a - z) }
-        ensures { let p = params self.now.seeds.set in let sk_seed = self.now.seeds.sk_seed.now in
-            (pk_seed : List ℕ) → IsSeededTreeLanes lanes.now p pk_seed → length pk_seed ≡ p.n → result.items
-            ≡ node (fors_tree p sk_seed pk_seed self.now.idx_tree self.now.idx_leaf self.now.tree_no) z i }
+        requires height { z ≤ (params lanes.now.set).a }
+        requires index { i < 2 ^ ((params lanes.now.set).a - z) }
+        ensures { let p = params lanes.now.set in let t = self.now in
+            result.items
+            ≡ node (fors_tree p sk_seed.now lanes.now.pk_seed.now t.idx_tree t.idx_leaf t.tree_no) z i }
     {
-        let eight = self.eight_nodes(lanes, z - 3, GROUP as u32 * i);
+        let eight = self.eight_nodes(lanes, sk_seed, z - 3, GROUP as u32 * i);
         let four = self.join_lanes(lanes, z - 2, 4 * i, &eight, &eight);
         let two = self.join_lanes(lanes, z - 1, 2 * i, &four, &four);
         let one = self.join_lanes(lanes, z, i, &two, &two);
-        lane_node(&one, 0, self.seeds.set.n())
+        lane_node(&one, 0, lanes.set.n())
     }
 }
 
-/// The children on one side of the nodes from index `first` on, one in each lane up to the lane `count`, from the nodes
-/// of the height below, which stand end to end: 0 is the left side, 1 the right one.
+/// The children on one side of the nodes from index `first` on, one in each lane up to the lane `count`. 0 is the left
+/// side, 1 the right one. They come from the nodes of the height below, end to end.
 fn children(set: ParamSet, below: &[u8], first: u32, side: usize, count: usize) -> LaneNodes
     requires side { side ≤ 1 }
     requires lanes { count ≤ GROUP }
@@ -148,32 +132,33 @@ fn children(set: ParamSet, below: &[u8], first: u32, side: usize, count: usize) 
     nodes
 }
 
-impl<'a> ForsTree<'a> {
-    /// The nodes of height `z` from index `first` on, as many as `count`, from the nodes of the height below, which
-    /// stand end to end.
+impl ForsPlace {
+    /// The nodes of height `z` from index `first` on, as many as `count`, from the nodes of the height below, end to
+    /// end.
     pub(crate) fn parents_from_lanes(
         &self,
-        lanes: &SeededTreeLanes,
+        lanes: &SeededLanes,
         z: u32,
         first: u32,
         count: usize,
         below: &[u8],
     ) -> Leaves
-        requires height { z ≤ (params self.now.seeds.set).a }
+        requires tree { self.now.tree_no < MOST_TREES }
+        requires height { z ≤ (params lanes.now.set).a }
         requires some { 1 ≤ count }
         requires few { count ≤ GROUP }
-        requires within { first + count ≤ 2 ^ ((params self.now.seeds.set).a - z) }
-        requires below { 2 * (first + count) * (params self.now.seeds.set).n ≤ length below.now }
+        requires within { first + count ≤ 2 ^ ((params lanes.now.set).a - z) }
+        requires below { 2 * (first + count) * (params lanes.now.set).n ≤ length below.now }
         ensures len { length result.items ≡ count }
-        ensures parents { let p = params self.now.seeds.set in let sk_seed = self.now.seeds.sk_seed.now in
-            (pk_seed : List ℕ) → IsSeededTreeLanes lanes.now p pk_seed → length pk_seed ≡ p.n
-            → AreParents (fors_tree p sk_seed pk_seed self.now.idx_tree self.now.idx_leaf self.now.tree_no) p.n z first
+        ensures parents { let p = params lanes.now.set in let t = self.now in
+            AreParents (fors_tree p [] lanes.now.pk_seed.now t.idx_tree t.idx_leaf t.tree_no) p.n z first
             below.now result.items }
     {
-        let set = self.seeds.set;
+        let set = lanes.set;
         let left = children(set, below, first, 0, count);
         let right = children(set, below, first, 1, count);
-        let nodes = lanes.h(&self.lane_adrs(AdrsType::ForsTree, z, first), &left, &right);
+        let adrs = self.lane_adrs(set, AdrsType::ForsTree, z, first);
+        let nodes = lanes.h(&adrs, &left, &right);
         first_nodes(&nodes, set.n(), count)
     }
 }
@@ -181,19 +166,19 @@ impl<'a> ForsTree<'a> {
 /// From this height on a node is made from eight nodes that stand side by side.
 const EIGHT_NODES: u32 = 3;
 
-impl<'s, 'h> SeededForsTree<'s, 'h> {
-    /// fors_node (Algorithm 15): the node of height `z` at index `i` of this tree, from its own leaves alone. From
-    /// height 3 on it is made in lanes where the hash states have those; else the leaves alone are.
-    #[tactic(auto, unfolding(crate::specs::Trees::fors_tree_of))]
+impl<'c, 'a> ForsNodes<'c, 'a> {
+    /// fors_node (Algorithm 15): the node of height `z` at index `i` of this tree, from the leaves below it. From
+    /// height 3 on it is made in lanes if the seeds have n bytes.
+    #[tactic(auto, unfolding(crate::specs::Trees::fors_nodes_of))]
     pub(crate) fn node(&self, z: u32, i: u32) -> Node
-        requires height { z ≤ (params self.now.tree.seeds.set).a }
-        requires within { past_leaf z i ≤ 2 ^ (params self.now.tree.seeds.set).a }
-        ensures { result.items ≡ node (fors_tree_of self.now.tree) z i }
+        requires height { z ≤ (params self.now.signer.now.public.set).a }
+        requires within { past_leaf z i ≤ 2 ^ (params self.now.signer.now.public.set).a }
+        ensures { result.items ≡ node (fors_nodes_of self.now) z i }
     {
         if EIGHT_NODES <= z
-            && let Some(lanes) = self.hashes.join_lanes()
+            && let Some(lanes) = self.signer.lanes()
         {
-            self.tree.node_from_lanes(lanes, z, i)
+            self.at.node_from_lanes(lanes, self.signer.sk_seed, z, i)
         } else {
             node(self, z, i)
         }

@@ -2,78 +2,77 @@
 ghost use Rattle.std.specs.Prelude.{◌≡◌, ◌≢◌, ℕ, List, [], ◌+◌, ◌-◌, ◌*◌, ◌^◌, ◌≤◌, ◌<◌, length};
 ghost use Rattle.slh_params.specs.Params.{Params, len};
 ghost use Rattle.slh_params.specs.ParamSet.{params};
-ghost use Rattle.slh_lanes.specs.Lanes.{IsSeededLanes};
 ghost use Rattle.slh_few.specs.KeyStreams.{AreAfter, AreEnds};
 ghost use Rattle.slh_few.specs.Parts.{part};
 
 use crate::lanes::keys::key_adrs;
-use crate::place::{Place, Seeds};
+use crate::place::Place;
 use slh_lanes::{GROUP, LaneNodes, SeededLanes};
 use slh_params::AdrsType;
 
-/// What is kept of the chains of eight keys while they run to their ends, one key in each lane: of each chain as many
-/// bytes as of any other.
+/// The values that are stored of each chain while the chains of eight keys run to their ends, one key in each lane.
+/// Every chain stores equally many bytes.
 pub(crate) trait Kept {
     ghost use Rattle.slh_few.specs.declared.place.Place.{Place};
 
-    /// Whether this can be kept of keys of a set.
+    /// Whether this can be stored for keys of a set.
     ghost fits: { Self → Params → Type 0 };
 
-    /// How many bytes are kept of a chain.
+    /// The number of bytes that are stored of a chain.
     ghost size: { Self → Params → ℕ };
 
-    /// What is kept of a chain of the eight keys from a place on, under SK.seed and PK.seed.
+    /// The stored values of a chain of the eight keys from a place on, under SK.seed and PK.seed.
     ghost kept: { Self → Params → List ℕ → List ℕ → Place → ℕ → List ℕ };
 
-    /// The ends of two chains of eight keys, of which the first is at this place: those of chain `c` are written into
-    /// `x`, and those of chain `c + 1` into `y`. What is kept of both chains is written into `out`.
+    /// The ends of two chains of eight keys, of which the first is at this place. Those of chain `c` are written into
+    /// `x`, and those of chain `c + 1` into `y`. The stored values of both chains are written into `out`.
     fn two_ends(
         &self,
         lanes: &SeededLanes,
-        seeds: &Seeds,
+        sk_seed: &[u8],
         at: Place,
         c: u32,
         x: &mut LaneNodes,
         y: &mut LaneNodes,
         out: &mut [u8],
     )
-        requires lanes { IsSeededLanes lanes.now (params seeds.now.set) seeds.now.pk_seed.now }
+        requires sk_seed { length sk_seed.now ≡ (params lanes.now.set).n }
         requires pairs { at.pair + GROUP ≤ 2 ^ 32 }
-        requires fits { fits self.now (params seeds.now.set) }
-        requires chains { c + 1 < len (params seeds.now.set) }
-        requires out { length out.old ≡ len (params seeds.now.set) * size self.now (params seeds.now.set) }
-        ensures x { AreEnds (params seeds.now.set) seeds.now.sk_seed.now seeds.now.pk_seed.now at c x.new }
-        ensures y { AreEnds (params seeds.now.set) seeds.now.sk_seed.now seeds.now.pk_seed.now at (c + 1) y.new }
-        ensures x_kept { let p = params seeds.now.set in
-            part (size self.now p) out.new c ≡ kept self.now p seeds.now.sk_seed.now seeds.now.pk_seed.now at c }
-        ensures y_kept { let p = params seeds.now.set in part (size self.now p) out.new (c + 1)
-            ≡ kept self.now p seeds.now.sk_seed.now seeds.now.pk_seed.now at (c + 1) }
-        ensures others { let p = params seeds.now.set in (i : ℕ) → i ≢ c → i ≢ c + 1
+        requires fits { fits self.now (params lanes.now.set) }
+        requires chains { c + 1 < len (params lanes.now.set) }
+        requires out { length out.old ≡ len (params lanes.now.set) * size self.now (params lanes.now.set) }
+        ensures x { AreEnds (params lanes.now.set) sk_seed.now lanes.now.pk_seed.now at c x.new }
+        ensures y { AreEnds (params lanes.now.set) sk_seed.now lanes.now.pk_seed.now at (c + 1) y.new }
+        ensures x_kept { let p = params lanes.now.set in
+            part (size self.now p) out.new c ≡ kept self.now p sk_seed.now lanes.now.pk_seed.now at c }
+        ensures y_kept { let p = params lanes.now.set in part (size self.now p) out.new (c + 1)
+            ≡ kept self.now p sk_seed.now lanes.now.pk_seed.now at (c + 1) }
+        ensures others { let p = params lanes.now.set in (i : ℕ) → i ≢ c → i ≢ c + 1
             → part (size self.now p) out.new i ≡ part (size self.now p) out.old i };
 
-    /// The ends of chain `c` of eight keys, of which the first is at this place. What is kept of the chain is written
-    /// into `out`.
+    /// The ends of chain `c` of eight keys, of which the first is at this place. The stored values of the chain are
+    /// written into `out`.
     fn ends(
         &self,
         lanes: &SeededLanes,
-        seeds: &Seeds,
+        sk_seed: &[u8],
         at: Place,
         c: u32,
         out: &mut [u8],
     ) -> LaneNodes
-        requires lanes { IsSeededLanes lanes.now (params seeds.now.set) seeds.now.pk_seed.now }
+        requires sk_seed { length sk_seed.now ≡ (params lanes.now.set).n }
         requires pairs { at.pair + GROUP ≤ 2 ^ 32 }
-        requires fits { fits self.now (params seeds.now.set) }
-        requires chain { c < len (params seeds.now.set) }
-        requires out { length out.old ≡ len (params seeds.now.set) * size self.now (params seeds.now.set) }
-        ensures ends { AreEnds (params seeds.now.set) seeds.now.sk_seed.now seeds.now.pk_seed.now at c result }
-        ensures kept { let p = params seeds.now.set in
-            part (size self.now p) out.new c ≡ kept self.now p seeds.now.sk_seed.now seeds.now.pk_seed.now at c }
-        ensures others { let p = params seeds.now.set in (i : ℕ) → i ≢ c
+        requires fits { fits self.now (params lanes.now.set) }
+        requires chain { c < len (params lanes.now.set) }
+        requires out { length out.old ≡ len (params lanes.now.set) * size self.now (params lanes.now.set) }
+        ensures ends { AreEnds (params lanes.now.set) sk_seed.now lanes.now.pk_seed.now at c result }
+        ensures kept { let p = params lanes.now.set in
+            part (size self.now p) out.new c ≡ kept self.now p sk_seed.now lanes.now.pk_seed.now at c }
+        ensures others { let p = params lanes.now.set in (i : ℕ) → i ≢ c
             → part (size self.now p) out.new i ≡ part (size self.now p) out.old i };
 }
 
-/// Nothing is kept.
+/// Nothing is stored.
 #[derive(Drop)]
 pub(crate) struct Nothing;
 
@@ -87,59 +86,59 @@ impl Kept for Nothing {
     fn two_ends(
         &self,
         lanes: &SeededLanes,
-        seeds: &Seeds,
+        sk_seed: &[u8],
         at: Place,
         c: u32,
         x: &mut LaneNodes,
         y: &mut LaneNodes,
         _out: &mut [u8],
     ) {
-        two_secrets(lanes, seeds, at, c, c + 1, x, y);
+        two_secrets(lanes, sk_seed, at, c, c + 1, x, y);
         let x_adrs = key_adrs(at, AdrsType::WotsHash, c);
         let y_adrs = key_adrs(at, AdrsType::WotsHash, c + 1);
-        lanes.chains_two(&x_adrs, &y_adrs, x, y, 0, seeds.set.w() - 1);
+        lanes.chains_two(&x_adrs, &y_adrs, x, y, 0, lanes.set.w() - 1);
     }
 
     fn ends(
         &self,
         lanes: &SeededLanes,
-        seeds: &Seeds,
+        sk_seed: &[u8],
         at: Place,
         c: u32,
         _out: &mut [u8],
     ) -> LaneNodes {
         let adrs = key_adrs(at, AdrsType::WotsHash, c);
-        let values = secrets(lanes, seeds, at, c);
-        lanes.chains(&adrs, &values, 0, seeds.set.w() - 1)
+        let values = secrets(lanes, sk_seed, at, c);
+        lanes.chains(&adrs, &values, 0, lanes.set.w() - 1)
     }
 }
 
 /// The secrets of chain `c` of eight keys, of which the first is at this place.
-pub(crate) fn secrets(lanes: &SeededLanes, seeds: &Seeds, at: Place, c: u32) -> LaneNodes
-    requires lanes { IsSeededLanes lanes.now (params seeds.now.set) seeds.now.pk_seed.now }
+pub(crate) fn secrets(lanes: &SeededLanes, sk_seed: &[u8], at: Place, c: u32) -> LaneNodes
+    requires sk_seed { length sk_seed.now ≡ (params lanes.now.set).n }
     requires pairs { at.pair + GROUP ≤ 2 ^ 32 }
-    ensures { AreAfter (params seeds.now.set) seeds.now.sk_seed.now seeds.now.pk_seed.now at c 0 result }
+    ensures { AreAfter (params lanes.now.set) sk_seed.now lanes.now.pk_seed.now at c 0 result }
 {
-    lanes.prf(seeds.sk_seed, &key_adrs(at, AdrsType::WotsPrf, c))
+    lanes.prf(sk_seed, &key_adrs(at, AdrsType::WotsPrf, c))
 }
 
-/// The secrets of two chains of eight keys, of which the first is at this place: those of chain `a` are written into
+/// The secrets of two chains of eight keys, of which the first is at this place. Those of chain `a` are written into
 /// `x`, and those of chain `b` into `y`.
 pub(crate) fn two_secrets(
     lanes: &SeededLanes,
-    seeds: &Seeds,
+    sk_seed: &[u8],
     at: Place,
     a: u32,
     b: u32,
     x: &mut LaneNodes,
     y: &mut LaneNodes,
 )
-    requires lanes { IsSeededLanes lanes.now (params seeds.now.set) seeds.now.pk_seed.now }
+    requires sk_seed { length sk_seed.now ≡ (params lanes.now.set).n }
     requires pairs { at.pair + GROUP ≤ 2 ^ 32 }
-    ensures x { AreAfter (params seeds.now.set) seeds.now.sk_seed.now seeds.now.pk_seed.now at a 0 x.new }
-    ensures y { AreAfter (params seeds.now.set) seeds.now.sk_seed.now seeds.now.pk_seed.now at b 0 y.new }
+    ensures x { AreAfter (params lanes.now.set) sk_seed.now lanes.now.pk_seed.now at a 0 x.new }
+    ensures y { AreAfter (params lanes.now.set) sk_seed.now lanes.now.pk_seed.now at b 0 y.new }
 {
     let x_adrs = key_adrs(at, AdrsType::WotsPrf, a);
     let y_adrs = key_adrs(at, AdrsType::WotsPrf, b);
-    lanes.prf_two(seeds.sk_seed, &x_adrs, &y_adrs, x, y);
+    lanes.prf_two(sk_seed, &x_adrs, &y_adrs, x, y);
 }

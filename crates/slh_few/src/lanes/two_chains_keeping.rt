@@ -1,4 +1,4 @@
-//! Chains of eight WOTS+ keys at once, with what `wots_pk_keeping` keeps of one of the keys.
+//! Chains of eight WOTS+ keys at once, with the checkpoints of one of the keys (FIPS 205, Algorithm 6).
 ghost use Rattle.std.specs.Prelude.{◌≡◌, ◌≢◌, ℕ, ◌+◌, ◌-◌, ◌*◌, ◌<◌, length};
 ghost use Rattle.slh_params.specs.Params.{len};
 ghost use Rattle.slh_params.specs.ParamSet.{params};
@@ -10,11 +10,11 @@ ghost use Rattle.slh_few.specs.Parts.{part};
 use crate::kept_chains::{kept_count, put_value, spacing};
 use crate::lanes::keys::key_adrs;
 use crate::lanes::two_chains::{Kept, secrets, two_secrets};
-use crate::place::{Place, Seeds};
+use crate::place::Place;
 use slh_lanes::{GROUP, LaneNodes, SeededLanes, lane_node};
 use slh_params::{AdrsType, ParamSet};
 
-/// The kept values of the chains of the key in this lane. The chains are run from one kept value to the next.
+/// The checkpoints of the chains of the key in this lane. The chains are run from one checkpoint to the next.
 #[derive(Drop)]
 pub(crate) struct KeptValues {
     pub(crate) lane: usize,
@@ -32,52 +32,51 @@ impl Kept for KeptValues {
     fn two_ends(
         &self,
         lanes: &SeededLanes,
-        seeds: &Seeds,
+        sk_seed: &[u8],
         at: Place,
         c: u32,
         x: &mut LaneNodes,
         y: &mut LaneNodes,
         out: &mut [u8],
     ) {
-        let every = spacing(seeds.set);
-        let last = kept_count(seeds.set) - 1;
-        two_secrets(lanes, seeds, at, c, c + 1, x, y);
+        let every = spacing(lanes.set);
+        let last = kept_count(lanes.set) - 1;
+        two_secrets(lanes, sk_seed, at, c, c + 1, x, y);
         let x_adrs = key_adrs(at, AdrsType::WotsHash, c);
         let y_adrs = key_adrs(at, AdrsType::WotsHash, c + 1);
         for j in 0..last {
-            put_two_values(seeds.set, out, c as usize, j as usize, self.lane, x, y);
+            put_two_values(lanes.set, out, c as usize, j as usize, self.lane, x, y);
             lanes.chains_two(&x_adrs, &y_adrs, x, y, j * every, every);
         }
-        put_two_values(seeds.set, out, c as usize, last as usize, self.lane, x, y);
+        put_two_values(lanes.set, out, c as usize, last as usize, self.lane, x, y);
         lanes.chains_two(&x_adrs, &y_adrs, x, y, last * every, every - 1);
     }
 
     fn ends(
         &self,
         lanes: &SeededLanes,
-        seeds: &Seeds,
+        sk_seed: &[u8],
         at: Place,
         c: u32,
         out: &mut [u8],
     ) -> LaneNodes {
-        let n = seeds.set.n();
-        let every = spacing(seeds.set);
-        let last = kept_count(seeds.set) - 1;
+        let n = lanes.set.n();
+        let every = spacing(lanes.set);
+        let last = kept_count(lanes.set) - 1;
         let adrs = key_adrs(at, AdrsType::WotsHash, c);
-        let mut nodes = secrets(lanes, seeds, at, c);
+        let mut nodes = secrets(lanes, sk_seed, at, c);
         for j in 0..last {
             let value = lane_node(&nodes, self.lane, n);
-            put_value(seeds.set, out, c as usize, j as usize, &value);
+            put_value(lanes.set, out, c as usize, j as usize, &value);
             nodes = lanes.chains(&adrs, &nodes, j * every, every);
         }
         let value = lane_node(&nodes, self.lane, n);
-        put_value(seeds.set, out, c as usize, last as usize, &value);
+        put_value(lanes.set, out, c as usize, last as usize, &value);
         lanes.chains(&adrs, &nodes, last * every, every - 1)
     }
 }
 
-/// Writes value `j` of the kept values of two chains: that of chain `c` from this lane of `x`, and that of chain
-/// `c + 1` from this lane of `y`.
+/// Writes checkpoint `j` of two chains: that of chain `c` from this lane of `x`, and that of chain `c + 1` from `y`.
 fn put_two_values(
     set: ParamSet,
     kept: &mut [u8],

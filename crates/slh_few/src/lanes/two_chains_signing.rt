@@ -1,8 +1,8 @@
-//! Chains of eight WOTS+ keys at once, with the values that a signature by one of the keys has.
+//! Chains of eight WOTS+ keys at once, with the signature by one of the keys (FIPS 205, Algorithms 6 and 7).
 ghost use Rattle.std.specs.Prelude.{◌≡◌, ◌≢◌, ℕ, ◌+◌, ◌-◌, ◌*◌, ◌^◌, ◌≤◌, ◌<◌, length, slice_index};
 ghost use Rattle.slh_params.specs.Params.{len};
 ghost use Rattle.slh_params.specs.ParamSet.{params};
-ghost use Rattle.slh_lanes.specs.Lanes.{IsSeededLanes, value_at};
+ghost use Rattle.slh_lanes.specs.Lanes.{value_at};
 ghost use Rattle.slh_few.specs.KeyStreams.{AreEnds};
 ghost use Rattle.slh_few.specs.Parts.{part};
 ghost use Rattle.slh_few.specs.SignedValues.{Fits, signed_value};
@@ -11,7 +11,7 @@ use crate::lanes::chains::ChainNumbers;
 use crate::lanes::keys::key_adrs;
 use crate::lanes::two_chains::{Kept, secrets, two_secrets};
 use crate::nodes::put_part;
-use crate::place::{Place, Seeds};
+use crate::place::Place;
 use slh_lanes::{GROUP, LaneNodes, SeededLanes, lane_node};
 use slh_params::{AdrsType, ParamSet};
 
@@ -33,7 +33,7 @@ impl<'a> Kept for SignedValues<'a> {
     fn two_ends(
         &self,
         lanes: &SeededLanes,
-        seeds: &Seeds,
+        sk_seed: &[u8],
         at: Place,
         c: u32,
         x: &mut LaneNodes,
@@ -41,26 +41,26 @@ impl<'a> Kept for SignedValues<'a> {
         out: &mut [u8],
     ) {
         if self.digits[c as usize] <= self.digits[c as usize + 1] {
-            self.ends_in_order(lanes, seeds, at, c, c + 1, x, y, out);
+            self.ends_in_order(lanes, sk_seed, at, c, c + 1, x, y, out);
         } else {
-            self.ends_in_order(lanes, seeds, at, c + 1, c, y, x, out);
+            self.ends_in_order(lanes, sk_seed, at, c + 1, c, y, x, out);
         }
     }
 
     fn ends(
         &self,
         lanes: &SeededLanes,
-        seeds: &Seeds,
+        sk_seed: &[u8],
         at: Place,
         c: u32,
         out: &mut [u8],
     ) -> LaneNodes {
         let steps = self.digits[c as usize];
         let adrs = key_adrs(at, AdrsType::WotsHash, c);
-        let secrets = secrets(lanes, seeds, at, c);
+        let secrets = secrets(lanes, sk_seed, at, c);
         let values = lanes.chains(&adrs, &secrets, 0, steps);
-        self.put(seeds.set, out, c, &values);
-        lanes.chains(&adrs, &values, steps, seeds.set.w() - 1 - steps)
+        self.put(lanes.set, out, c, &values);
+        lanes.chains(&adrs, &values, steps, lanes.set.w() - 1 - steps)
     }
 }
 
@@ -77,12 +77,12 @@ impl<'a> SignedValues<'a> {
         put_part(out, n, c as usize, &lane_node(values, self.lane, n));
     }
 
-    /// What `two_ends` does with chains `a` and `b`, of which `a` has no more steps to its value. Both chains are run
-    /// to the value of `a`, then to that of `b`, and then to their ends.
+    /// As `two_ends`, for chains `a` and `b`, of which `a` has no more steps to its value. Both chains are run to the
+    /// value of `a`, then to that of `b`, and then to their ends.
     fn ends_in_order(
         &self,
         lanes: &SeededLanes,
-        seeds: &Seeds,
+        sk_seed: &[u8],
         at: Place,
         a: u32,
         b: u32,
@@ -90,32 +90,32 @@ impl<'a> SignedValues<'a> {
         y: &mut LaneNodes,
         out: &mut [u8],
     )
-        requires lanes { IsSeededLanes lanes.now (params seeds.now.set) seeds.now.pk_seed.now }
+        requires sk_seed { length sk_seed.now ≡ (params lanes.now.set).n }
         requires pairs { at.pair + GROUP ≤ 2 ^ 32 }
-        requires fits { Fits self.now (params seeds.now.set) }
-        requires a { a < len (params seeds.now.set) }
-        requires b { b < len (params seeds.now.set) }
+        requires fits { Fits self.now (params lanes.now.set) }
+        requires a { a < len (params lanes.now.set) }
+        requires b { b < len (params lanes.now.set) }
         requires two { a ≢ b }
         requires order { slice_index self.now.digits.now a ≤ slice_index self.now.digits.now b }
-        requires out { length out.old ≡ len (params seeds.now.set) * (params seeds.now.set).n }
-        ensures x { AreEnds (params seeds.now.set) seeds.now.sk_seed.now seeds.now.pk_seed.now at a x.new }
-        ensures y { AreEnds (params seeds.now.set) seeds.now.sk_seed.now seeds.now.pk_seed.now at b y.new }
-        ensures a { let p = params seeds.now.set in
-            part p.n out.new a ≡ signed_value self.now p seeds.now.sk_seed.now seeds.now.pk_seed.now at a }
-        ensures b { let p = params seeds.now.set in
-            part p.n out.new b ≡ signed_value self.now p seeds.now.sk_seed.now seeds.now.pk_seed.now at b }
-        ensures others { let p = params seeds.now.set in
+        requires out { length out.old ≡ len (params lanes.now.set) * (params lanes.now.set).n }
+        ensures x { AreEnds (params lanes.now.set) sk_seed.now lanes.now.pk_seed.now at a x.new }
+        ensures y { AreEnds (params lanes.now.set) sk_seed.now lanes.now.pk_seed.now at b y.new }
+        ensures a { let p = params lanes.now.set in
+            part p.n out.new a ≡ signed_value self.now p sk_seed.now lanes.now.pk_seed.now at a }
+        ensures b { let p = params lanes.now.set in
+            part p.n out.new b ≡ signed_value self.now p sk_seed.now lanes.now.pk_seed.now at b }
+        ensures others { let p = params lanes.now.set in
             (i : ℕ) → i ≢ a → i ≢ b → part p.n out.new i ≡ part p.n out.old i }
     {
         let low = self.digits[a as usize];
         let high = self.digits[b as usize];
         let x_adrs = key_adrs(at, AdrsType::WotsHash, a);
         let y_adrs = key_adrs(at, AdrsType::WotsHash, b);
-        two_secrets(lanes, seeds, at, a, b, x, y);
+        two_secrets(lanes, sk_seed, at, a, b, x, y);
         lanes.chains_two(&x_adrs, &y_adrs, x, y, 0, low);
-        self.put(seeds.set, out, a, x);
+        self.put(lanes.set, out, a, x);
         lanes.chains_two(&x_adrs, &y_adrs, x, y, low, high - low);
-        self.put(seeds.set, out, b, y);
-        lanes.chains_two(&x_adrs, &y_adrs, x, y, high, seeds.set.w() - 1 - high);
+        self.put(lanes.set, out, b, y);
+        lanes.chains_two(&x_adrs, &y_adrs, x, y, high, lanes.set.w() - 1 - high);
     }
 }

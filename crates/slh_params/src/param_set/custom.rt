@@ -1,4 +1,4 @@
-//! Parameter sets of any six numbers that are a valid record.
+//! Parameter sets of any six numbers that are a valid record (FIPS 205, section 11, has six records).
 ghost use Rattle.std.specs.Prelude.{◌≡◌, ◌↔◌, Some, None, IsOk, IfOk, IfErr, MatchOption, IsTrue, ◌&&◌, nat_le, codes};
 ghost use Rattle.slh_params.specs.Params.{numbers};
 ghost use Rattle.slh_params.specs.ParamSet.{params};

@@ -1,3 +1,4 @@
+//! Tests of the board: draws, stops, and each growth of `start` refused.
 use super::threads::run;
 use crate::shared::equal;
 use linked_list_allocator::LocalHeap;

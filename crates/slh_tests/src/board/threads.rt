@@ -1,4 +1,4 @@
-//! The pool of threads that the tests run: as many threads as seats, each claiming until it is told to end.
+//! The pool of threads that the tests run: as many threads as seats, each claiming until it gets an end.
 ghost use Rattle.std.specs.Prelude.{◌≡◌, ◌+◌, ◌≤◌, IfSome, vec_len};
 ghost use Rattle.std.specs.List.{All};
 ghost use Rattle.std.specs.Thread.{IsSync};
@@ -9,7 +9,7 @@ use std::alloc::Global;
 use std::thread::{Threads, join};
 
 /// Claims until the seat is done or stopped, and stops the board at the job `last`. The jobs drawn, in their order, or
-/// `None` where memory ran out.
+/// `None` if memory ran out.
 pub fn claim_all(
     alloc: Global,
     board: &Board,
@@ -38,7 +38,7 @@ pub fn claim_all(
     unreachable!()
 }
 
-/// The seats and the jobs drawn, once each seat has claimed on a thread of its own.
+/// The seats and the jobs drawn, after each seat has claimed on a separate thread.
 pub fn run<R: Threads + Sync>(
     rt: &R,
     alloc: Global,

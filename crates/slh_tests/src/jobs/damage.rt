@@ -4,7 +4,8 @@ ghost use Rattle.slh_params.specs.ParamSet.{params};
 ghost use Rattle.slh_jobs.specs.Tags.{start_len as length_of_start};
 
 use super::fixtures::{OF_ABC, answers, begin_pure, flip, join, levels, sha256_hex};
-use crate::shared::{equal, key, key_from};
+use crate::seeds::{key, key_from};
+use crate::shared::equal;
 use slh_core::SecretKey;
 use slh_jobs::{JobFault, Levels, answer_len, answer_start, answers_len, sign_jobs};
 use slh_params::ParamSet;
@@ -12,8 +13,8 @@ use std::alloc::Global;
 use std::process::Abort;
 use std::test::Fail;
 
-/// Checks that answers are refused as not fitting together where the bytes from `from` on, every `step`-th of `count`,
-/// have their first bit flipped.
+/// Checks that answers are refused as not fitting together if a bit is flipped: the first one of every `step`-th byte
+/// of `count` from `from` on.
 fn check_flipped(
     rt: &impl Abort,
     alloc: Global,
@@ -56,7 +57,7 @@ fn signing_job(rt: &impl Abort, levels: &Levels, answers: &[u8], first: u32) -> 
     }
 }
 
-/// Where the answer of a job begins.
+/// The place of a job's answer.
 fn place(rt: &impl Abort, levels: &Levels, job: u32) -> usize
     ensures { result < 1000000000 }
 {
@@ -66,8 +67,8 @@ fn place(rt: &impl Abort, levels: &Levels, job: u32) -> usize
     start
 }
 
-/// Under 128f with levels 1 and 1 an answer of an XMSS tree has a node and a tag of 16 bytes, a path of 2 nodes and 35
-/// chains of 16 values; one of a FORS tree a node, a tag, a path of 5 nodes and a secret.
+/// 128f with levels 1 and 1: an answer of an XMSS tree has a node and a tag of 16 bytes, a path of 2 nodes and 35
+/// chains of 16 values. An answer of a FORS tree has a node, a tag, a path of 5 nodes and a secret.
 #[test]
 fn one_bit_in_each_field(rt: HostRuntime) -> Result<(), Fail> {
     let alloc = rt.alloc();
@@ -88,14 +89,14 @@ fn one_bit_in_each_field(rt: HostRuntime) -> Result<(), Fail> {
         for from in [at, at + 16, other, other + 16, at + 32, at + 48] {
             check_flipped(&rt, alloc, &levels, &sk, &start, &mut answers, (from, 1, 1))?;
         }
-        // All kept values of the last chain, or the secret.
+        // All checkpoints of the last chain, or the secret.
         let own = if first < 44 {
             (at + 64 + 34 * 256, 16, 16)
         } else {
             (at + 112, 1, 1)
         };
         check_flipped(&rt, alloc, &levels, &sk, &start, &mut answers, own)?;
-        // What the answer of the other range holds after its tag is not read.
+        // The bytes after the tag, in the answer of the other range, are not read.
         flip(&rt, &mut answers, other + 40);
         let sig = join(&rt, alloc, &levels, &sk, &start, &answers)??;
         equal(&rt, &sha256_hex(alloc, &sig)?.as_str(), &OF_ABC);
@@ -103,7 +104,7 @@ fn one_bit_in_each_field(rt: HostRuntime) -> Result<(), Fail> {
     Ok(())
 }
 
-/// Checks that answers are refused in which those of one job stand in the place of those of another.
+/// Checks that answers are refused if those of one job are in the place of those of another.
 fn check_moved(
     rt: &impl Abort,
     alloc: Global,
@@ -142,7 +143,7 @@ fn answers_of_others(rt: HostRuntime) -> Result<(), Fail> {
     let levels = levels(sk.set(), 1, 1)?;
     let start = begin_pure(alloc, b"abc", &sk)?;
     let own = answers(&rt, alloc, &levels, &sk, &start)?;
-    // Another job's: of the same tree, of another layer, of another FORS tree.
+    // Another job's: of its tree, of another layer, of another FORS tree.
     for jobs in [
         (0, 1),
         (1, 0),

@@ -1,4 +1,4 @@
-//! What the tests of jobs share.
+//! The fixtures of the tests of jobs.
 ghost use Rattle.std.specs.Prelude.{◌≡◌, IfOk, length};
 ghost use Rattle.slh_params.specs.ParamSet.{params};
 ghost use Rattle.slh_core.specs.Randomizers.{HasLength};
@@ -83,7 +83,7 @@ pub(crate) fn answers(
     Ok(answers)
 }
 
-/// The signature that answers give, in a buffer of bytes 55; that buffer is unchanged where they are refused.
+/// The signature that answers give, in a buffer of bytes 55; that buffer is unchanged if they are refused.
 pub(crate) fn join(
     rt: &impl Abort,
     alloc: Global,

@@ -1,6 +1,7 @@
 //! Keys from jobs, and the refusals.
 use super::fixtures::{flip, levels};
-use crate::shared::{counting, equal, key};
+use crate::seeds::{counting, key};
+use crate::shared::equal;
 use slh_core::{Form, Randomizer, SecretKey};
 use slh_jobs::{
     JobFault, Levels, key_answer_len, keygen_job, keygen_jobs, keygen_join, sign_start, start_len,
@@ -82,7 +83,7 @@ fn keys(rt: HostRuntime) -> Result<(), Fail> {
     Ok(())
 }
 
-/// The answers of a set are refused for another with the same n and as many jobs.
+/// The answers of a set are refused for another with equal n and as many jobs.
 #[test]
 fn key_answers_of_another_set(rt: HostRuntime) -> Result<(), Fail> {
     for (small, fast) in [

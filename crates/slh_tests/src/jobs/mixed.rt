@@ -4,7 +4,8 @@ ghost use Rattle.slh_params.specs.ParamSet.{params};
 ghost use Rattle.slh_jobs.specs.Tags.{start_len as length_of_start};
 
 use super::fixtures::{answers, begin_pure, flip, join, levels};
-use crate::shared::{equal, key};
+use crate::seeds::key;
+use crate::shared::equal;
 use slh_core::SecretKey;
 use slh_jobs::{JobFault, Levels, answer_len, answer_start, sign_job, sign_jobs};
 use slh_params::ParamSet;
@@ -53,7 +54,7 @@ fn check_bad_start(
     Ok(())
 }
 
-/// The same of a start with the first bit of the byte at a place flipped.
+/// As above, for a start with the first bit of the byte at a place flipped.
 fn check_changed_start(
     rt: &impl Abort,
     alloc: Global,
@@ -130,7 +131,7 @@ fn trees(levels: &Levels) -> [(u32, u32); 5] {
     ]
 }
 
-/// Checks that the answers that another key made of its own start are refused under this key: all of a tree, those of
+/// Checks that the answers of another key, for its start, are refused under this key. They are all of a tree, those of
 /// each of its ranges, and all of them.
 fn check_other_key(
     rt: &impl Abort,

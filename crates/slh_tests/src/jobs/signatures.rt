@@ -1,6 +1,6 @@
 //! Signatures from jobs, against those of OpenSSL 3.5 and of a reference in Python.
 use super::fixtures::{OF_ABC, answers, begin_pure, join, levels, sha256_hex};
-use crate::shared::key;
+use crate::seeds::key;
 use slh_core::{SecretKey, keygen_internal};
 use slh_jobs::Levels;
 use slh_params::ParamSet;
@@ -75,7 +75,7 @@ fn other_sets(rt: HostRuntime) -> Result<(), Fail> {
 }
 
 /// A set of other numbers than the standard's, the seeds of a key end to end, and the SHA-256 of its deterministic
-/// signature of "abc" by a plain reference in Python (`vectors/records.json`).
+/// signature of "abc" by a plain reference in Python (`tests/vectors/records.json`).
 #[derive(Clone, Copy)]
 struct Sample {
     label: &'static str,

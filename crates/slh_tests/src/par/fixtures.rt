@@ -4,7 +4,7 @@ ghost use Rattle.std.specs.List.{list_all};
 ghost use Rattle.slh_params.specs.Params.{sig_len};
 ghost use Rattle.slh_params.specs.ParamSet.{params};
 
-use crate::shared::counting;
+use crate::seeds::counting;
 use slh_core::SecretKey;
 use slh_par::{Cuts, Cutting, Gate, ParFault, Workers, keygen_par};
 use slh_params::ParamSet;
@@ -15,7 +15,7 @@ use std::thread::Threads;
 /// The set of the tests.
 pub(crate) const SET: ParamSet = ParamSet::S128f;
 
-/// Nothing is written over these bytes where a call is refused.
+/// Nothing is written over these bytes if a call is refused.
 pub(crate) const UNWRITTEN: u8 = 0xa5;
 
 /// The key whose seeds are the bytes 00, 01, 02, .., by several workers.

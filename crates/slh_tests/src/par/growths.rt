@@ -1,7 +1,8 @@
 //! Calls with the 1st growth of memory refused, then the 2nd, and so on until a call meets no refusal.
 use super::fixtures::{SET, is_unwritten, key_par, unwritten, whole_trees, workers};
 use super::signing::{FORMS, Form};
-use crate::shared::{MANY, check_count, equal, key};
+use crate::seeds::key;
+use crate::shared::{MANY, check_count, equal};
 use refusing_allocator::Refusing;
 use slh_par::{Cuts, Cutting, NoGate, ParFault, VerifyItem, verify_all};
 use std::alloc::Global;
@@ -84,7 +85,7 @@ fn verify_all_refuses_at_each_growth(rt: HostRuntime) -> Result<(), Fail> {
         sig,
     };
     let items = [item(b""), item(good.as_slice())];
-    // One more worker asks for growths of its own, so their count tells whether the number of workers is handed on.
+    // One more worker asks for more growths, so their count shows whether the number of workers is passed on.
     let mut before = 0u64;
     for number in [1u8, 2] {
         let mut refusals = 0u64;

@@ -2,7 +2,8 @@
 use super::fixtures::{SET, key_par, whole_trees, workers};
 use super::gates::{FirstMeetsSecond, FirstWaitsFor, Watch};
 use super::signing::{FORMS, Form};
-use crate::shared::{equal, key};
+use crate::seeds::key;
+use crate::shared::equal;
 use slh_par::{Cuts, Cutting};
 use std::alloc::Global;
 use std::process::Abort;

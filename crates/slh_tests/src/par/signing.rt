@@ -10,14 +10,14 @@ use std::alloc::{Allocator, Global};
 use std::test::Fail;
 use std::thread::Threads;
 
-/// What is signed.
+/// The signed content.
 #[derive(Clone, Copy, Debug)]
 pub(crate) enum Form {
     /// The message itself.
     Pure,
     /// Its digest under SHA-256.
     PreHash,
-    /// The same, where the caller has the digest.
+    /// As above, if the caller has the digest.
     Digest,
 }
 
@@ -89,7 +89,7 @@ impl Form {
         Ok(sig)
     }
 
-    /// The same by one thread.
+    /// As above, by one thread.
     pub(crate) fn abc(self, alloc: Global, sk: &SecretKey) -> Result<Vec<u8>, Fail>
         ensures { IfOk result (λ sig. length sig.items ≡ sig_len (params sk.now.set)) }
     {

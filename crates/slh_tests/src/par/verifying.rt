@@ -1,7 +1,8 @@
 //! Many signatures at once.
 use super::fixtures::{SET, workers};
 use super::signing::Form;
-use crate::shared::{equal, key};
+use crate::seeds::key;
+use crate::shared::equal;
 use slh_core::PreHash;
 use slh_par::{VerifyItem, verify_all};
 use std::test::Fail;

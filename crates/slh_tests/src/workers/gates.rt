@@ -1,9 +1,9 @@
-// Gates for tests.
+//! Gates for tests.
 use crate::shared::turns_until;
 use slh_workers::{Gate, Go};
 use std::sync::atomic::{AtomicU64, Ordering};
 
-// Two jobs wait for each other; then job 0 may run, and the other is told Stop.
+// Two jobs wait for each other; then job 0 may run, and the other gets Stop.
 #[derive(Drop)]
 pub struct BothThenStop {
     pub entered: AtomicU64,
@@ -24,12 +24,12 @@ impl Gate for BothThenStop {
     fn leave(&self, _worker: u8, _job: u32) {}
 }
 
-// As many jobs as workers wait for each other; each worker's number is seen, and told again after its job.
+// As many jobs as workers wait for each other; each worker's number is seen before its job and after it.
 #[derive(Drop)]
 pub struct Numbered {
     pub workers: u64,
     pub entered: AtomicU64,
-    // the bit 2^w for each worker w that was asked about, and that was told of a job's end
+    // the bit 2^w for each worker w that asked, and that reported a job's end
     pub asked: AtomicU64,
     pub told: AtomicU64,
 }

@@ -1,4 +1,4 @@
-// Calls with the 1st growth refused, then the 2nd, and so on until a call meets no refusal.
+//! Tests of runs with the 1st growth refused, then the 2nd, and so on until a call meets no refusal.
 use super::works::{AfterRefusal, Lists, Recorded, Squares};
 use crate::shared::{MANY, check_count, equal};
 use refusing_allocator::Refusing;
@@ -10,8 +10,8 @@ use std::sync::atomic::Ordering;
 use std::test::Fail;
 use std::thread::Threads;
 
-// What that many workers give where each growth is granted. Where growth `nth` was refused, they say so, and it is
-// `None`.
+// The answers of that many workers if each growth is granted. If growth `nth` was refused, they report that, and the
+// result is `None`.
 fn run_if_granted<R: Abort + AllocGlobal + Threads + Sync, W: Work>(
     rt: &R,
     alloc: &Refusing<Global>,
@@ -128,7 +128,7 @@ fn room_for_an_answer_is_made_before_its_job_is_entered(rt: HostRuntime) -> Resu
     Ok(())
 }
 
-// Growths up to the first answer of three workers: each is refused before a job has run, so that no worker runs all of
+// Growths up to the first answer of three workers. Each is refused before a job has run, so that no worker runs all of
 // the jobs that are left.
 #[test]
 fn a_refusal_before_the_first_answer_stops_all_workers(rt: HostRuntime) -> Result<(), Fail> {

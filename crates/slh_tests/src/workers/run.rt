@@ -1,4 +1,4 @@
-// Runs of all jobs.
+//! Tests of runs of all jobs: places, threads, gates, stops and want of memory.
 use super::gates::{BothThenStop, Numbered};
 use super::works::{FirstWaits, Meeting, Recorded, Squares};
 use crate::shared::{StopAt, equal};

@@ -1,4 +1,4 @@
-// One worker after another at the seats of a board, on this thread.
+//! Tests of one worker after another at the seats of a board, on one thread.
 use super::works::Squares;
 use crate::shared::{StopAt, equal};
 use slh_board::{Board, Tally};
@@ -29,8 +29,8 @@ fn the_first_worker_leaves_no_job_to_the_second(rt: HostRuntime) -> Result<(), F
     Ok(())
 }
 
-// Job 3 ends the first worker by `end`, and the second one finds the board stopped. The gate was told `left` ends of
-// jobs.
+// Job 3 ends the first worker by `end`, and the second one finds the board stopped. The gate was informed of `left`
+// ends of jobs.
 fn check_end_at_job_3<R: Abort + AllocGlobal>(
     rt: &R,
     work: &Squares,

@@ -7,7 +7,7 @@ use slh_workers::{Gate, Go, NoMemory, Work};
 use std::alloc::{Allocator, Global};
 use std::sync::atomic::{AtomicU64, Ordering};
 
-// The answer of a job that waits for the counter to reach the number; where the turns run out, it says that memory ran
+// The answer of a job that waits for the counter to reach the number; if the turns run out, it reports that memory ran
 // out.
 fn await_number(counter: &AtomicU64, number: u64) -> Result<(), NoMemory> {
     if turns_until(counter, number) {
@@ -17,7 +17,7 @@ fn await_number(counter: &AtomicU64, number: u64) -> Result<(), NoMemory> {
     }
 }
 
-/// The square of each number below `jobs`. The job `refused`, where there is one, is refused memory.
+/// The square of each number below `jobs`. The job `refused`, if there is one, is refused memory.
 #[derive(Drop)]
 pub struct Squares {
     pub jobs: u32,
@@ -133,9 +133,9 @@ impl<A: Allocator + Clone + Send + Sync> Work for Lists<A> {
 /// count each call that comes before its turn or a second time.
 #[derive(Drop)]
 pub struct Recorded {
-    /// The job at which the gate answers Stop, where there is one.
+    /// The job at which the gate answers Stop, if there is one.
     pub stop: Option<u32>,
-    /// The job that is refused memory, where there is one.
+    /// The job that is refused memory, if there is one.
     pub refused: Option<u32>,
     pub entered: AtomicU64,
     pub ran: AtomicU64,
@@ -159,7 +159,7 @@ impl Recorded {
         }
     }
 
-    // Adds the job to `here`. Its turn has come where the step before has seen it, and this one has not.
+    // Adds the job to `here`. Its turn has come if the step before has seen it, and this one has not.
     fn record(&self, job: u32, before: Option<&AtomicU64>, here: &AtomicU64) {
         let bit = 1u64.unbounded_shl(job);
         let came = match before {
@@ -208,8 +208,8 @@ impl Work for Recorded {
     }
 }
 
-/// Many jobs, each of which turns until the allocator has refused a growth, and then some while more: a worker that is
-/// not told of the refusal runs all of them.
+/// Many jobs, each of which turns until the allocator has refused a growth, and then a while longer. A worker that does
+/// not learn of the refusal runs all of them.
 #[derive(Drop)]
 pub struct AfterRefusal {
     pub alloc: Refusing<Global>,

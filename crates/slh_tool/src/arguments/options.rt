@@ -1,3 +1,4 @@
+//! The options of the command line, as `clap` takes them.
 ghost use Rattle.std.specs.Prelude.{◌≡◌, false, IfOk};
 ghost use Rattle.clap.specs.Words.{rule_of};
 ghost use Rattle.slh_tool.specs.Arguments.{AddsOptions, HasNoGlobals, cuts_rules, flag, form_rules, levels_rule, levels_rules, message_rules, optional, required, safety_rules, work_rules, workers_rule};
@@ -62,7 +63,7 @@ N 0 to 8";
 const FORS_LEVELS_HELP: &str = "Cuts each FORS tree into 2^N ranges for the workers,
 N 0 to 8";
 
-/// The same command, which also takes the levels of both kinds of tree.
+/// The command, which then also takes the levels of both kinds of tree.
 fn with_levels<'a>(alloc: Global, command: Command<'a>) -> Result<Command<'a>, AllocError>
     requires { HasNoGlobals command }
     ensures { IfOk result (AddsOptions command.entry levels_rules) }
@@ -78,7 +79,7 @@ const XMSS_CUTS_HELP: &str = "Cuts each XMSS tree before these leaves instead, a
 const FORS_CUTS_HELP: &str = "Cuts each FORS tree before these leaves instead, as
 2,4,6: at most 255 rising numbers";
 
-/// The same command, which also takes the cut points of both kinds of tree.
+/// The command, which then also takes the cut points of both kinds of tree.
 fn with_cuts<'a>(alloc: Global, command: Command<'a>) -> Result<Command<'a>, AllocError>
     requires { HasNoGlobals command }
     ensures { IfOk result (AddsOptions command.entry cuts_rules) }
@@ -88,7 +89,7 @@ fn with_cuts<'a>(alloc: Global, command: Command<'a>) -> Result<Command<'a>, All
         .arg(optional(alloc, "fors-cuts", "LIST", FORS_CUTS_HELP))
 }
 
-/// The same command, which also takes how its work is shared among workers.
+/// The command, which then also takes the workers and the cuts.
 pub(crate) fn with_work<'a>(alloc: Global, command: Command<'a>) -> Result<Command<'a>, AllocError>
     requires { HasNoGlobals command }
     ensures { IfOk result (AddsOptions command.entry work_rules) }
@@ -120,7 +121,7 @@ set, 48 for a 192 set, 64 for a 256 set
 
 const TWICE_HELP: &str = "Signs twice and compares: 38 Fault if a byte differs";
 
-/// The same command, which also takes a randomizer, and whether to sign twice.
+/// The command, which then also takes a randomizer, and whether to sign twice.
 pub(crate) fn with_safety<'a>(
     alloc: Global,
     command: Command<'a>,
@@ -140,7 +141,7 @@ const PREHASH_HELP: &str = "The pre-hash form with SHA2-224, SHA2-256, SHA2-384,
 SHA2-512, SHA2-512/224 or SHA2-512/256
 [default: the pure form]";
 
-/// The same command, which also takes the form in which the message is signed.
+/// The command, which then also takes the form in which the message is signed.
 pub(crate) fn with_form<'a>(alloc: Global, command: Command<'a>) -> Result<Command<'a>, AllocError>
     requires { HasNoGlobals command }
     ensures { IfOk result (AddsOptions command.entry form_rules) }

@@ -80,7 +80,7 @@ impl Sink for Full {
     }
 }
 
-/// An output that takes this many bytes, at most three at a time, keeps them, and then fails.
+/// An output that stores this many bytes, at most three at a time, and then fails.
 #[derive(Drop)]
 pub(super) struct Narrow {
     pub(super) taken: Vec<u8>,

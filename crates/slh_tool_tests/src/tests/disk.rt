@@ -52,7 +52,7 @@ fn signature<R: AllocGlobal + Threads + Sync>(
     Ok(run_over(rt, &SIGN, &mut Folder::new(&files))?.output)
 }
 
-/// What a command answers over the files of a runtime.
+/// The answer of a command over the files of a runtime.
 fn answer_over_own<'f, R: AllocGlobal + Threads + Sync>(
     rt: &R,
     words: &[&str],
@@ -112,8 +112,8 @@ fn reads_files_in_any_pieces(rt: HostRuntime) -> Result<(), Fail> {
     check_ways(&rt, SECRET, message.as_slice(), signature.as_slice())
 }
 
-/// How many reads the command makes, where each of them ends it by 32 if it fails; and how many reads follow those that
-/// fail, in all.
+/// The number of reads that the command makes, each of which ends it by 32 if it fails, and the number of reads that
+/// follow the failed ones.
 fn reads<'f, R: Abort + AllocGlobal + Threads + Sync>(
     rt: &R,
     words: &[&str],
@@ -143,7 +143,7 @@ fn tells_each_read_that_fails(rt: HostRuntime) -> Result<(), Fail> {
         ("tests", b"[]".as_slice()),
     ];
     // A key file is read once for its bytes and once for its end, the message and the signature three times and once.
-    // In the pure form the signature is read first, and where that fails, the message still is, for its own refusal.
+    // In the pure form the signature is read first. If that fails, the message is still read, for its refusal.
     let cases: [(&[&str], (u64, u64)); 5] = [
         (&["check", "--key", "secret"], (2, 0)),
         (&SIGN, (6, 0)),

@@ -7,7 +7,7 @@ use std::process::Abort;
 use std::test::Fail;
 use std::thread::Threads;
 
-/// How many fetches the command makes, where each of them ends it by 32 if it fails.
+/// The number of fetches that the command makes, each of which ends it by 32 if it fails.
 fn fetches<R: Abort + AllocGlobal + Threads + Sync>(
     rt: &R,
     words: &[&str],
@@ -92,7 +92,7 @@ fn reads_a_message_by_pieces_up_to_the_limit(rt: HostRuntime) -> Result<(), Fail
         folder: Folder::new(&files),
         name: "abc",
     };
-    // There is no signature, but the message is refused first, also where it is read last.
+    // There is no signature, but the message is refused first, also if it is read last.
     let commands: [&[&str]; 2] = [&VERIFY_HASHED, &VERIFY];
     for words in commands {
         let answer = run_over(&rt, words, &mut files)?;

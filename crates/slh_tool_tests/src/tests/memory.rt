@@ -12,7 +12,7 @@ use std::thread::Threads;
 /// More growths than any command here asks for.
 const MANY: u64 = 2000;
 
-/// What a command answered, how many growths it asked for, and whether one was refused.
+/// The answer of a command, the number of growths that it asked for, and whether one was refused.
 #[derive(Drop)]
 struct Counted {
     answer: Answer,
@@ -20,7 +20,7 @@ struct Counted {
     refused: bool,
 }
 
-/// Runs a command with these files and this standard input. The growth of that number is refused; none where it is 0.
+/// Runs a command with these files and this standard input. The growth of that number is refused; none if it is 0.
 fn run_counted<R: AllocGlobal + Threads + Sync>(
     rt: &R,
     words: &[&str],

@@ -1,4 +1,4 @@
-//! Files of a test's own, as a runtime hands them out.
+//! Files that a test defines, as a runtime opens them.
 use std::alloc::Allocator;
 use std::cell::Cell;
 use std::fs::{Metadata, OpenFile, OpenOptions};
@@ -15,7 +15,7 @@ pub(super) struct Ways {
     pub(super) most: usize,
     /// Each other read is interrupted by a signal.
     pub(super) is_interrupted: bool,
-    /// A file can be read forwards alone.
+    /// A file can only be read forwards.
     pub(super) is_pipe: bool,
 }
 
@@ -50,7 +50,7 @@ fn next(count: &Cell<u64>) -> u64 {
     number
 }
 
-/// A runtime that has these files alone.
+/// A runtime that has only these files.
 #[derive(Drop)]
 pub(super) struct OwnFiles<'f, 'c> {
     pub(super) files: &'f [(&'f str, &'f [u8])],

@@ -12,7 +12,7 @@ use std::test::Fail;
 /// More growths than any run here asks for.
 const MANY: u64 = 1000;
 
-/// Whether the call was refused for the growth that the allocator refused. Where it refused none, the call was not
+/// Whether the call was refused for the growth that the allocator refused. If it refused none, the call was not
 /// refused.
 fn was_refused<T: Drop>(
     rt: &impl Abort,
@@ -33,7 +33,7 @@ fn was_refused<T: Drop>(
 fn run_test_refuses_at_each_growth(rt: HostRuntime) -> Result<(), Fail> {
     let tests = read_vectors(rt.alloc(), THREE_TESTS)?;
     equal(&rt, &tests.len(), &3);
-    // Signing alone takes memory, for the bytes that it compares.
+    // Only signing takes memory, for the bytes that it compares.
     for (test, growths) in tests.iter().zip([0u64, 1, 0]) {
         let mut refusals = 0u64;
         for nth in 1..MANY {
@@ -52,7 +52,7 @@ fn run_test_refuses_at_each_growth(rt: HostRuntime) -> Result<(), Fail> {
 #[test]
 fn run_vectors_refuses_at_each_growth(rt: HostRuntime) -> Result<(), Fail> {
     let tests = read_vectors(rt.alloc(), THREE_TESTS)?;
-    // One more worker asks for growths of its own, so their count tells whether the number of workers is handed on.
+    // One more worker asks for more growths, so their count shows whether the number of workers is passed on.
     let mut before = 0u64;
     for number in [1u8, 2] {
         let workers = Workers::new(number).ok_or("workers")?;

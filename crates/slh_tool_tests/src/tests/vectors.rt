@@ -38,7 +38,7 @@ fn tells_a_read_and_a_write_that_fail(rt: HostRuntime) -> Result<(), Fail> {
 
 const OUTCOMES: [Outcome; 3] = [Outcome::Fail, Outcome::Pass, Outcome::Fail];
 
-/// The report on `THREE_TESTS` where these are their outcomes.
+/// The report on `THREE_TESTS` if these are their outcomes.
 const REPORT: &[u8] =
     b"test 1 keygen SLH-DSA-SHA2-128f fail\ntest 2 sign SLH-DSA-SHA2-128f pass\ntest 3 verify SLH-DSA-SHA2-128f fail\npassed 1 failed 2\n";
 

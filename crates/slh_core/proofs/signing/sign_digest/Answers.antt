@@ -9,4 +9,4 @@ split_at_mut-sig_fors-requires c =
 
 pub ht_sign-requires-clause-out : goal.ht_sign-requires-clause-out
 ht_sign-requires-clause-out c =
-    rw c.seeds-seeds.ensures.set (tree_fits (params c.args.sk.now.set) c.fors_sig_len.result (length c.args.out.now) _ (search rules) c.requires.out (search rules))
+    rw c.signer-signer.ensures.set (tree_fits (params c.args.sk.now.set) c.fors_sig_len.result (length c.args.out.now) _ (search rules) c.requires.out (search rules))

@@ -1,7 +1,7 @@
 -- After each layer the first places are those of the layers, and the next place is that of the layer after.
 use Rattle.std.proofs.Common.{◌+◌, refl, ap, ◌∙◌, arith, inl, inr}
 use Rattle.std.proofs.lemmas.Bool.{cases_eq}
-use Rattle.std.proofs.lemmas.List.{get_or-set_other, length-set}
+use Rattle.std.proofs.lemmas.List.{get_or-replicate, get_or-set_other, length-set}
 use Rattle.std.proofs.lemmas.Grind.{get_or-set_at}
 use Rattle.slh_params.specs.ParamSet.{params}
 use Rattle.slh_few.specs.Hypertree.{place_above, layer_place}
@@ -14,6 +14,7 @@ loop-layer-init c = record {
   long = refl;
   at = layer_place-start (params c.args.set) c.args.idx_tree c.args.idx_leaf;
   done = λ k place l. absurd (omega (arith, l));
+  rest = λ k place low high. get_or-replicate 65 k _ place high ∙ layer_place-start (params c.args.set) c.args.idx_tree c.args.idx_leaf;
 }
 
 pub loop-layer-preserved : goal.loop-layer-preserved
@@ -32,7 +33,13 @@ loop-layer-preserved c =
             | inr ne ↦ get_or-set_other c.loop-layer.places c.loop-layer.layer k c.loop-layer.at place ne
                 ∙ c.loop-layer.invariant.done k place (omega (arith, l, ne))
           ];
+      rest = λ k place low high. get_or-set_other c.loop-layer.places c.loop-layer.layer k c.loop-layer.at place (λ same. absurd (omega (arith, low, same)))
+          ∙ c.loop-layer.invariant.rest k place (omega (arith, low)) high;
     }
 
 pub returns-clause-places : goal.returns-clause-places
 returns-clause-places c l place below = c.loop-layer.invariant.done l place (omega (arith, c.d-layer-end.ensures, below))
+
+pub returns-clause-rest : goal.returns-clause-rest
+returns-clause-rest c = λ l place low high.
+    c.loop-layer.invariant.rest l place (omega (arith, low, c.d-layer-end.ensures, c.loop-layer-test.false)) high

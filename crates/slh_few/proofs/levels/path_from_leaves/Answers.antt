@@ -11,7 +11,7 @@ use Rattle.slh_few.proofs.levels.path_from_leaves.Goals as goal
 
 pub loop-level-init : goal.loop-level-init
 loop-level-init g c =
-    let t = g.T.Tree.tree c.args.tree.now in
+    let t = g.T.Climbs.tree c.args.tree.now in
     let whole : t.height - 0 ≡ t.height = omega arith in
     record {
       nodes = λ i lt. c.requires.leaves i (subst (λ (h : ℕ). i < 2 ^ h) whole lt) ∙ sym (node-leaf t i);
@@ -20,18 +20,18 @@ loop-level-init g c =
 
 pub part_at-requires : goal.part_at-requires
 part_at-requires g c =
-    let t = g.T.Tree.tree c.args.tree.now in
+    let t = g.T.Climbs.tree c.args.tree.now in
     sibling_fits c.args.idx t.height c.loop-level.level c.args.n (length c.loop-level.nodes) c.requires.index
     (omega (arith, c.height-level-end.ensures.value)) (omega (arith, c.requires.len))
 
 pub put_level-requires-clause-nodes : goal.put_level-requires-clause-nodes
 put_level-requires-clause-nodes g c =
-    let t = g.T.Tree.tree c.args.tree.now in
+    let t = g.T.Climbs.tree c.args.tree.now in
     level_fits t.height c.loop-level.level c.args.n (length c.loop-level.nodes) (omega (arith, c.height-level-end.ensures.value)) (omega (arith, c.requires.len))
 
 pub loop-level-preserved : goal.loop-level-preserved
 loop-level-preserved g c =
-    let t = g.T.Tree.tree c.args.tree.now in
+    let t = g.T.Climbs.tree c.args.tree.now in
     let z : ℕ = c.loop-level.level in
     let high : z < t.height = omega (arith, c.height-level-end.ensures.value) in
     let own = sibling_below c.args.idx t.height z c.requires.index high in
@@ -48,7 +48,7 @@ loop-level-preserved g c =
 
 pub returns-clause-path : goal.returns-clause-path
 returns-clause-path g c =
-    let t = g.T.Tree.tree c.args.tree.now in
+    let t = g.T.Climbs.tree c.args.tree.now in
     let all : c.loop-level.level ≡ t.height = omega (arith, c.height-level-end.ensures.value) in
     all_parts (sibling t c.args.idx) c.args.n t.height c.loop-level.out (omega (arith, c.requires.out))
     (λ i lt. c.loop-level.invariant.path i (omega (arith, lt, all)))

@@ -3,4 +3,4 @@ use Rattle.slh_few.specs.Levels.{AreJoined}
 use Rattle.slh_few.proofs.levels.put_level.Given as goal
 
 abbrev pub invariant-loop-turn : goal.invariant-loop-turn
-invariant-loop-turn g l = AreJoined (g.T.Tree.tree l.tree) l.n l.z l.initial.nodes (min (8 * l.turn) l.count) l.nodes
+invariant-loop-turn g l = AreJoined (g.T.Climbs.tree l.tree) l.n l.z l.initial.nodes (min (8 * l.turn) l.count) l.nodes

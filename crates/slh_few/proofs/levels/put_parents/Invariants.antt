@@ -5,5 +5,5 @@ use Rattle.slh_few.proofs.levels.put_parents.Given as goal
 
 abbrev pub invariant-loop-j : goal.invariant-loop-j
 invariant-loop-j g l = (below : List ℕ)
-    → AreJoined (g.T.Tree.tree l.tree) l.n l.z below l.first l.initial.nodes
-    → AreJoined (g.T.Tree.tree l.tree) l.n l.z below (l.first + l.j) l.nodes
+    → AreJoined (g.T.Climbs.tree l.tree) l.n l.z below l.first l.initial.nodes
+    → AreJoined (g.T.Climbs.tree l.tree) l.n l.z below (l.first + l.j) l.nodes

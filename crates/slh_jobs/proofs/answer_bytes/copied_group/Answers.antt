@@ -26,5 +26,5 @@ loop-j-preserved c =
             (ap (value_at c.set_lane.new.nodes j) (sym size) ∙ c.set_lane.ensures.set ∙ own)
       ];
       copied = λ start. subst (λ (k : ℕ). take (k * 16) c.put_node.new.out ≡ end_to_end node k) next
-          (writes-more node (r + j) 16 c.loop-j.copies c.put_node.new.out c.node-node.result.items c.node-node.ensures.value long (c.loop-j.invariant.copied start) c.put_node.ensures);
+          (writes-more node (r + j) 16 c.loop-j.copies c.put_node.new.out c.node-node.result.items c.node-node.ensures.value long (c.loop-j.invariant.copied start) c.put_node.ensures.written);
     }

@@ -19,7 +19,7 @@ loop-r-preserved c =
     let bytes : List ℕ = c.args.given.now.bytes.now in
     let r = c.loop-r.r in
     let node : ℕ → List ℕ = λ i. node_given s bytes (c.args.first + i) in (
-      writes-more node r s.n c.loop-r.copies c.put_node.new.out c.in-Some.node.items c.in-Some.ensures.node c.in-Some.ensures.len c.loop-r.invariant.0 c.put_node.ensures,
+      writes-more node r s.n c.loop-r.copies c.put_node.new.out c.in-Some.node.items c.in-Some.ensures.node c.in-Some.ensures.len c.loop-r.invariant.0 c.put_node.ensures.written,
       λ p key front is.
           below_more (λ i. node_tag p key front (c.args.job + i) (node i) ≡ tag_given s bytes (c.args.first + i)) r (c.loop-r.invariant.1 p key front is) ((c.in-Some.ensures.tag p key front is).0 refl),
     )

@@ -1,4 +1,4 @@
-use Rattle.std.proofs.Common.{◌≡◌, ℕ, ◌*◌, ◌<◌, List, length, slice_index, set, take, inl, inr, arith, sym, ap, ◌∙◌}
+use Rattle.std.proofs.Common.{◌≡◌, ℕ, ◌*◌, ◌<◌, List, [], length, slice_index, set, take, inl, inr, arith, sym, ap, ◌∙◌}
 use Rattle.std.proofs.lemmas.Bool.{cases_lt}
 use Rattle.std.proofs.lemmas.List.{get_or-set_same, get_or-set_other, length-map, length-set, set-get_or}
 use Rattle.sha2.specs.Sha256.{digest_bytes, word_at}
@@ -26,6 +26,10 @@ words-preserved c =
                 written ∙ ap (λ (q : ℕ). slice_index (set old at new) q) e ∙ get_or-set_same old at new 0 (omega (arith, long c.args.j))
                 ∙ c.with_lane.ensures.set ∙ c.load_be.ensures ∙ ap (λ (q : ℕ). word_at c.args.value.now (4 * q)) (sym e)
           ];
+      behind = λ i le.
+          column_at c.args.j (set c.words.nodes at v) i
+          ∙ ap (λ (w : List ℕ). slice_index w c.args.j) (get_or-set_other c.words.nodes at i v [] (omega arith))
+          ∙ sym (column_at c.args.j c.words.nodes i) ∙ c.words.invariant.behind i (omega arith);
       others = λ i other.
           let old : List ℕ = column i c.words.nodes in
           column_set i c.words.nodes at v
@@ -43,3 +47,6 @@ returns-clause-set c =
 pub returns-clause-others : goal.returns-clause-others
 unfolding value_at
 returns-clause-others c = λ i n other. ap (λ (ws : List ℕ). take n (digest_bytes ws 8)) (c.words.invariant.others i other)
+
+pub returns-clause-behind : goal.returns-clause-behind
+returns-clause-behind c = λ k past. c.words.invariant.behind k (omega arith)

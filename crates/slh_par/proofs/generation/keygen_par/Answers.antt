@@ -18,7 +18,8 @@ from_parts-requires-clause-pk_root g c =
     let p = params c.args.set in
     let tree = xmss_tree p c.args.sk_seed.now c.args.pk_seed.now (p.d - 1) 0 in
     let bytes : List ℕ = c.deref-2.result.now in
-    let is : bytes ≡ root tree = c.deref-2.ensures.0 ∙ c.gathered_top-root.ensures in
+    let is : bytes ≡ root tree =
+    rw (c.new-signer.ensures.set, c.new-signer.ensures.sk_seed, c.new-signer.ensures.pk_seed) at (c.deref-2.ensures.0 ∙ c.gathered_top-root.ensures) in
     let same : length bytes ≡ length (root tree) = ap length is in
     same ∙ node_width tree (xmss_tree-lawful c.args.set c.args.sk_seed.now c.args.pk_seed.now (p.d - 1) 0) p.hp 0
 
@@ -27,7 +28,7 @@ gathered_top-root-requires-clause-each g c n job d read =
     let xs = c.in_ok-covers.covers.items in
     let below = slice_get_within (key_generation_jobs c.args.cutting.now) n job read in
     let within : n < length c.in_ok-covers.covers.items = omega (arith, below, c.in_ok-covers.ensures.count) in
-    let Of : List Cover → Type 0 = λ ys. IsTopAnswer (top_tree record { set = c.args.set; sk_seed = c.args.sk_seed; pk_seed = c.args.pk_seed }) job (get_or ys n d) in
+    let Of : List Cover → Type 0 = λ ys. IsTopAnswer (top_tree c.new-signer.result) job (get_or ys n d) in
     subst Of (sym c.deref.ensures.value) (c.in_ok-covers.ensures.right n d within job read)
 
 pub returns-clause-key : goal.returns-clause-key

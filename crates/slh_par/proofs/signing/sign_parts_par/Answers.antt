@@ -4,6 +4,7 @@ use Rattle.slh_params.specs.ParamSet.{params}
 use Rattle.slh_params.proofs.Bounds.{m_high}
 use Rattle.slh_few.specs.Fors.{fors_sig}
 use Rattle.slh_hash.specs.Keyed.{joined}
+use Rattle.slh_core.specs.DigestParts.{idx_tree, idx_leaf, md}
 use Rattle.slh_core.specs.Keys.{Key, sk_seed, public_of, pk_seed}
 use Rattle.slh_core.specs.Signatures.{digest_of, signature_of_digest, signature, IsValid}
 use Rattle.slh_core.proofs.Assembled.{signed_parts}
@@ -32,7 +33,7 @@ randomized_digest-r-requires-clause-digest g c =
 pub trees_of-trees-requires : goal.trees_of-trees-requires
 trees_of-trees-requires g c =
     let fits : c.m.result ≤ 122 = omega (arith, c.m.ensures, m_high c.set-set.result) in
-    c.randomized_digest-r.auto.digest ∙ length-take-le c.m.result _ fits ∙ rw c.set-set.ensures at c.m.ensures
+    c.randomized_digest-r.auto.digest ∙ length-take-le c.m.result _ fits ∙ rw (c.signer-signer.ensures.set) (rw c.set-set.ensures at c.m.ensures)
 
 pub returns-clause-signature : goal.returns-clause-signature
 unfolding signature
@@ -42,11 +43,19 @@ returns-clause-signature g c =
     let digest : List ℕ = c.randomized_digest-r.new.digest in
     let s : TreeSource = source_of c.trees_of-trees.result in
     let r : List ℕ = c.randomized_digest-r.result.items in
-    let own : TreeSource = source_by sk digest in
+    let own : TreeSource = record {
+      set = sk.set;
+      sk_seed = sk_seed sk;
+      pk_seed = pk_seed (public_of sk);
+      idx_tree = idx_tree (params sk.set) digest;
+      idx_leaf = idx_leaf (params sk.set) digest;
+      md = md (params sk.set) digest;
+    } in
+    let of_key : source_by c.signer-signer.result digest ≡ own =
+    rw (c.signer-signer.ensures.set, c.signer-signer.ensures.sk_seed, c.signer-signer.ensures.pk_seed) refl in
     let By : TreeSource → List ℕ = λ x. r ++ (sig_fors_by x (answers_of x) ++ sig_ht_by x (answers_of x)) in
-    let of_trees : source_of c.in_ok-answered.answered.trees.now ≡ s = ap source_of c.in_ok-answered.ensures in
     let leaf : own.idx_leaf < 2 ^ (params own.set).hp = search rules in
-    c.put_signature.ensures ∙ ap By (of_trees ∙ c.trees_of-trees.ensures.source)
+    c.in_ok-write_signature.ensures.signature ∙ ap By (c.trees_of-trees.ensures.source ∙ of_key)
     ∙ ap (λ ys. r ++ (ys ++ sig_ht_by own (answers_of own))) (sig_fors-right own (answers_of own) leaf (answers_of-right own))
     ∙ ap (λ ys. r ++ (fors_sig (params sk.set) (sk_seed sk) (pk_seed (public_of sk)) own.idx_tree own.idx_leaf own.md ++ ys)) (sig_ht-right own (answers_of own) leaf (answers_of-right own))
     ∙ ap (λ ys. r ++ ys) (signed_parts sk digest own.idx_tree own.idx_leaf own.md (pk_fors_of own) refl refl refl refl)

@@ -7,6 +7,6 @@ use Rattle.slh_subtrees.proofs.answers.put_layer_part.Goals as goal
 
 pub returns-clause-part : goal.returns-clause-part
 returns-clause-part g c =
-    let own : length c.layer_part.new.out ≡ xmss_sig_len (params c.args.trees.now.seeds.set) = search rules in
+    let own : length c.layer_part.new.out ≡ xmss_sig_len (params c.args.trees.now.signer.now.public.set) = search rules in
     take-put_mid c.args.start (c.args.start + c.xmss_sig_len.result - c.args.start) c.args.out.now c.layer_part.new.out _ (omega (arith, own)) (omega (arith, c.requires.out))
     ∙ ap (λ ys. take c.args.start c.args.out.now ++ ys) c.layer_part.ensures.part

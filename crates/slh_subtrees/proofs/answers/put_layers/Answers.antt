@@ -9,14 +9,14 @@ use Rattle.slh_subtrees.proofs.answers.put_layers.Goals as goal
 
 pub put_layer_part-msg-requires-clause-out : goal.put_layer_part-msg-requires-clause-out
 put_layer_part-msg-requires-clause-out g c =
-    let p = params c.args.trees.now.seeds.set in
+    let p = params c.args.trees.now.signer.now.public.set in
     let b : c.loop-layer.layer < p.d = omega (arith, c.d-layer-end.ensures) in
     let q : length c.loop-layer.out ≡ p.d * xmss_sig_len p = omega (arith, c.requires.out) in
     rw c.xmss_sig_len-size.ensures.value (part_fits c.loop-layer.layer p.d (xmss_sig_len p) (length c.loop-layer.out) b q)
 
 pub loop-layer-init : goal.loop-layer-init
 loop-layer-init g c =
-    let zero : 0 * xmss_sig_len (params c.args.trees.now.seeds.set) ≡ 0 = omega arith in (
+    let zero : 0 * xmss_sig_len (params c.args.trees.now.signer.now.public.set) ≡ 0 = omega arith in (
       c.copy_of-msg.ensures ∙ c.requires.pk_fors,
       ap length c.copy_of-msg.ensures ∙ c.requires.len,
       ap (λ k. take k c.args.out.now) zero ∙ sym (end_to_end-none _),
@@ -41,5 +41,5 @@ loop-layer-preserved g c =
 
 pub returns : goal.returns
 returns g c =
-    let p = params c.args.trees.now.seeds.set in
+    let p = params c.args.trees.now.signer.now.public.set in
     written_all _ p.d (xmss_sig_len p) c.loop-layer.layer c.loop-layer.out (omega (arith, c.d-layer-end.ensures)) (omega (arith, c.requires.out)) c.loop-layer.invariant.2

@@ -29,7 +29,7 @@ loop-record-preserved g c =
 
 pub returns : goal.returns
 returns g c =
-    let t = g.T.Tree.tree c.args.tree.now in
+    let t = g.T.Climbs.tree c.args.tree.now in
     let now = c.loop-record.invariant in
     let height = c.gather-root.ensures.gained.height ∙ now.height in
     let leaf = c.gather-root.ensures.gained.leaf ∙ now.leaf in

@@ -8,8 +8,8 @@ use Rattle.slh_few.proofs.lanes.chains.run_values_in_lanes.Given as goal
 
 abbrev pub invariant-loop-place : goal.invariant-loop-place
 invariant-loop-place l =
-    let p = params l.public.set in
-    let pk = l.public.pk_seed.now in
+    let p = params l.lanes.set in
+    let pk = l.lanes.pk_seed.now in
     let f : ℕ → List ℕ = λ c. chain p pk l.at c (part p.n l.values c) (slice_index l.from c) (slice_index l.counts c) in
     record {
       within : StaysWithin 255 l.running;

@@ -3,4 +3,4 @@ use Rattle.slh_few.proofs.lanes.chains.secret_lanes.Goals as goal
 
 pub returns : goal.returns
 unfolding secret
-returns c = λ p pk s j lane. c.prf.ensures p pk s j lane _ (c.chain_adrs.ensures j lane)
+returns c = λ j lane. c.prf.ensures j lane _ (c.chain_adrs.ensures j lane)

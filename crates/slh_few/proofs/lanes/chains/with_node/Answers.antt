@@ -7,7 +7,7 @@ pub returns-clause-set : goal.returns-clause-set
 returns-clause-set c =
     let j : ℕ = c.args.j in
     c.pick_nodes.ensures.below j (length c.args.value.now) c.requires.lane (omega (arith, splat_lane 0 j c.requires.lane, c.with_word.ensures.set))
-    ∙ c.node_lanes.ensures j c.requires.lane c.requires.whole
+    ∙ c.node_lanes.ensures.value j c.requires.lane
 
 pub returns-clause-others : goal.returns-clause-others
 returns-clause-others c = λ i n lane other.

@@ -11,15 +11,15 @@ use Rattle.slh_few.proofs.lanes.chains_keeping.keep_chains.Goals as goal
 
 pub loop-j-init : goal.loop-j-init
 loop-j-init c =
-    let p = params c.args.seeds.now.set in
-    let sk = c.args.seeds.now.sk_seed.now in
-    let pk = c.args.seeds.now.pk_seed.now in
+    let p = params c.args.lanes.now.set in
+    let sk = c.args.sk_seed.now in
+    let pk = c.args.lanes.now.pk_seed.now in
     let at = c.args.at in
     let z : 0 ≡ 0 * spacing p = omega arith in
     record {
       nodes = λ i lane.
           let d : ℕ = c.args.c + i in
-          c.secret_lanes-nodes.ensures p pk c.requires.lanes i lane ∙ ap (secret p sk pk at) (c.consecutive.ensures i lane) ∙ chain-start p pk at d (secret p sk pk at d) 0
+          c.secret_lanes-nodes.ensures i lane ∙ ap (secret p sk pk at) (c.consecutive.ensures i lane) ∙ chain-start p pk at d (secret p sk pk at d) 0
           ∙ ap (λ k. chain p pk at d (secret p sk pk at d) 0 k) z;
       kept = λ i j low none. absurd (omega (arith, none));
       before = λ d low. refl;
@@ -27,9 +27,9 @@ loop-j-init c =
 
 pub loop-j-preserved : goal.loop-j-preserved
 loop-j-preserved c =
-    let p = params c.args.seeds.now.set in
-    let sk = c.args.seeds.now.sk_seed.now in
-    let pk = c.args.seeds.now.pk_seed.now in
+    let p = params c.args.lanes.now.set in
+    let sk = c.args.sk_seed.now in
+    let pk = c.args.lanes.now.pk_seed.now in
     let at = c.args.at in
     let every : ℕ = c.spacing-every.result in
     let now : ℕ = c.loop-j.j in
@@ -38,7 +38,7 @@ loop-j-preserved c =
     record {
       nodes = λ i lane.
           let d : ℕ = c.args.c + i in
-          c.run_alike-nodes.ensures p pk c.requires.lanes i lane
+          c.run_alike-nodes.ensures i lane
           ∙ (λ k. chain p pk at (c.consecutive.ensures i lane k) (old.nodes i lane k) (now * is k) (is k)) ∙ kept_value-more p sk pk at d now;
       kept = λ i j low lt. elim (cases_lt j now) [
         | inl below ↦ c.put_values.ensures.others (c.args.c + i) j (omega arith) ∙ old.kept i j low below
@@ -53,10 +53,10 @@ loop-j-preserved c =
 
 pub returns-clause-ends : goal.returns-clause-ends
 returns-clause-ends c = λ i lane.
-    let s = c.args.seeds.now.set in
+    let s = c.args.lanes.now.set in
     let p = params s in
-    let sk = c.args.seeds.now.sk_seed.now in
-    let pk = c.args.seeds.now.pk_seed.now in
+    let sk = c.args.sk_seed.now in
+    let pk = c.args.lanes.now.pk_seed.now in
     let at = c.args.at in
     let d : ℕ = c.args.c + i in
     let x = secret p sk pk at d in
@@ -64,6 +64,6 @@ returns-clause-ends c = λ i lane.
     let count : c.kept_count-last.result ≡ kept_count p = c.kept_count-last.ensures.value in
     let last : c.loop-j.j ≡ kept_count p - 1 = omega (arith, count) in
     let node = c.loop-j.invariant.nodes i lane ∙ ap (λ k. chain p pk at d x 0 (k * spacing p)) last in
-    c.run_alike.ensures p pk c.requires.lanes i lane ∙ (λ k. chain p pk at (c.consecutive.ensures i lane k) (node k) ((count k - 1) * is k) (is k - 1))
+    c.run_alike.ensures i lane ∙ (λ k. chain p pk at (c.consecutive.ensures i lane k) (node k) ((count k - 1) * is k) (is k - 1))
     ∙ chain-on p pk at d x ((kept_count p - 1) * spacing p) (spacing p - 1)
     ∙ ap (λ k. chain p pk at d x 0 k) (kept_end s)

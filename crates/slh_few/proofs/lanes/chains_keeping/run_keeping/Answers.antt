@@ -21,9 +21,9 @@ loop-group-init c =
 
 pub loop-group-preserved : goal.loop-group-preserved
 loop-group-preserved c =
-    let p = params c.args.seeds.now.set in
-    let sk = c.args.seeds.now.sk_seed.now in
-    let pk = c.args.seeds.now.pk_seed.now in
+    let p = params c.args.lanes.now.set in
+    let sk = c.args.sk_seed.now in
+    let pk = c.args.lanes.now.pk_seed.now in
     let g : ℕ = c.loop-group.group in
     let k : ℕ = c.len-count.result in
     let n : ℕ = c.n-n.result in
@@ -60,9 +60,9 @@ loop-group-preserved c =
 
 pub returns-clause-ends : goal.returns-clause-ends
 returns-clause-ends c =
-    let p = params c.args.seeds.now.set in
-    let sk = c.args.seeds.now.sk_seed.now in
-    let pk = c.args.seeds.now.pk_seed.now in
+    let p = params c.args.lanes.now.set in
+    let sk = c.args.sk_seed.now in
+    let pk = c.args.lanes.now.pk_seed.now in
     let all = group_all c.loop-group.group c.len-count.result c.div_ceil-group-end.result c.div_ceil-group-end.ensures c.loop-group-test.false ∙ c.len-count.ensures in
     all_parts (whole_chain p sk pk c.args.at) p.n (len p) c.loop-group.ends (omega (arith, c.loop-group.auto.ends, c.requires.ends)) (λ d low.
     rw c.n-n.ensures at (c.loop-group.invariant.ends d (omega (arith, all, low))))
@@ -70,8 +70,8 @@ returns-clause-ends c =
 pub returns-clause-kept : goal.returns-clause-kept
 unfolding kept_chains
 returns-clause-kept c =
-    let p = params c.args.seeds.now.set in
-    let sk = c.args.seeds.now.sk_seed.now in
-    let pk = c.args.seeds.now.pk_seed.now in
+    let p = params c.args.lanes.now.set in
+    let sk = c.args.sk_seed.now in
+    let pk = c.args.lanes.now.pk_seed.now in
     let all = group_all c.loop-group.group c.len-count.result c.div_ceil-group-end.result c.div_ceil-group-end.ensures c.loop-group-test.false ∙ c.len-count.ensures in
     all_parts (kept_chain p sk pk c.args.at) (kept_chain_len p) (len p) c.loop-group.kept (omega (arith, c.loop-group.auto.kept, c.requires.kept)) (λ d low. c.loop-group.invariant.kept d (omega (arith, all, low)))

@@ -1,35 +1,35 @@
 -- After each turn the keys' streams have absorbed the ends so far, and what is kept of as many chains is written.
-use Rattle.std.proofs.Common.{◌≡◌, ℕ, ◌+◌, ◌-◌, ◌*◌, inl, inr, refl, subst, sym, ◌∙◌, arith}
+use Rattle.std.proofs.Common.{◌≡◌, ℕ, ◌+◌, ◌-◌, ◌*◌, inl, inr, refl, subst, ◌∙◌, arith}
 use Rattle.std.proofs.lemmas.Bool.{cases_lt}
 use Rattle.slh_params.specs.Params.{len}
 use Rattle.slh_params.specs.ParamSet.{params}
 use Rattle.slh_few.specs.KeyStreams.{HaveAbsorbedEnds}
 use Rattle.slh_few.specs.Parts.{part}
-use Rattle.slh_few.proofs.EightKeys.{absorbed_more, absorbed_none, absorbed_two, finished_keys}
+use Rattle.slh_few.proofs.EightKeys.{absorbed_more, absorbed_none, finished_keys}
 use Rattle.slh_few.proofs.PartWrites.{all_parts}
 use Rattle.slh_few.proofs.lanes.keys.eight_keys.Goals as goal
 use Rattle.slh_few.proofs.lanes.keys.eight_keys.Goals.{then-len-eq1, else-len-eq1}
 
 pub loop-pair-init : goal.loop-pair-init
 loop-pair-init g c = record {
-  absorbed = absorbed_none (params c.args.seeds.now.set) c.args.seeds.now.sk_seed.now c.args.seeds.now.pk_seed.now c.args.at c.key_streams-streams.result (2 * 0)
-      (omega arith) c.key_streams-streams.ensures;
+  absorbed = absorbed_none (params c.args.lanes.now.set) c.args.sk_seed.now c.args.lanes.now.pk_seed.now c.args.at c.new-stream.result (2 * 0)
+      (omega arith) (λ j lane. c.new-stream.ensures j lane _ (c.key_adrs.ensures j lane));
   kept = λ i none. absurd (omega (arith, none));
 }
 
 pub loop-pair-preserved : goal.loop-pair-preserved
 loop-pair-preserved g c =
-    let p = params c.args.seeds.now.set in
-    let sk = c.args.seeds.now.sk_seed.now in
-    let pk = c.args.seeds.now.pk_seed.now in
+    let p = params c.args.lanes.now.set in
+    let sk = c.args.sk_seed.now in
+    let pk = c.args.lanes.now.pk_seed.now in
     let now : ℕ = c.loop-pair.pair in
     let old = c.loop-pair.invariant in
     let ends = c.two_ends.ensures in
     let size = g.K.Kept.size c.args.keep.now p in
     let kept = g.K.Kept.kept c.args.keep.now p sk pk c.args.at in
     record {
-      absorbed = absorbed_two p sk pk c.args.at c.loop-pair.streams c.absorb_two.new.streams c.two_ends.new.x c.two_ends.new.y c.n.result
-          (2 * now) (2 * (now + 1)) (sym c.n.ensures) (omega arith) c.absorb_two.ensures ends.x ends.y old.absorbed;
+      absorbed = absorbed_more p sk pk c.args.at c.absorb.new.self c.absorb-in-loop-pair.new.self c.two_ends.new.y (2 * now + 1) (2 * (now + 1)) (omega arith) c.absorb-in-loop-pair.ensures ends.y
+          (absorbed_more p sk pk c.args.at c.loop-pair.stream c.absorb.new.self c.two_ends.new.x (2 * now) (2 * now + 1) (omega arith) c.absorb.ensures ends.x old.absorbed);
       kept = λ i lt. elim (cases_lt i (2 * now)) [
         | inl low ↦ ends.others i (omega (arith, low)) (omega (arith, low)) ∙ old.kept i low
         | inr ge ↦ elim (cases_lt i (2 * now + 1)) [
@@ -45,28 +45,29 @@ loop-pair-preserved g c =
 
 pub returns-clause-keys : goal.returns-clause-keys
 returns-clause-keys g c =
-    let p = params c.args.seeds.now.set in
-    let sk = c.args.seeds.now.sk_seed.now in
-    let pk = c.args.seeds.now.pk_seed.now in
+    let p = params c.args.lanes.now.set in
+    let sk = c.args.sk_seed.now in
+    let pk = c.args.lanes.now.pk_seed.now in
     let at = c.args.at in
     let now : ℕ = c.loop-pair.pair in
-    let after = λ (k : ℕ). HaveAbsorbedEnds p sk pk at k c.loop-pair.streams in
-    let all : HaveAbsorbedEnds p sk pk at (len p) c.if-len-eq1.streams = elim c.if-len-eq1.branch [
+    let after = λ (k : ℕ). HaveAbsorbedEnds p sk pk at k c.loop-pair.stream in
+    let all : HaveAbsorbedEnds p sk pk at (len p) c.if-len-eq1.stream = elim c.if-len-eq1.branch [
       | then-len-eq1 w ↦
           let last : 2 * now ≡ c.len-len.result - 1 = omega (arith, w.if-len-eq1.true) in
-          rw w.streams-is (absorbed_more p sk pk at c.loop-pair.streams w.absorb_lanes.new.streams w.ends-ends.result w.n-then-len-eq1.result (c.len-len.result - 1) (len p)
-          (sym w.n-then-len-eq1.ensures) (omega (arith, last, w.if-len-eq1.true, c.len-len.ensures)) w.absorb_lanes.ensures w.ends-ends.ensures.ends (subst after last c.loop-pair.invariant.absorbed))
+          rw w.stream-is (absorbed_more p sk pk at c.loop-pair.stream w.absorb-then-len-eq1.new.self w.ends-ends.result (c.len-len.result - 1) (len p)
+          (omega (arith, last, w.if-len-eq1.true, c.len-len.ensures)) w.absorb-then-len-eq1.ensures w.ends-ends.ensures.ends (subst after last c.loop-pair.invariant.absorbed))
       | else-len-eq1 w ↦
           let even : 2 * now ≡ len p = omega (arith, w.if-len-eq1.false, c.len-len.ensures) in
-          rw w.streams-is (subst after even c.loop-pair.invariant.absorbed)
+          rw w.stream-is (subst after even c.loop-pair.invariant.absorbed)
     ] in
-    finished_keys c.args.seeds.now.set sk pk at c.if-len-eq1.streams c.finished.result.items (len p) refl c.finished.ensures.len c.finished.ensures.values all
+    finished_keys c.args.lanes.now.set sk pk at c.if-len-eq1.stream c.finish.result c.first_nodes.result.items (len p)
+    refl c.first_nodes.ensures.len (rw c.n.ensures at c.first_nodes.ensures.values) c.finish.ensures all
 
 pub returns-clause-kept : goal.returns-clause-kept
 returns-clause-kept g c =
-    let p = params c.args.seeds.now.set in
-    let sk = c.args.seeds.now.sk_seed.now in
-    let pk = c.args.seeds.now.pk_seed.now in
+    let p = params c.args.lanes.now.set in
+    let sk = c.args.sk_seed.now in
+    let pk = c.args.lanes.now.pk_seed.now in
     let now : ℕ = c.loop-pair.pair in
     let old = c.loop-pair.invariant in
     let size = g.K.Kept.size c.args.keep.now p in

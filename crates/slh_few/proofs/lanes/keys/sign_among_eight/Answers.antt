@@ -13,9 +13,9 @@ use Rattle.slh_few.proofs.lanes.keys.sign_among_eight.Goals as goal
 pub returns-clause-signature : goal.returns-clause-signature
 unfolding wots_sig
 returns-clause-signature c =
-    let p = params c.args.seeds.now.set in
-    let sk = c.args.seeds.now.sk_seed.now in
-    let pk = c.args.seeds.now.pk_seed.now in
+    let p = params c.args.lanes.now.set in
+    let sk = c.args.sk_seed.now in
+    let pk = c.args.lanes.now.pk_seed.now in
     let first = c.first_of_eight.result in
     let key = ap (key_at first) c.lane_among_eight.ensures ∙ among_eight c.args.at first c.first_of_eight.ensures in
     c.eight_keys.ensures.kept ∙ end_to_end-same _ (signed_chain p sk pk c.args.at c.args.msg.now.items) (len p) (λ k l q.
@@ -23,5 +23,5 @@ returns-clause-signature c =
 
 pub returns-clause-keys : goal.returns-clause-keys
 returns-clause-keys c =
-    subst (λ (a : Place). AreKeysFrom (params c.args.seeds.now.set) c.args.seeds.now.sk_seed.now c.args.seeds.now.pk_seed.now a c.eight_keys.result.items)
+    subst (λ (a : Place). AreKeysFrom (params c.args.lanes.now.set) c.args.sk_seed.now c.args.lanes.now.pk_seed.now a c.eight_keys.result.items)
     c.first_of_eight.ensures c.eight_keys.ensures.keys

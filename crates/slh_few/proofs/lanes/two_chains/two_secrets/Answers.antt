@@ -8,17 +8,17 @@ use Rattle.slh_few.proofs.lanes.two_chains.two_secrets.Goals as goal
 pub returns-clause-x : goal.returns-clause-x
 unfolding secret
 returns-clause-x c = λ j lane.
-    let p = params c.args.seeds.now.set in
-    let sk = c.args.seeds.now.sk_seed.now in
-    let pk = c.args.seeds.now.pk_seed.now in
+    let p = params c.args.lanes.now.set in
+    let sk = c.args.sk_seed.now in
+    let pk = c.args.lanes.now.pk_seed.now in
     let key = key_at c.args.at j in
-    c.prf_two.ensures.x p pk c.requires.lanes j lane _ (c.key_adrs-x_adrs.ensures j lane) ∙ chain-start p pk key c.args.a (secret p sk pk key c.args.a) 0
+    c.prf_two.ensures.x j lane _ (c.key_adrs-x_adrs.ensures j lane) ∙ chain-start p pk key c.args.a (secret p sk pk key c.args.a) 0
 
 pub returns-clause-y : goal.returns-clause-y
 unfolding secret
 returns-clause-y c = λ j lane.
-    let p = params c.args.seeds.now.set in
-    let sk = c.args.seeds.now.sk_seed.now in
-    let pk = c.args.seeds.now.pk_seed.now in
+    let p = params c.args.lanes.now.set in
+    let sk = c.args.sk_seed.now in
+    let pk = c.args.lanes.now.pk_seed.now in
     let key = key_at c.args.at j in
-    c.prf_two.ensures.y p pk c.requires.lanes j lane _ (c.key_adrs-y_adrs.ensures j lane) ∙ chain-start p pk key c.args.b (secret p sk pk key c.args.b) 0
+    c.prf_two.ensures.y j lane _ (c.key_adrs-y_adrs.ensures j lane) ∙ chain-start p pk key c.args.b (secret p sk pk key c.args.b) 0

@@ -22,53 +22,53 @@ paths_few s =
     omega (arith, whole, mul-le-mul {n₂ = 76} {m₂ = 32} (h_high s) (n_high s))
 
 pub slice_bounds-paths-end : goal.slice_bounds-paths-end
-slice_bounds-paths-end c = rw (c.d-2.ensures, c.hp.ensures, c.n-2.ensures) (paths_few c.args.self.now.signing.trees.seeds.set)
+slice_bounds-paths-end c = rw (c.d-2.ensures, c.hp.ensures, c.n-2.ensures) (paths_few c.args.self.now.signing.trees.signer.now.public.set)
 
 pub slice_bounds-paths-end-2 : goal.slice_bounds-paths-end-2
 slice_bounds-paths-end-2 c =
-    let fits : c.d-2.result * (c.hp.result * c.n-2.result) ≤ 2432 = rw (c.d-2.ensures, c.hp.ensures, c.n-2.ensures) (paths_few c.args.self.now.signing.trees.seeds.set) in
+    let fits : c.d-2.result * (c.hp.result * c.n-2.result) ≤ 2432 = rw (c.d-2.ensures, c.hp.ensures, c.n-2.ensures) (paths_few c.args.self.now.signing.trees.signer.now.public.set) in
     sym (length-take-le (c.d-2.result * (c.hp.result * c.n-2.result)) _ fits)
 
 pub judge-requires-clause-paths : goal.judge-requires-clause-paths
 judge-requires-clause-paths c =
-    let fits : c.d-2.result * (c.hp.result * c.n-2.result) ≤ 2432 = rw (c.d-2.ensures, c.hp.ensures, c.n-2.ensures) (paths_few c.args.self.now.signing.trees.seeds.set) in
-    let size : c.d-2.result * (c.hp.result * c.n-2.result) ≡ (params c.args.self.now.signing.trees.seeds.set).d * path_len_in c.args.self.now = rw (c.d-2.ensures, c.hp.ensures, c.n-2.ensures) refl in
+    let fits : c.d-2.result * (c.hp.result * c.n-2.result) ≤ 2432 = rw (c.d-2.ensures, c.hp.ensures, c.n-2.ensures) (paths_few c.args.self.now.signing.trees.signer.now.public.set) in
+    let size : c.d-2.result * (c.hp.result * c.n-2.result) ≡ (params c.args.self.now.signing.trees.signer.now.public.set).d * path_len_in c.args.self.now = rw (c.d-2.ensures, c.hp.ensures, c.n-2.ensures) refl in
     length-take-le (c.d-2.result * (c.hp.result * c.n-2.result)) _ fits ∙ size
 
-pub put_signature-requires-clause-paths_len : goal.put_signature-requires-clause-paths_len
-put_signature-requires-clause-paths_len c =
-    let fits : c.d-2.result * (c.hp.result * c.n-2.result) ≤ 2432 = rw (c.d-2.ensures, c.hp.ensures, c.n-2.ensures) (paths_few c.args.self.now.signing.trees.seeds.set) in
-    let size : c.d-2.result * (c.hp.result * c.n-2.result) ≡ (params c.args.self.now.signing.trees.seeds.set).d * path_len_in c.args.self.now = rw (c.d-2.ensures, c.hp.ensures, c.n-2.ensures) refl in
+pub invariant_of-judged-clause-paths_len : goal.invariant_of-judged-clause-paths_len
+invariant_of-judged-clause-paths_len c =
+    let fits : c.d-2.result * (c.hp.result * c.n-2.result) ≤ 2432 = rw (c.d-2.ensures, c.hp.ensures, c.n-2.ensures) (paths_few c.args.self.now.signing.trees.signer.now.public.set) in
+    let size : c.d-2.result * (c.hp.result * c.n-2.result) ≡ (params c.args.self.now.signing.trees.signer.now.public.set).d * path_len_in c.args.self.now = rw (c.d-2.ensures, c.hp.ensures, c.n-2.ensures) refl in
     c.judge.auto.paths ∙ length-take-le (c.d-2.result * (c.hp.result * c.n-2.result)) _ fits ∙ size
 
 pub slice_bounds-fors-end-2 : goal.slice_bounds-fors-end-2
 slice_bounds-fors-end-2 c =
-    let fits : c.fors_sig_len.result ≤ 30720 = omega (arith, c.fors_sig_len.ensures, fors_few c.args.self.now.signing.trees.seeds.set) in
+    let fits : c.fors_sig_len.result ≤ 30720 = omega (arith, c.fors_sig_len.ensures, fors_few c.args.self.now.signing.trees.signer.now.public.set) in
     sym (length-take-le c.fors_sig_len.result _ fits)
 
 pub slice_bounds-signed-end-2 : goal.slice_bounds-signed-end-2
 slice_bounds-signed-end-2 c =
-    let fits : c.d.result * c.n.result ≤ 2080 = rw (c.d.ensures, c.n.ensures) (signed_few c.args.self.now.signing.trees.seeds.set) in
+    let fits : c.d.result * c.n.result ≤ 2080 = rw (c.d.ensures, c.n.ensures) (signed_few c.args.self.now.signing.trees.signer.now.public.set) in
     sym (length-take-le (c.d.result * c.n.result) _ fits)
 
 pub judge-requires-clause-sig_fors : goal.judge-requires-clause-sig_fors
 judge-requires-clause-sig_fors c =
-    let fits : c.fors_sig_len.result ≤ 30720 = omega (arith, c.fors_sig_len.ensures, fors_few c.args.self.now.signing.trees.seeds.set) in
+    let fits : c.fors_sig_len.result ≤ 30720 = omega (arith, c.fors_sig_len.ensures, fors_few c.args.self.now.signing.trees.signer.now.public.set) in
     length-take-le c.fors_sig_len.result _ fits ∙ c.fors_sig_len.ensures
 
 pub judge-requires-clause-signed : goal.judge-requires-clause-signed
 judge-requires-clause-signed c =
-    let fits : c.d.result * c.n.result ≤ 2080 = rw (c.d.ensures, c.n.ensures) (signed_few c.args.self.now.signing.trees.seeds.set) in
-    let size : c.d.result * c.n.result ≡ (params c.args.self.now.signing.trees.seeds.set).d * (params c.args.self.now.signing.trees.seeds.set).n = rw (c.d.ensures, c.n.ensures) refl in
+    let fits : c.d.result * c.n.result ≤ 2080 = rw (c.d.ensures, c.n.ensures) (signed_few c.args.self.now.signing.trees.signer.now.public.set) in
+    let size : c.d.result * c.n.result ≡ (params c.args.self.now.signing.trees.signer.now.public.set).d * (params c.args.self.now.signing.trees.signer.now.public.set).n = rw (c.d.ensures, c.n.ensures) refl in
     length-take-le (c.d.result * c.n.result) _ fits ∙ size
 
-pub put_signature-requires-clause-fors_len : goal.put_signature-requires-clause-fors_len
-put_signature-requires-clause-fors_len c =
-    let fits : c.fors_sig_len.result ≤ 30720 = omega (arith, c.fors_sig_len.ensures, fors_few c.args.self.now.signing.trees.seeds.set) in
+pub invariant_of-judged-clause-sig_fors_len : goal.invariant_of-judged-clause-sig_fors_len
+invariant_of-judged-clause-sig_fors_len c =
+    let fits : c.fors_sig_len.result ≤ 30720 = omega (arith, c.fors_sig_len.ensures, fors_few c.args.self.now.signing.trees.signer.now.public.set) in
     c.judge.auto.sig_fors ∙ length-take-le c.fors_sig_len.result _ fits ∙ c.fors_sig_len.ensures
 
-pub put_signature-requires-clause-signed_len : goal.put_signature-requires-clause-signed_len
-put_signature-requires-clause-signed_len c =
-    let fits : c.d.result * c.n.result ≤ 2080 = rw (c.d.ensures, c.n.ensures) (signed_few c.args.self.now.signing.trees.seeds.set) in
-    let size : c.d.result * c.n.result ≡ (params c.args.self.now.signing.trees.seeds.set).d * (params c.args.self.now.signing.trees.seeds.set).n = rw (c.d.ensures, c.n.ensures) refl in
+pub invariant_of-judged-clause-signed_len : goal.invariant_of-judged-clause-signed_len
+invariant_of-judged-clause-signed_len c =
+    let fits : c.d.result * c.n.result ≤ 2080 = rw (c.d.ensures, c.n.ensures) (signed_few c.args.self.now.signing.trees.signer.now.public.set) in
+    let size : c.d.result * c.n.result ≡ (params c.args.self.now.signing.trees.signer.now.public.set).d * (params c.args.self.now.signing.trees.signer.now.public.set).n = rw (c.d.ensures, c.n.ensures) refl in
     c.judge.auto.signed ∙ length-take-le (c.d.result * c.n.result) _ fits ∙ size

@@ -2,6 +2,7 @@
 use Rattle.std.proofs.Common.{◌≡◌, ℕ, ◌+◌, ◌*◌, ◌++◌, List, length, take, refl, arith, add-one, ap, ◌∙◌, sym}
 use Rattle.slh_few.specs.Xmss.{xmss_sig_len}
 use Rattle.slh_few.proofs.Ends.{end_to_end-none, writes-more, written_all}
+use Rattle.slh_core.specs.Keys.{public_of, pk_root}
 use Rattle.slh_subtrees.specs.Assembled.{signed_by, layer_part_by}
 use Rattle.slh_subtrees.specs.declared.range.JobTree.TheVariants.{Xmss}
 use Rattle.slh_jobs.specs.AllAnswers.{params_in, source_in, answers_in, path_in, path_len_in}
@@ -43,7 +44,7 @@ loop-layer-preserved c =
     let put_path : take (n * long + long) c.layer_root_at.new.paths ≡ take (n * long) c.loop-layer.paths ++ path n =
     rw path_len at (c.in-Some.ensures.path refl) in
     let msg : List ℕ = c.loop-layer.msg.items in
-    let put : take (n * size + length msg) c.put_node.new.out ≡ take (n * size) c.loop-layer.signed ++ msg = rw c.n-n.ensures at c.put_node.ensures in (
+    let put : take (n * size + length msg) c.put_node.new.out ≡ take (n * size) c.loop-layer.signed ++ msg = rw c.n-n.ensures at c.put_node.ensures.written in (
       next,
       c.in-Some.ensures.len,
       writes-more signed n size c.loop-layer.signed c.put_node.new.out msg c.loop-layer.invariant.0 c.loop-layer.invariant.1 c.loop-layer.invariant.2 put,
@@ -63,3 +64,19 @@ pub returns-clause-paths : goal.returns-clause-paths
 returns-clause-paths c = λ fits.
     let x = c.args.self.now in
     written_all _ (params_in x).d (path_len_in x) c.loop-layer.layer c.loop-layer.paths (omega (arith, c.d-layer-end.ensures)) (omega (arith, c.requires.paths)) c.loop-layer.invariant.3
+
+pub returns-clause-fit : goal.returns-clause-fit
+returns-clause-fit c =
+    let x = c.args.self.now in
+    let p = params_in x in
+    let end : c.loop-layer.layer ≡ p.d = omega (arith, c.d-layer-end.ensures) in
+    let signed : ℕ → List ℕ = signed_by (source_in x) (answers_in x) in
+    let msg : c.loop-layer.msg.items ≡ signed p.d = c.loop-layer.invariant.0 ∙ ap signed end in
+    let root : c.node_of.result.items ≡ pk_root (public_of x.signing.sk.now) = c.node_of.ensures ∙ c.pk_root.ensures.value in (
+      λ yes. (
+        λ l lt. c.loop-layer.invariant.6 l (omega (arith, lt, end)),
+        λ l lt. c.loop-layer.invariant.7 l (omega (arith, lt, end)),
+        sym msg ∙ c.are_same.ensures.0 yes ∙ root,
+      ),
+      λ fit. c.are_same.ensures.1 (msg ∙ fit.2 ∙ sym root),
+    )

@@ -1,7 +1,7 @@
 -- The path of a layer's leaf stands at its place.
-use Rattle.std.proofs.Common.{◌≡◌, ℕ, ◌+◌, ◌-◌, ◌*◌, List, refl, ap, ◌∙◌, arith}
+use Rattle.std.proofs.Common.{◌≡◌, ℕ, ◌+◌, ◌-◌, ◌*◌, List, length, refl, ap, ◌∙◌, arith}
 use Rattle.slh_few.specs.Parts.{part}
-use Rattle.slh_few.proofs.Ends.{part-end_to_end}
+use Rattle.slh_few.proofs.Ends.{part-end_to_end, part_fits}
 use Rattle.slh_jobs.specs.AllAnswers.{params_in, path_in, path_len_in}
 use Rattle.slh_jobs.proofs.joining.Judged.path.Goals as goal
 
@@ -15,3 +15,9 @@ returns-clause-value c =
     let at : own ≡ c.args.layer * path_len_in x.answered.now = ap (λ (n : ℕ). c.args.layer * n) size in
     rw (len, at) (ap (λ (xs : List ℕ). part (path_len_in x.answered.now) xs c.args.layer) x.paths_is
     ∙ part-end_to_end (path_in x.answered.now) (path_len_in x.answered.now) p.d c.args.layer c.requires x.path_lens)
+
+pub slice_bounds-result-end : goal.slice_bounds-result-end
+slice_bounds-result-end c =
+    let x = c.args.self.now in
+    let size : c.hp.result * c.n.result ≡ path_len_in x.answered.now = rw (c.hp.ensures, c.n.ensures) refl in
+    rw size (part_fits c.args.layer (params_in x.answered.now).d (path_len_in x.answered.now) (length x.paths.now) c.requires x.paths_len)

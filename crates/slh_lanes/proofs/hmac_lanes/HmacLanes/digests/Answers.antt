@@ -52,7 +52,7 @@ returns c = λ key front begun j lane.
     let last : padding (length o + length d) ≡ padding 96 = λ k. padding (lo k + ld k) in
     let rest : value_at c.node_lanes.result j 32 ≡ padding 96 =
     ap (value_at c.node_lanes.result j) (sym (ap length (c.as_slice-2.ensures.value ∙ c.padding_of-padding.ensures)))
-    ∙ c.node_lanes.ensures j lane (rw (c.as_slice-2.ensures.value, c.padding_of-padding.ensures) refl)
+    ∙ c.node_lanes.ensures.value j lane
     ∙ c.as_slice-2.ensures.value ∙ c.padding_of-padding.ensures in
     all_bytes c.after_block.result j
     ∙ ap (λ (s : List ℕ). digest_bytes s 8) (c.after_block.ensures j lane ∙ (λ k. compress h.outer (inner k ++ (rest ∙ sym last) k)))

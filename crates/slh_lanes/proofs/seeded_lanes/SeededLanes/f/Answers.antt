@@ -1,18 +1,17 @@
-use Rattle.std.proofs.Common.{◌≡◌, ℕ, length, sym, ap, ◌∙◌}
-use Rattle.slh_params.specs.Params.{Params}
+use Rattle.std.proofs.Common.{ℕ, ap, ◌∙◌}
+use Rattle.slh_params.specs.ParamSet.{params}
 use Rattle.slh_params.proofs.Bounds.{n_cases}
 use Rattle.slh_hash.specs.Hash.{F, tweaked_hash}
 use Rattle.slh_hash.specs.HashFunctions.{SHA_256}
-use Rattle.slh_lanes.specs.Lanes.{IsSeededLanes, value_at}
+use Rattle.slh_lanes.specs.Lanes.{value_at}
 use Rattle.slh_lanes.proofs.seeded_lanes.SeededLanes.f.Goals as goal
 
 pub digests-requires : goal.digests-requires
-digests-requires c = rw c.n-then-self-n.ensures (n_cases c.args.self.now.set)
+digests-requires c = rw c.n.ensures (n_cases c.args.self.now.set)
 
-pub returns-then-self-n : goal.returns-then-self-n
-unfolding F IsSeededLanes
-returns-then-self-n c = λ p pk s j lane a held.
-    let n = ap (λ (q : Params). q.n) s.0 in
-    let long : length pk ≡ p.n = ap length (sym s.1) ∙ c.if-self-n.true ∙ c.n.ensures ∙ n in
-    c.digests.ensures p pk s long j lane a held
-    ∙ ap (λ (k : ℕ). tweaked_hash SHA_256 p pk a (value_at c.args.x.now j k)) (c.n-then-self-n.ensures ∙ n)
+pub returns : goal.returns
+unfolding F
+returns c = λ j lane a held.
+    let lanes = c.args.self.now in
+    c.digests.ensures j lane a held
+    ∙ ap (λ (k : ℕ). tweaked_hash SHA_256 (params lanes.set) lanes.pk_seed.now a (value_at c.args.x.now j k)) c.n.ensures

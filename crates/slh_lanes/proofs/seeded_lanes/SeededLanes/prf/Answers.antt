@@ -1,22 +1,21 @@
-use Rattle.std.proofs.Common.{◌≡◌, ℕ, ◌%◌, List, length, arith, sym, ap, ◌∙◌}
-use Rattle.slh_params.specs.Params.{Params}
+use Rattle.std.proofs.Common.{sym, ap, ◌∙◌}
+use Rattle.slh_params.specs.ParamSet.{params}
 use Rattle.slh_params.proofs.Bounds.{n_cases}
 use Rattle.slh_hash.specs.Hash.{PRF, tweaked_hash}
 use Rattle.slh_hash.specs.HashFunctions.{SHA_256}
-use Rattle.slh_lanes.specs.Lanes.{IsSeededLanes, value_at}
+use Rattle.slh_lanes.specs.Lanes.{value_at}
 use Rattle.slh_lanes.proofs.NodeLengths.{n_whole}
 use Rattle.slh_lanes.proofs.seeded_lanes.SeededLanes.prf.Goals as goal
 
-pub digests-requires : goal.digests-requires
-digests-requires c = rw c.n-then-sk_seed-n.ensures (n_cases c.args.self.now.set)
+pub node_lanes-requires-clause-whole : goal.node_lanes-requires-clause-whole
+node_lanes-requires-clause-whole c = rw (sym c.requires.sk_seed) at (n_whole c.args.self.now.set)
 
-pub returns-then-sk_seed-n : goal.returns-then-sk_seed-n
-unfolding PRF IsSeededLanes
-returns-then-sk_seed-n c = λ p pk s j lane a held.
-    let sk : List ℕ = c.args.sk_seed.now in
-    let n = ap (λ (q : Params). q.n) s.0 in
-    let long : length pk ≡ p.n = ap length (sym s.1) ∙ c.if-self-n.true ∙ c.n.ensures ∙ n in
-    let same : length sk ≡ p.n = c.if-sk_seed-n.true ∙ c.n-then-self-n.ensures ∙ n in
-    let whole : length sk % 4 ≡ 0 = omega (arith, same, n, n_whole c.args.self.now.set) in
-    c.digests.ensures p pk s long j lane a held
-    ∙ ap (tweaked_hash SHA_256 p pk a) (ap (value_at c.node_lanes.result j) (c.n-then-sk_seed-n.ensures ∙ n ∙ sym same) ∙ c.node_lanes.ensures j lane whole)
+pub digests-requires : goal.digests-requires
+digests-requires c = rw c.n.ensures (n_cases c.args.self.now.set)
+
+pub returns : goal.returns
+unfolding PRF
+returns c = λ j lane a held.
+    let lanes = c.args.self.now in
+    c.digests.ensures j lane a held
+    ∙ ap (tweaked_hash SHA_256 (params lanes.set) lanes.pk_seed.now a) (ap (value_at c.node_lanes.result j) (c.n.ensures ∙ sym c.requires.sk_seed) ∙ c.node_lanes.ensures.value j lane)

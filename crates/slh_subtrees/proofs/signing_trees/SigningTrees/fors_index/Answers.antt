@@ -5,6 +5,6 @@ use Rattle.slh_subtrees.proofs.signing_trees.SigningTrees.fors_index.Goals as go
 
 pub returns-clause-small : goal.returns-clause-small
 returns-clause-small c =
-    let p = params c.args.self.now.seeds.set in
+    let p = params c.args.self.now.signer.now.public.set in
     let At : ℕ → Type 0 = λ i. i < 2 ^ p.a in
     subst At (sym (c.args.self.now.asked c.args.number c.requires)) (index_lt p c.args.self.now.md.now c.args.number)

@@ -12,9 +12,9 @@ use Rattle.slh_subtrees.proofs.signing_trees.SigningTrees.hashed_keeping.Goals a
 pub returns-clause-hashed : goal.returns-clause-hashed
 returns-clause-hashed c =
     let t = c.args.self.now in
-    let p = params t.seeds.set in
-    let sk = t.seeds.sk_seed.now in
-    let pk = t.seeds.pk_seed.now in
+    let p = params t.signer.now.public.set in
+    let sk = t.signer.now.sk_seed.now in
+    let pk = t.signer.now.public.pk_seed.now in
     let at : Place = layer_place p t.idx_tree t.idx_leaf c.args.layer in
     let Over : Place → Type 0 = λ x. IsHashed (xmss_tree p sk pk x.layer x.tree) x.pair c.xmss_range_keeping-cover.result c.xmss_range_keeping-cover.new.rec in
     let Of : ℕ → Type 0 = λ l. IsHashed (xmss_tree p sk pk l at.tree) at.pair c.xmss_range_keeping-cover.result c.xmss_range_keeping-cover.new.rec in

@@ -7,5 +7,5 @@ use Rattle.slh_subtrees.proofs.signing_trees.SigningTrees.layer_place.Goals as g
 pub returns-clause-pair : goal.returns-clause-pair
 returns-clause-pair c =
     let t = c.args.self.now in
-    let At : Place → Type 0 = λ at. at.pair < 2 ^ (params t.seeds.set).hp in
-    subst At (sym (t.above c.args.layer _ c.requires)) (layer_place-pair (params t.seeds.set) t.idx_tree t.idx_leaf c.args.layer t.leaf)
+    let At : Place → Type 0 = λ at. at.pair < 2 ^ (params t.signer.now.public.set).hp in
+    subst At (sym (t.above c.args.layer _ c.requires)) (layer_place-pair (params t.signer.now.public.set) t.idx_tree t.idx_leaf c.args.layer t.leaf)

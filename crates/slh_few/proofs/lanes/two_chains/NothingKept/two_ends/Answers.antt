@@ -6,14 +6,14 @@ use Rattle.slh_few.proofs.lanes.two_chains.NothingKept.two_ends.Goals as goal
 
 pub returns-clause-x : goal.returns-clause-x
 returns-clause-x c =
-    let p = params c.args.seeds.now.set in
+    let p = params c.args.lanes.now.set in
     let last : 0 + (c.w.result - 1) ≡ w p - 1 = omega (arith, c.w.ensures) in
-    run_on p c.args.seeds.now.sk_seed.now c.args.seeds.now.pk_seed.now c.args.at c.args.c 0 0 (c.w.result - 1) (w p - 1) c.key_adrs-x_adrs.result c.two_secrets.new.x c.chains_two.new.x
-    refl last c.key_adrs-x_adrs.ensures (c.chains_two.ensures.x p c.args.seeds.now.pk_seed.now c.requires.lanes) c.two_secrets.ensures.x
+    run_on p c.args.sk_seed.now c.args.lanes.now.pk_seed.now c.args.at c.args.c 0 0 (c.w.result - 1) (w p - 1) c.key_adrs-x_adrs.result c.two_secrets.new.x c.chains_two.new.x
+    refl last c.key_adrs-x_adrs.ensures (c.chains_two.ensures.x) c.two_secrets.ensures.x
 
 pub returns-clause-y : goal.returns-clause-y
 returns-clause-y c =
-    let p = params c.args.seeds.now.set in
+    let p = params c.args.lanes.now.set in
     let last : 0 + (c.w.result - 1) ≡ w p - 1 = omega (arith, c.w.ensures) in
-    run_on p c.args.seeds.now.sk_seed.now c.args.seeds.now.pk_seed.now c.args.at (c.args.c + 1) 0 0 (c.w.result - 1) (w p - 1) c.key_adrs-y_adrs.result c.two_secrets.new.y c.chains_two.new.y
-    refl last c.key_adrs-y_adrs.ensures (c.chains_two.ensures.y p c.args.seeds.now.pk_seed.now c.requires.lanes) c.two_secrets.ensures.y
+    run_on p c.args.sk_seed.now c.args.lanes.now.pk_seed.now c.args.at (c.args.c + 1) 0 0 (c.w.result - 1) (w p - 1) c.key_adrs-y_adrs.result c.two_secrets.new.y c.chains_two.new.y
+    refl last c.key_adrs-y_adrs.ensures (c.chains_two.ensures.y) c.two_secrets.ensures.y

@@ -13,19 +13,19 @@ use Rattle.slh_few.proofs.lanes.two_chains_keeping.KeptValuesKept.ends.Goals as 
 
 pub loop-j-init : goal.loop-j-init
 loop-j-init c =
-    let p = params c.args.seeds.now.set in
+    let p = params c.args.lanes.now.set in
     let z : 0 ≡ 0 * spacing p = omega arith in
     record {
-      nodes = subst (λ k. AreAfter p c.args.seeds.now.sk_seed.now c.args.seeds.now.pk_seed.now c.args.at c.args.c k c.secrets-nodes.result) z c.secrets-nodes.ensures;
+      nodes = subst (λ k. AreAfter p c.args.sk_seed.now c.args.lanes.now.pk_seed.now c.args.at c.args.c k c.secrets-nodes.result) z c.secrets-nodes.ensures;
       kept = λ i none. absurd (omega (arith, none));
       others = λ i other. refl;
     }
 
 pub loop-j-preserved : goal.loop-j-preserved
 loop-j-preserved c =
-    let p = params c.args.seeds.now.set in
-    let sk = c.args.seeds.now.sk_seed.now in
-    let pk = c.args.seeds.now.pk_seed.now in
+    let p = params c.args.lanes.now.set in
+    let sk = c.args.sk_seed.now in
+    let pk = c.args.lanes.now.pk_seed.now in
     let d = c.args.c in
     let every : ℕ = c.spacing-every.result in
     let now : ℕ = c.loop-j.j in
@@ -35,7 +35,7 @@ loop-j-preserved c =
     let next : now * spacing p + spacing p ≡ (now + 1) * spacing p = omega arith in
     record {
       nodes = run_on p sk pk c.args.at d (now * spacing p) (now * every) every ((now + 1) * spacing p) c.key_adrs-adrs.result c.loop-j.nodes c.chains-nodes.result
-          (ap (λ k. now * k) is) (ap (λ k. now * spacing p + k) is ∙ next) c.key_adrs-adrs.ensures (c.chains-nodes.ensures p pk c.requires.lanes) old.nodes;
+          (ap (λ k. now * k) is) (ap (λ k. now * spacing p + k) is ∙ next) c.key_adrs-adrs.ensures (c.chains-nodes.ensures) old.nodes;
       kept = λ i lt. elim (cases_lt i now) [
         | inl below ↦ c.put_value.ensures.others i (omega arith) ∙ old.kept i below
         | inr ge ↦
@@ -48,22 +48,22 @@ loop-j-preserved c =
 
 pub returns-clause-ends : goal.returns-clause-ends
 returns-clause-ends c =
-    let s = c.args.seeds.now.set in
+    let s = c.args.lanes.now.set in
     let p = params s in
-    let pk = c.args.seeds.now.pk_seed.now in
+    let pk = c.args.lanes.now.pk_seed.now in
     let is : c.spacing-every.result ≡ spacing p = c.spacing-every.ensures.value in
     let count : c.kept_count-last.result ≡ kept_count p = c.kept_count-last.ensures.value in
     let last : c.kept_count-last.result - 1 ≡ c.loop-j.j = omega arith in
     let end : c.loop-j.j ≡ kept_count p - 1 = omega (arith, count) in
-    run_on p c.args.seeds.now.sk_seed.now pk c.args.at c.args.c (c.loop-j.j * spacing p) ((c.kept_count-last.result - 1) * c.spacing-every.result) (c.spacing-every.result - 1)
+    run_on p c.args.sk_seed.now pk c.args.at c.args.c (c.loop-j.j * spacing p) ((c.kept_count-last.result - 1) * c.spacing-every.result) (c.spacing-every.result - 1)
     (w p - 1) c.key_adrs-adrs.result c.loop-j.nodes c.chains.result (λ k. last k * is k) ((λ k. end k * spacing p + (is k - 1)) ∙ kept_end s)
-    c.key_adrs-adrs.ensures (c.chains.ensures p pk c.requires.lanes) c.loop-j.invariant.nodes
+    c.key_adrs-adrs.ensures (c.chains.ensures) c.loop-j.invariant.nodes
 
 pub returns-clause-kept : goal.returns-clause-kept
 returns-clause-kept c =
-    let p = params c.args.seeds.now.set in
-    let sk = c.args.seeds.now.sk_seed.now in
-    let pk = c.args.seeds.now.pk_seed.now in
+    let p = params c.args.lanes.now.set in
+    let sk = c.args.sk_seed.now in
+    let pk = c.args.lanes.now.pk_seed.now in
     let d = c.args.c in
     let lane : ℕ = c.args.self.now.lane in
     let old = c.loop-j.invariant in

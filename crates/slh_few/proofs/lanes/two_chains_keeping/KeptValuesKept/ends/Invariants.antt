@@ -7,8 +7,8 @@ use Rattle.slh_few.proofs.lanes.two_chains_keeping.KeptValuesKept.ends.Given as 
 
 abbrev pub invariant-loop-j : goal.invariant-loop-j
 invariant-loop-j l = record {
-  nodes : AreAfter (params l.seeds.set) l.seeds.sk_seed.now l.seeds.pk_seed.now l.fn.at l.c (l.j * spacing (params l.seeds.set)) l.nodes;
-  kept : (i : ℕ) → i < l.j → part (params l.seeds.set).n (part (kept_chain_len (params l.seeds.set)) l.out l.c) i
-      ≡ kept_value (params l.seeds.set) l.seeds.sk_seed.now l.seeds.pk_seed.now (key_at l.fn.at l.self.lane) l.c i;
-  others : (d : ℕ) → d ≢ l.c → part (kept_chain_len (params l.seeds.set)) l.out d ≡ part (kept_chain_len (params l.seeds.set)) l.initial.out d;
+  nodes : AreAfter (params l.lanes.set) l.sk_seed l.lanes.pk_seed.now l.fn.at l.c (l.j * spacing (params l.lanes.set)) l.nodes;
+  kept : (i : ℕ) → i < l.j → part (params l.lanes.set).n (part (kept_chain_len (params l.lanes.set)) l.out l.c) i
+      ≡ kept_value (params l.lanes.set) l.sk_seed l.lanes.pk_seed.now (key_at l.fn.at l.self.lane) l.c i;
+  others : (d : ℕ) → d ≢ l.c → part (kept_chain_len (params l.lanes.set)) l.out d ≡ part (kept_chain_len (params l.lanes.set)) l.initial.out d;
 }

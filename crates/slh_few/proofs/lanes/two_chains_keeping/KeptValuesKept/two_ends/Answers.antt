@@ -12,9 +12,9 @@ use Rattle.slh_few.proofs.lanes.two_chains_keeping.KeptValuesKept.two_ends.Goals
 
 pub loop-j-init : goal.loop-j-init
 loop-j-init c =
-    let p = params c.args.seeds.now.set in
-    let sk = c.args.seeds.now.sk_seed.now in
-    let pk = c.args.seeds.now.pk_seed.now in
+    let p = params c.args.lanes.now.set in
+    let sk = c.args.sk_seed.now in
+    let pk = c.args.lanes.now.pk_seed.now in
     let z : 0 ≡ 0 * spacing p = omega arith in
     record {
       x = subst (λ k. AreAfter p sk pk c.args.at c.args.c k c.two_secrets.new.x) z c.two_secrets.ensures.x;
@@ -26,9 +26,9 @@ loop-j-init c =
 
 pub loop-j-preserved : goal.loop-j-preserved
 loop-j-preserved c =
-    let p = params c.args.seeds.now.set in
-    let sk = c.args.seeds.now.sk_seed.now in
-    let pk = c.args.seeds.now.pk_seed.now in
+    let p = params c.args.lanes.now.set in
+    let sk = c.args.sk_seed.now in
+    let pk = c.args.lanes.now.pk_seed.now in
     let every : ℕ = c.spacing-every.result in
     let now : ℕ = c.loop-j.j in
     let lane : ℕ = c.args.self.now.lane in
@@ -39,7 +39,7 @@ loop-j-preserved c =
     let next : now * spacing p + every ≡ (now + 1) * spacing p = ap (λ k. now * spacing p + k) is ∙ more in
     record {
       x = run_on p sk pk c.args.at c.args.c (now * spacing p) (now * every) every ((now + 1) * spacing p) c.key_adrs-x_adrs.result c.loop-j.x c.chains_two.new.x
-          from next c.key_adrs-x_adrs.ensures (c.chains_two.ensures.x p pk c.requires.lanes) old.x;
+          from next c.key_adrs-x_adrs.ensures (c.chains_two.ensures.x) old.x;
       x_kept = λ i lt. elim (cases_lt i now) [
         | inl below ↦ c.put_two_values.ensures.x_others i (omega arith) ∙ old.x_kept i below
         | inr ge ↦
@@ -48,7 +48,7 @@ loop-j-preserved c =
             ∙ old.x lane c.requires.fits ∙ ap (kept_value p sk pk (key_at c.args.at lane) c.args.c) (sym e)
       ];
       y = run_on p sk pk c.args.at (c.args.c + 1) (now * spacing p) (now * every) every ((now + 1) * spacing p) c.key_adrs-y_adrs.result c.loop-j.y c.chains_two.new.y
-          from next c.key_adrs-y_adrs.ensures (c.chains_two.ensures.y p pk c.requires.lanes) old.y;
+          from next c.key_adrs-y_adrs.ensures (c.chains_two.ensures.y) old.y;
       y_kept = λ i lt. elim (cases_lt i now) [
         | inl below ↦ c.put_two_values.ensures.y_others i (omega arith) ∙ old.y_kept i below
         | inr ge ↦
@@ -61,35 +61,35 @@ loop-j-preserved c =
 
 pub returns-clause-x : goal.returns-clause-x
 returns-clause-x c =
-    let s = c.args.seeds.now.set in
+    let s = c.args.lanes.now.set in
     let p = params s in
-    let pk = c.args.seeds.now.pk_seed.now in
+    let pk = c.args.lanes.now.pk_seed.now in
     let is : c.spacing-every.result ≡ spacing p = c.spacing-every.ensures.value in
     let count : c.kept_count-last.result ≡ kept_count p = c.kept_count-last.ensures.value in
     let last : c.kept_count-last.result - 1 ≡ c.loop-j.j = omega arith in
     let end : c.loop-j.j ≡ kept_count p - 1 = omega (arith, count) in
-    run_on p c.args.seeds.now.sk_seed.now pk c.args.at c.args.c (c.loop-j.j * spacing p) ((c.kept_count-last.result - 1) * c.spacing-every.result) (c.spacing-every.result - 1)
+    run_on p c.args.sk_seed.now pk c.args.at c.args.c (c.loop-j.j * spacing p) ((c.kept_count-last.result - 1) * c.spacing-every.result) (c.spacing-every.result - 1)
     (w p - 1) c.key_adrs-x_adrs.result c.loop-j.x c.chains_two-2.new.x (λ k. last k * is k) ((λ k. end k * spacing p + (is k - 1)) ∙ kept_end s)
-    c.key_adrs-x_adrs.ensures (c.chains_two-2.ensures.x p pk c.requires.lanes) c.loop-j.invariant.x
+    c.key_adrs-x_adrs.ensures (c.chains_two-2.ensures.x) c.loop-j.invariant.x
 
 pub returns-clause-y : goal.returns-clause-y
 returns-clause-y c =
-    let s = c.args.seeds.now.set in
+    let s = c.args.lanes.now.set in
     let p = params s in
-    let pk = c.args.seeds.now.pk_seed.now in
+    let pk = c.args.lanes.now.pk_seed.now in
     let is : c.spacing-every.result ≡ spacing p = c.spacing-every.ensures.value in
     let count : c.kept_count-last.result ≡ kept_count p = c.kept_count-last.ensures.value in
     let last : c.kept_count-last.result - 1 ≡ c.loop-j.j = omega arith in
     let end : c.loop-j.j ≡ kept_count p - 1 = omega (arith, count) in
-    run_on p c.args.seeds.now.sk_seed.now pk c.args.at (c.args.c + 1) (c.loop-j.j * spacing p) ((c.kept_count-last.result - 1) * c.spacing-every.result) (c.spacing-every.result - 1)
+    run_on p c.args.sk_seed.now pk c.args.at (c.args.c + 1) (c.loop-j.j * spacing p) ((c.kept_count-last.result - 1) * c.spacing-every.result) (c.spacing-every.result - 1)
     (w p - 1) c.key_adrs-y_adrs.result c.loop-j.y c.chains_two-2.new.y (λ k. last k * is k) ((λ k. end k * spacing p + (is k - 1)) ∙ kept_end s)
-    c.key_adrs-y_adrs.ensures (c.chains_two-2.ensures.y p pk c.requires.lanes) c.loop-j.invariant.y
+    c.key_adrs-y_adrs.ensures (c.chains_two-2.ensures.y) c.loop-j.invariant.y
 
 pub returns-clause-x_kept : goal.returns-clause-x_kept
 returns-clause-x_kept c =
-    let p = params c.args.seeds.now.set in
-    let sk = c.args.seeds.now.sk_seed.now in
-    let pk = c.args.seeds.now.pk_seed.now in
+    let p = params c.args.lanes.now.set in
+    let sk = c.args.sk_seed.now in
+    let pk = c.args.lanes.now.pk_seed.now in
     let old = c.loop-j.invariant in
     let lane : ℕ = c.args.self.now.lane in
     let signer = key_at c.args.at lane in
@@ -106,9 +106,9 @@ returns-clause-x_kept c =
 
 pub returns-clause-y_kept : goal.returns-clause-y_kept
 returns-clause-y_kept c =
-    let p = params c.args.seeds.now.set in
-    let sk = c.args.seeds.now.sk_seed.now in
-    let pk = c.args.seeds.now.pk_seed.now in
+    let p = params c.args.lanes.now.set in
+    let sk = c.args.sk_seed.now in
+    let pk = c.args.lanes.now.pk_seed.now in
     let old = c.loop-j.invariant in
     let lane : ℕ = c.args.self.now.lane in
     let signer = key_at c.args.at lane in

@@ -1,0 +1,108 @@
+//! Verdicts that one fault of the machine does not turn, for boot loaders: a register that loses a bit, an instruction
+//! that is skipped.
+//!
+//! A verdict is the sum of two halves, and each half comes from a comparison of its own with PK.root. One comparison that
+//! is turned gives a sum that is no verdict. `tests/glitches.py` tries the faults (ours).
+ghost use Rattle.std.specs.Prelude.{◌≡◌, ◌≢◌, ◌↔◌, ◌≤◌, IsTrue, length};
+ghost use Rattle.slh_params.specs.Params.{sig_len};
+ghost use Rattle.slh_params.specs.ParamSet.{params};
+ghost use Rattle.slh_hash.specs.Keyed.{joined};
+ghost use Rattle.slh_core.specs.Hardened.{Passes};
+ghost use Rattle.slh_core.specs.Messages.{pure_message, pre_hash_message};
+ghost use Rattle.slh_core.specs.Signatures.{IsValid};
+
+use crate::comparing::are_same;
+use crate::formatted_message::{FormattedMessage, MOST_CONTEXT_LEN};
+use crate::message_digest::MessageDigest;
+use crate::public_key::PublicKey;
+use crate::verifying::root_of_signature;
+use slh_params::Node;
+
+/// The verdict on a valid signature. It differs from `HARDENED_INVALID` in 18 bits, and from a sum of halves that
+/// disagree in at least 12.
+pub const HARDENED_VALID: u32 = 0x79d6_17a4;
+
+/// The verdict on all other bytes.
+pub const HARDENED_INVALID: u32 = 0x7c91_d87f;
+
+/// The halves of the verdicts.
+const FIRST_VALID: u32 = 0x21e7_9b36;
+
+const FIRST_INVALID: u32 = 0x4f3d_01ed;
+
+const SECOND_VALID: u32 = 0x57ee_7c6e;
+
+const SECOND_INVALID: u32 = 0x2d54_d692;
+
+/// Whether a signature that gave this root passes. It is never inlined, so that a compiler cannot answer once for both.
+#[inline(never)]
+fn passes(root: &Node, ctx: &[u8], sig: &[u8], pk: &PublicKey) -> bool
+    ensures { IsTrue result ↔ Passes pk.now ctx.now sig.now root.now.items }
+{
+    ctx.len() <= MOST_CONTEXT_LEN
+        && sig.len() == pk.set().sig_len()
+        && are_same(root.as_slice(), pk.pk_root())
+}
+
+/// The same, by a comparison of its own.
+#[inline(never)]
+fn passes_again(root: &Node, ctx: &[u8], sig: &[u8], pk: &PublicKey) -> bool
+    ensures { IsTrue result ↔ Passes pk.now ctx.now sig.now root.now.items }
+{
+    are_same(pk.pk_root(), root.as_slice())
+        && pk.set().sig_len() == sig.len()
+        && ctx.len() <= MOST_CONTEXT_LEN
+}
+
+/// The verdict on a signature of the parts put end to end, which are M' under a context.
+fn hardened(parts: &[&[u8]], ctx: &[u8], sig: &[u8], pk: &PublicKey) -> u32
+    ensures valid { (result ≡ HARDENED_VALID)
+        ↔ ((length ctx.now ≤ 255) × IsValid pk.now (joined parts.now) sig.now) }
+    ensures invalid { result ≢ HARDENED_VALID → result ≡ HARDENED_INVALID }
+{
+    if sig.len() != pk.set().sig_len() {
+        return HARDENED_INVALID;
+    }
+    let root = root_of_signature(parts, sig, pk);
+    let first = if passes(&root, ctx, sig, pk) {
+        FIRST_VALID
+    } else {
+        FIRST_INVALID
+    };
+    let second = if passes_again(&root, ctx, sig, pk) {
+        SECOND_VALID
+    } else {
+        SECOND_INVALID
+    };
+    first + second
+}
+
+/// The hardened verdict on a signature of a message under a context: `HARDENED_VALID` if and only if `verify` is true.
+pub fn verify_hardened(msg: &[u8], ctx: &[u8], sig: &[u8], pk: &PublicKey) -> u32
+    ensures valid { (result ≡ HARDENED_VALID)
+        ↔ ((length ctx.now ≤ 255) × IsValid pk.now (pure_message ctx.now msg.now) sig.now) }
+    ensures invalid { result ≢ HARDENED_VALID → result ≡ HARDENED_INVALID }
+{
+    match FormattedMessage::of_message(msg, ctx) {
+        Some(message) => hardened(&message.parts(), ctx, sig, pk),
+        None => HARDENED_INVALID,
+    }
+}
+
+/// The hardened verdict on a signature of a message that has this digest, under a context: `HARDENED_VALID` if and only
+/// if `hash_verify_digest` is true.
+pub fn hash_verify_digest_hardened(
+    digest: &MessageDigest,
+    ctx: &[u8],
+    sig: &[u8],
+    pk: &PublicKey,
+) -> u32
+    ensures valid { (result ≡ HARDENED_VALID) ↔ ((length ctx.now ≤ 255)
+        × IsValid pk.now (pre_hash_message ctx.now digest.now.function digest.now.bytes) sig.now) }
+    ensures invalid { result ≢ HARDENED_VALID → result ≡ HARDENED_INVALID }
+{
+    match FormattedMessage::of_digest(digest, ctx) {
+        Some(message) => hardened(&message.parts(), ctx, sig, pk),
+        None => HARDENED_INVALID,
+    }
+}
