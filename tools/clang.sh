@@ -1,13 +1,19 @@
 #!/bin/sh
 # Stands in for the kit's clang where `rattle build` compiles a proved module for a target: it changes two numbers of
 # the module and a word of the command line or a few, and runs the kit's clang. `tools/kit.py toolchain` makes the
-# folder for --toolchain, in which this is bin/clang, kit/clang is the kit's, and the files lanes and word have:
+# folder for --toolchain, in which this is bin/clang, kit/clang is the kit's, and the files lanes, word and size have:
 #
 #   lanes   what crates/slh_width answers: two numbers of its enum Width, in place of Eight. No contract tells them
 #   word    -march=x86-64-v4 in place of -march=x86-64: AVX-512 F, BW, CD, DQ and VL
 #           -msimd128 behind -mcpu=lime1: WebAssembly's vectors of 128 bits, and with them a higher limit for inlining,
 #           by which the rounds of a compression stand in it, as they do in code for the other targets
+#           module: nothing is compiled, and an empty object written; the module is left there as it came, too, so
+#           that it can be had with other lanes
 #           or nothing
+#   size    small: for_size.sed gives the functions attributes
+#           or fast
+#
+# The module as it is compiled is left there as module.ll, for the targets that rattle does not build for.
 #
 # The module names x86-64-v3 for its functions, and no features: so they have those of the command line. A command line
 # or a module that has not what is to be changed is refused, so that nothing is compiled for another target than the
@@ -16,15 +22,18 @@ set -eu
 PATH=/usr/bin:/bin
 here=${0%/*}/..
 read -r word <"$here/word"
+read -r size <"$here/size"
 refuse() {
     echo "tools/clang.sh: $1" >&2
     exit 2
 }
 
 # The words as they were, but for one: each is taken from the front, and put behind the last.
-found=no module= written=no target=
+found=no module= written=no target= output= before=
 for it in "$@"; do
     shift
+    [ "$before" != -o ] || output=$it
+    before=$it
     case $word$it in
     -march=x86-64-v4-march=x86-64) set -- "$@" "$word" && found=yes ;;
     -msimd128-mcpu=lime1) set -- "$@" "$it" "$word" -mllvm -inline-threshold=500 && found=yes ;;
@@ -34,7 +43,8 @@ for it in "$@"; do
     *) set -- "$@" "$it" ;;
     esac
 done
-[ -z "$word" ] || [ $found = yes ] || refuse "no word on the command line that stands before $word or in its place"
+case $word in '' | module) found=yes ;; esac
+[ $found = yes ] || refuse "no word on the command line that stands before $word or in its place"
 # For ARM rattle has the module compiled to text, changes that, and calls again: there the numbers are written already.
 [ $written = no ] || exec "$here/kit/clang" "$@"
 [ -n "$module" ] || refuse "no module is on the command line"
@@ -48,4 +58,15 @@ sed "/^define .*@\"slh_width::build_widths\"() /,/^}/ {
 }" "$module.as-proved" >"$module.ll"
 [ "$(sed -n '/^define .*@"slh_width::build_widths"() /,/^}/p' "$module.as-proved" | grep -c '^  store i8 2, ptr %r[12], ')" = 2 ] ||
     refuse "slh_width::build_widths is not in the module, or not as it was"
+if [ $size = small ]; then
+    mv "$module.ll" "$module.fast" && sed -E -f "$here/for_size.sed" "$module.fast" >"$module.ll"
+    [ "$(grep -c '^define .* nounwind noinline optsize {$' "$module.ll")" = 2 ] &&
+        [ "$(grep '^define ' "$module.ll" | grep -vc ' optsize {$')" = 3 ] ||
+        refuse "the module does not have the functions that for_size.sed names, once each"
+fi
+cp "$module.ll" "$here/module.ll"
+if [ "$word" = module ]; then
+    cp "$module" "$here/module.bc"
+    exec "$here/kit/clang" $target -c -x ir /dev/null -o "$output"
+fi
 exec "$here/kit/clang" "$@"

@@ -1,40 +1,39 @@
 #!/usr/bin/env python3
-"""Writes docs/CONTRACTS.md from the sources: for each file of each crate the calls that other crates have, the names of
-the clauses of their contracts, and the wrong bodies that the prover has to refuse, as edits in must-fail/ (tried by `rt ci`) and
-wrong/ (tried by tests/wrong_bodies.py). A private function is listed where an edit turns it. It writes into
-docs/AUDIT.md how many lines the files of definitions have that the page names. It also looks whether the code on
-docs/CALLING.md is that of crates/slh_hello and crates/slh_examples, and its lines of crates.txt, and whether the
-clauses that README.md and docs/AUDIT.md name stand in the sources.
+"""Writes docs/CONTRACTS.md from the sources: for each file of each crate the calls that other crates can use, the names
+of their clauses, and the wrong bodies that the prover has to refuse, as edits in must-fail/ (tried by `rt ci`) and wrong/
+(tried by tests/wrong_bodies.py). A private function is listed if an edit turns it. The script also writes the numbers
+of lines of definitions into docs/PROVED.md. It checks that the code on crates/slh_examples/README.md is that of
+crates/slh_hello and crates/slh_examples, its lines those of crates.txt, and that the sources have the clauses that
+docs/PROVED.md names.
 
 Usage: tools/contracts.py           writes the pages
-       tools/contracts.py --check   fails where the page or the code is not what the sources say
+       tools/contracts.py --check   fails if a page or the code is not what the sources say
 """
 import glob
 import os
 import re
 import sys
+import textwrap
 
 ROOT = os.path.dirname(os.path.dirname(os.path.abspath(__file__)))
 PAGE = os.path.join(ROOT, "docs", "CONTRACTS.md")
-CALLING = os.path.join(ROOT, "docs", "CALLING.md")
-AUDIT = os.path.join(ROOT, "docs", "AUDIT.md")
-README = os.path.join(ROOT, "README.md")
+CALLING = os.path.join(ROOT, "crates", "slh_examples", "README.md")
+PROVED = os.path.join(ROOT, "docs", "PROVED.md")
 UNNAMED = "one, unnamed"
 HEAD = """# Every call, its clauses and its wrong bodies
 
-`tools/contracts.py` writes this page from the sources, and the test command fails where it differs.
-[PROVED.md](PROVED.md) says what the clauses come to.
+For auditors: which clauses does a call have, and which wrong bodies does the prover refuse?
 
-The table has for each crate the calls that it gives to others, by their files in `crates/NAME/src`, and the names of
-their clauses, which stand on the function there. Behind a function's name stand the wrong bodies of it that the prover
-refuses: {edits} edits in `crates/NAME/wrong`, which `tests/wrong_bodies.py` tries, and {few} in `crates/NAME/must-fail`,
-which `rt ci` tries. A private function stands here where an edit turns it: the calls above it rest on what it promises.
-"X as T" is a type's method of the trait T, with the trait's clauses. "none": the function is safe and returns, as all
-do, and no more is said of it.
+`tools/contracts.py` writes this page from the sources, and the test command fails if it differs. The contracts
+themselves, their definitions and a search field are on the page that `tools/contracts_page.py FILE` writes.
+[PROVED.md](PROVED.md) explains the clauses.
 
-| file | functions, and their wrong bodies | clauses |
-|---|---|---|
+The page lists the calls that other crates can use, by crate and file. Each call has the names of its clauses, then the
+names of its wrong bodies. {edits} edits are in `crates/NAME/wrong`, which `tests/wrong_bodies.py` tries, and {few} in
+`crates/NAME/must-fail`, which `rt ci` tries. A private function is listed if an edit changes it. "X as T" is a type's
+method of the trait T, with the trait's clauses. "no clause": the function is safe and returns, as all do.
 """
+WIDTH = 160
 
 
 def read(*path):
@@ -90,8 +89,8 @@ def functions(crate, path):
 
 
 def edits(crate):
-    """For each edit of a crate the file and the line that it changes first. The file has that text once, and the crate
-    the function that the prover has to refuse."""
+    """For each edit of a crate its name, the file, and the line that it changes first. The file has that text once, and
+    the crate has the function that the prover has to refuse."""
     for folder in ("must-fail", "wrong"):
         top = os.path.join(ROOT, "crates", crate, folder)
         for name in sorted(os.listdir(top)) if os.path.isdir(top) else ():
@@ -109,34 +108,38 @@ def quoted(names):
 
 
 def clauses_of(name, clauses):
-    """What a row says of a function's clauses."""
+    """The words of a line for a function's clauses."""
     if not clauses:
-        return "its trait's" if " as " in name else "none"
-    return UNNAMED if set(clauses) == {UNNAMED} else quoted(clauses)
+        return "clauses of the trait" if " as " in name else "no clause"
+    return "one clause" if set(clauses) == {UNNAMED} else quoted(clauses)
+
+
+def line_of(name, is_public, clauses, wrong):
+    """The list item of a function, as lines of at most WIDTH characters."""
+    private = "" if is_public or " as " in name else " (private)"
+    said = f"- `{name}`{private}: {clauses_of(name, clauses)}" + (f"; wrong: {quoted(wrong)}" if wrong else "")
+    return "\n".join(textwrap.wrap(said, WIDTH, subsequent_indent="  ", break_long_words=False, break_on_hyphens=False))
 
 
 def rows_of(crate):
-    """The rows of a crate, "" where it has no calls: its name, then for each file a row for all functions that an edit
-    turns, or that other crates can call, whose clauses have the same names."""
+    """The section of a crate, "" if it has no calls: for each file a list of the functions that other crates can call, or
+    that an edit turns."""
     rows, turned = [], {}
     for edit, path, line in edits(crate):
         above = [name for number, name, _, _ in functions(crate, path) if number <= line]
         turned.setdefault((path, above[-1] if above else ""), []).append(edit)
     for path in sources(crate):
-        alike = {}
+        lines = []
         for _, name, is_public, clauses in functions(crate, path):
-            by = turned.pop((path, name), [])
-            if by or is_public:
-                private = "" if is_public or " as " in name else ", private"
-                said = f"`{name}`{private}" + (f": {quoted(by)}" if by else "")
-                alike.setdefault(clauses_of(name, clauses), []).append(said)
+            wrong = turned.pop((path, name), [])
+            if wrong or is_public:
+                lines.append(line_of(name, is_public, clauses, wrong))
         if (path, "") in turned:
-            alike.setdefault("", []).append(f"the file itself: {quoted(turned.pop((path, '')))}")
-        file = path.removeprefix("src/")
-        rows += [f"| `{file}` | {'; '.join(some)} | {clauses} |" for clauses, some in alike.items()]
+            lines.append(f"- the file itself; wrong: {quoted(turned.pop((path, '')))}")
+        rows += [f"\n**{path.removeprefix('src/')}**\n", *lines] if lines else []
     if turned:
-        sys.exit(f"tools/contracts.py: edits of {crate} turn what is in none of its sources: {turned}")
-    return "\n".join([f"| **{crate}** | | |", *rows]) + "\n" if rows else ""
+        sys.exit(f"tools/contracts.py: edits of {crate} turn text that is in none of its sources: {turned}")
+    return "\n".join([f"\n## {crate}", *rows]) + "\n" if rows else ""
 
 
 def head():
@@ -152,8 +155,8 @@ def crates():
 
 
 def strange_code():
-    """Of docs/CALLING.md the first lines of code that stands in no file of slh_hello and slh_examples, and the lines
-    of crates.txt that are not there."""
+    """The first lines of the code on crates/slh_examples/README.md that no file of slh_hello and slh_examples has, and
+    its lines of crates.txt that are not there."""
     files = [read(crate, path) for crate in ("slh_hello", "slh_examples") for path in sources(crate)]
     with open(os.path.join(ROOT, "crates.txt")) as list_of_crates, open(CALLING) as page:
         known, text = list_of_crates.read().split("\n"), page.read()
@@ -164,7 +167,7 @@ def strange_code():
 
 
 def with_lines(page):
-    """The page AUDIT, with the numbers of lines that its files of definitions have."""
+    """The page PROVED, with the numbers of lines that its files of definitions have."""
     counts = []
 
     def counted(row):
@@ -178,12 +181,13 @@ def with_lines(page):
 
 
 def missing_clauses():
-    """Of the clauses that README names for a crate, and AUDIT for a function of a file, those that are not there."""
-    with open(README) as readme, open(AUDIT) as audit:
-        crate_rows = re.findall(r"^\| (slh_\w+) \| .* \| (`.*`.*?) \|$", readme.read(), re.M)
-        rows = re.findall(r"^\| (?:`(\w+)`|the one) of `([\w:]+)` \| `(\w+)/(src/[\w/]+\.rt)` \|", audit.read(), re.M)
+    """The clauses that PROVED names for a crate, or for a function of a file, and that are not there."""
+    with open(PROVED) as page:
+        text = page.read()
+    crate_rows = re.findall(r"^\| (slh_\w+) \| .* \| (`.*`.*?) \|$", text, re.M)
+    rows = re.findall(r"^\| (?:`(\w+)`|the one) of `([\w:]+)` \| `(\w+)/(src/[\w/]+\.rt)` \|", text, re.M)
     if len(crate_rows) < 10 or len(rows) != 5:
-        yield f"{len(crate_rows)} crates with clauses in README.md, {len(rows)} clauses in docs/AUDIT.md"
+        yield f"docs/PROVED.md has {len(crate_rows)} crates with clauses, {len(rows)} clauses of functions"
     for crate, named in crate_rows:
         known = {clause for path in sources(crate) for function in functions(crate, path) for clause in function[3]}
         known |= {name for path in sources(crate) for _, name, _, _ in functions(crate, path)}
@@ -195,24 +199,25 @@ def missing_clauses():
 
 def main():
     written = head() + "".join(rows_of(crate) for crate in crates())
-    with open(AUDIT) as file:
-        audit = file.read()
+    with open(PROVED) as file:
+        proved = file.read()
     if "--check" not in sys.argv[1:]:
         with open(PAGE, "w") as file:
             file.write(written)
-        with open(AUDIT, "w") as file:
-            file.write(with_lines(audit))
+        with open(PROVED, "w") as file:
+            file.write(with_lines(proved))
     else:
         with open(PAGE) as file:
-            if (file.read(), audit) != (written, with_lines(audit)):
-                sys.exit("docs/CONTRACTS.md or docs/AUDIT.md is not what the sources say: run tools/contracts.py")
+            if (file.read(), proved) != (written, with_lines(proved)):
+                sys.exit("docs/CONTRACTS.md or docs/PROVED.md is not what the sources say: run tools/contracts.py")
     missing = list(missing_clauses())
     if missing:
-        sys.exit("README.md or docs/AUDIT.md names clauses that are not there: " + "; ".join(missing))
+        sys.exit("docs/PROVED.md names clauses that are not there: " + "; ".join(missing))
     strange = strange_code()
     if strange:
-        sys.exit("docs/CALLING.md has what no file of slh_hello or slh_examples and no line of crates.txt has: "
-                 + "; ".join(strange))
+        sys.exit("crates/slh_examples/README.md has code that no file of slh_hello or slh_examples has, or lines that "
+                 "crates.txt has not: " + "; ".join(strange))
 
 
-main()
+if __name__ == "__main__":
+    main()

@@ -4,7 +4,8 @@
 #   libslh0      libslh.so.0, with the code for all levels of processors
 #   libslh-dev   the headers, the archives, and the files for pkg-config and CMake
 #   slh          the program, built for all levels, its man page, and completions for bash and zsh
-#   slh-openssl  the provider for OpenSSL, where bindings/openssl/build.sh finds OpenSSL 3.5 and a C compiler
+#   slh-openssl  the provider for OpenSSL, where bindings/openssl/build.sh finds OpenSSL 3.5 and a C compiler, and
+#                /etc/ssl/slh.cnf, a configuration that needs it
 #
 # usage: tools/debian.sh [DIST] FOLDER
 #
@@ -89,11 +90,11 @@ documents() {
     copyright | write "usr/share/doc/$1/copyright"
 }
 
-# packages/debian/copyright with the text of LICENSE-MIT, a paragraph of which is ended by a line with a full stop.
+# bindings/debian/copyright with the text of LICENSE-MIT, a paragraph of which is ended by a line with a full stop.
 copyright() {
     sed -n '/^Permission/,$p' "$here/LICENSE-MIT" | sed 's/^$/./; s/^/ /' >"$work/licence"
     sed -e "s/@COPYRIGHT@/$(sed -n 's/^Copyright (c) //p' "$here/LICENSE-MIT")/" \
-        -e "/^@MIT@\$/{r $work/licence" -e 'd}' "$here/packages/debian/copyright"
+        -e "/^@MIT@\$/{r $work/licence" -e 'd}' "$here/bindings/debian/copyright"
 }
 
 # The packages that these files of a package need: PATH...
@@ -112,7 +113,7 @@ build() {
     size=$(du -k -s --apparent-size "$root/usr" | cut -f 1)
     (cd "$root" && find usr -type f -print0 | LC_ALL=C sort -z | xargs -0 md5sum) | write DEBIAN/md5sums
     sed "s/@VERSION@/$version/; s/@MAINTAINER@/$maintainer/; s/@SIZE@/$size/; s/@SHLIBS@/$needs/" \
-        "$here/packages/debian/$package.control" | write DEBIAN/control
+        "$here/bindings/debian/$package.control" | write DEBIAN/control
     find "$root" -depth -exec touch -h -d "@$SOURCE_DATE_EPOCH" {} +
     dpkg-deb --root-owner-group -Zxz --build "$root" "$work/made" >&2
 }
@@ -138,20 +139,20 @@ make_libslh_dev() {
     done
     put 644 x86-64-v2/libslh_verify.a $lib/libslh_verify.a
     ln -s libslh.so.0 "$root/$lib/libslh.so"
-    gzip -9n <"$here/packages/slh.3" | write usr/share/man/man3/slh.3.gz
-    for call in $(sed -n 's/^\.SH \(slh_\)/\1/p' "$here/packages/slh.3"); do
+    gzip -9n <"$here/bindings/debian/slh.3" | write usr/share/man/man3/slh.3.gz
+    for call in $(sed -n 's/^\.SH \(slh_\)/\1/p' "$here/bindings/debian/slh.3"); do
         ln -s slh.3.gz "$root/usr/share/man/man3/$call.3.gz"
     done
     pkgconfig slh "SLH-DSA (FIPS 205) with SHA-2, proved by machine"
     pkgconfig slh_verify "Verifying signatures of SLH-DSA (FIPS 205) with SHA-2, proved by machine"
     write $lib/cmake/slh/slh-config.cmake <"$here/bindings/cmake/slh-config.cmake"
-    sed "s/@version@/$upstream/" "$here/bindings/cmake/slh-config-version.cmake.in" |
+    sed "s/@version@/$upstream/; s/@pointer@/8/" "$here/bindings/cmake/slh-config-version.cmake.in" |
         write $lib/cmake/slh/slh-config-version.cmake
     build libslh-dev
 }
 
 # What the program says of itself, as the man page or completions: KIND.
-texts() { "$here/packages/debian/from_help.py" "$root/usr/lib/slh/x86-64-v2/slh" "$upstream" "$1"; }
+texts() { "$here/bindings/debian/from_help.py" "$root/usr/lib/slh/x86-64-v2/slh" "$upstream" "$1"; }
 
 make_slh() {
     local level
@@ -182,6 +183,8 @@ make_slh_openssl() {
     strip --strip-unneeded "$root/$lib/ossl-modules/slh.so"
     gzip -9n <"$here/docs/OPENSSL.md" | write usr/share/doc/slh-openssl/OPENSSL.md.gz
     write usr/share/doc/slh-openssl/ca.cnf <"$here/examples/ca.cnf"
+    sed "s|@MODULE@|/$lib/ossl-modules/slh.so|" "$here/bindings/openssl/slh.cnf.in" | write etc/ssl/slh.cnf
+    echo /etc/ssl/slh.cnf | write DEBIAN/conffiles
     build slh-openssl
 }
 

@@ -1,11 +1,12 @@
 #!/usr/bin/env bash
 # Measures how deep each call of the library for C that takes secrets goes, and writes what is found to
-# exports/depths/TARGET.h: as deep the call is to clear. What was built before is then to be built again. The test
+# c/exports/depths/TARGET.h: as deep the call is to clear. What was built before is then to be built again. The test
 # command measures again: it fails where a call goes deeper than its number, or by more than 256 bytes less deep.
 #
-# usage: tools/depths.sh TARGET..      TARGET is x86-64-v2, -v3 or -v4, or aarch64 (tools/target.sh)
+# usage: tools/depths.sh TARGET..      TARGET is x86-64-v2, -v3 or -v4, these behind windows-, aarch64, riscv64 or armv7
 #
-# It stands on what `rt ci`, or `rt check` in crates/slh_c, has built. aarch64 runs under qemu-aarch64, some minutes.
+# It stands on what `rt ci`, or `rt check` in crates/slh_c, has built. Other processors run under qemu, some minutes,
+# and the code for Windows under wine, of which all levels are in one library: the one to measure is chosen.
 set -euo pipefail
 here=$(cd "$(dirname "${BASH_SOURCE[0]}")/.." && pwd)
 work=$(mktemp -d)
@@ -15,18 +16,22 @@ if [ $# = 0 ]; then
     echo "usage: tools/depths.sh TARGET.." >&2
     exit 2
 fi
+# A processor of tests/processors.h for each level.
+declare -A best=([v2]=nehalem [v3]=haswell [v4]=skylake)
 for target in "$@"; do
-    compiler=(cc) run=()
-    if [ "$target" = aarch64 ]; then
-        compiler=("${AARCH64_CC:-aarch64-linux-gnu-gcc}")
-        run=("$(command -v qemu-aarch64 || command -v qemu-aarch64-static)")
+    tools_of "$target"
+    brings=() library=$target
+    if [[ $target = windows-* ]]; then
+        brings=("$here/tests/forced_level.c") library=${target%-v?}
+        export PROCESSOR=${best[${target##*-}]}
+        begin_wine
     fi
-    "$here/tools/target.sh" "$target" "$work"
-    measures_depths "$work/$target/libslh.a" "$work/depths" "${compiler[@]}" -I "$here/include"
+    [ -f "$work/$library/libslh.a" ] || "$here/tools/target.sh" "$library" "$work"
+    compiler=$cc measures_depths "$work/$library/libslh.a" "$work/depths.exe" "$cc" "${linked[@]}" -I "$here/c/include"
     {
         echo "/* How deep each call goes, in bytes: for a number of no set, and for each set. By tools/depths.sh. */"
-        ${run[@]+"${run[@]}"} "$work/depths" "$(shifts_of "$target")" write
+        $run "$work/depths.exe" "$(shifts_of "$target")" write | tr -d '\r'
     } >"$work/written"
-    mv "$work/written" "$here/exports/depths/$target.h"
-    echo "exports/depths/$target.h is written"
+    mv "$work/written" "$here/c/exports/depths/$target.h"
+    echo "c/exports/depths/$target.h is written"
 done

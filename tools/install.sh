@@ -44,7 +44,7 @@ fi
 # What the program says of itself, as the man page or completions: KIND FILE.
 texts() {
     mkdir -p "$(dirname "$work/share/$2")"
-    "$here/packages/debian/from_help.py" "$made/x86-64-v2/slh" "$version" "$1" >"$work/share/$2"
+    "$here/bindings/debian/from_help.py" "$made/x86-64-v2/slh" "$version" "$1" >"$work/share/$2"
 }
 
 if command -v python3 >/dev/null; then

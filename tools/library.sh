@@ -14,11 +14,14 @@
 #   PREFIX/lib/cmake/slh/           for find_package(slh) of CMake, with the same version
 #   PREFIX/share/man/man3/slh.3     the manual page of the calls, with a link to it for each call
 #   PREFIX/src/slh.c, slh_verify.c  for --target portable: all calls, and those of slh_verify.h, as C for any machine
+#   PREFIX/bin/slh.dll, lib/slh.lib for --target windows-x86-64: libslh.a as a DLL, and what imports it
 #
 # usage: tools/library.sh [--after-ci | --dist DIST] [--target TARGET] PREFIX
 #
-# TARGET is x86-64, as without it, or aarch64, wasm64 or portable. The archives for one level and shared objects are for
-# x86-64 alone; of wasm64 there is PREFIX/lib/slh.wasm alone, of portable the headers, PREFIX/src and what CMake reads.
+# TARGET is x86-64, as without it, or one of tools/target.sh. The archives for one level are for x86-64 alone. Of a
+# module for WebAssembly there is PREFIX/lib/slh.wasm alone, of portable the headers, PREFIX/src and what CMake reads.
+# For a board there are slh_verify.h, libslh_verify.a with what pkg-config and CMake read, and libslh_verify_128.a,
+# which is smaller and takes the sets of 128 bits alone.
 #
 # DIST is a release, a folder as tools/release.sh writes it: what it has is installed, whatever the sources are.
 # SLH_BUILD=1 takes none of dist/. Where rt is not on the path, so that nothing can be built, the release is installed
@@ -47,26 +50,23 @@ fi
 work=$(mktemp -d)
 trap 'rm -rf "$work"' EXIT
 
-# What of dist/ is installed.
-case "$target" in
-x86-64) files=(x86-64/{libslh.a,libslh.so.0} x86-64-v{2,3,4}/libslh.a x86-64-v2/libslh_verify.a) ;;
-aarch64) files=(aarch64/{libslh.a,libslh_verify.a}) ;;
-wasm64) files=(wasm64/slh.wasm) ;;
-portable) files=(portable/{slh.c,slh_verify.c}) ;;
-*)
-    echo "library.sh: no target $target" >&2
-    exit 2
-    ;;
-esac
+# What of dist/ is installed: of another target than x86-64 all that is listed.
+files=(x86-64/{libslh.a,libslh.so.0} x86-64-v{2,3,4}/libslh.a x86-64-v2/libslh_verify.a)
+[ "$target" = x86-64 ] || mapfile -t files < <(listed "$target")
 headers=(include/{slh.h,slh.hpp,slh_internal.h,slh_verify.h})
-if [ "$after_ci" = given ]; then
-    has_release || {
+if [ "$after_ci" = given ] || ! command -v rt >/dev/null; then
+    has_release || [ "$after_ci" = no ] || {
         echo "library.sh: there is no release in $dist" >&2
         exit 2
     }
-    are_whole BUILD "${files[@]}" "${headers[@]}" || exit 2
+    ! has_release || [ ${#files[@]} != 0 ] || {
+        echo "library.sh: no target $target" >&2
+        exit 2
+    }
 fi
-if [ "$after_ci" = given ] || { [ "$after_ci" = no ] && takes_release "${files[@]}" "${headers[@]}"; }; then
+[ "$after_ci" != given ] || are_whole BUILD "${files[@]}" "${headers[@]}" || exit 2
+is_released() { [ "$after_ci" = no ] && [ ${#files[@]} != 0 ] && takes_release "${files[@]}" "${headers[@]}"; }
+if [ "$after_ci" = given ] || is_released; then
     made=$dist version=$(release_says version)
     how="the release $version"
 else
@@ -74,14 +74,20 @@ else
         echo "library.sh: there is nothing to install: rt is not on the path to build it" >&2
         exit 2
     }
-    [ "$after_ci" = yes ] || (cd "$here/crates/slh_c" && rt check) >&2
+    [ "$after_ci" = yes ] || { (cd "$here/crates/slh_c" && rt check) && (cd "$here/crates/slh_c_verify" && rt check); } >&2
     "$here/tools/target.sh" "$target" "$work"
-    cp -r "$here/include" "$work/"
+    cp -r "$here/c/include" "$work/"
+    [ "$target" = x86-64 ] || mapfile -t files < <(cd "$work" && printf '%s\n' "$target"/*)
     made=$work version=$(cat "$here/VERSION") how="built of the sources"
 fi
 
+has() { [[ " ${files[*]} " = *"/$1 "* ]]; }
+# A board has the calls that verify alone.
+if has libslh_verify_128.a; then headers=(include/slh_verify.h); fi
+
 # Writes NAME.pc for the archive libNAME: NAME and a line that describes it.
 pkgconfig() {
+    install -d "$prefix/lib/pkgconfig"
     cat >"$prefix/lib/pkgconfig/$1.pc" <<END
 prefix=\${pcfiledir}/../..
 includedir=\${prefix}/include
@@ -99,46 +105,53 @@ END
 cmake_files() {
     install -d "$prefix/lib/cmake/slh"
     install -m 644 "$here/bindings/cmake/slh-config.cmake" "$prefix/lib/cmake/slh/"
-    sed "s/@version@/$version/" "$here/bindings/cmake/slh-config-version.cmake.in" \
+    sed "s/@version@/$version/; s/@pointer@/$(pointer)/g" "$here/bindings/cmake/slh-config-version.cmake.in" \
         >"$prefix/lib/cmake/slh/slh-config-version.cmake"
+}
+
+# The bytes of a pointer: 4 where the archives have ELF of 32 bits, and 0 if any will do.
+pointer() {
+    if [ "$target" = portable ]; then
+        echo 0
+    else
+        LC_ALL=C grep -qaP '\x7fELF\x01' "$prefix"/lib/libslh*.a && echo 4 || echo 8
+    fi
 }
 
 # The manual page, which each call has a link to.
 manual() {
     local call
-    install -D -m 644 "$here/packages/slh.3" "$prefix/share/man/man3/slh.3"
-    for call in $(sed -n 's/^\.SH \(slh_\)/\1/p' "$here/packages/slh.3"); do
+    install -D -m 644 "$here/bindings/debian/slh.3" "$prefix/share/man/man3/slh.3"
+    for call in $(sed -n 's/^\.SH \(slh_\)/\1/p' "$here/bindings/debian/slh.3"); do
         ln -sf slh.3 "$prefix/share/man/man3/$call.3"
     done
 }
 
 install -d "$1"
 prefix=$(cd "$1" && pwd)
-[ "$target" = wasm64 ] || install -D -m 644 -t "$prefix/include" "${headers[@]/#/$made/}"
-if [ "$target" = wasm64 ]; then
-    install -D -m 644 -t "$prefix/lib" "$made/wasm64/slh.wasm"
-elif [ "$target" = portable ]; then
-    install -D -m 644 -t "$prefix/src" "${files[@]/#/$made/}"
-    cmake_files
-    manual
+if has slh.wasm; then
+    install -D -m 644 -t "$prefix/lib" "${files[@]/#/$made/}"
 else
-    install -d "$prefix/lib/pkgconfig"
+    install -D -m 644 -t "$prefix/include" "${headers[@]/#/$made/}"
     for file in "${files[@]}"; do
-        name=$(basename "$file")
         case "$file" in
-        *.so.0) mode=755 ;;
-        x86-64-v*/libslh.a) mode=644 name=libslh-${file:7:2}.a ;;
-        *) mode=644 ;;
+        *.c) place=src/${file##*/} mode=644 ;;
+        *.dll) place=bin/${file##*/} mode=755 ;;
+        *.so.0) place=lib/${file##*/} mode=755 ;;
+        x86-64-v*/libslh.a) place=lib/libslh-${file:7:2}.a mode=644 ;;
+        *) place=lib/${file##*/} mode=644 ;;
         esac
-        install -m $mode "$made/$file" "$prefix/lib/$name"
+        install -D -m $mode "$made/$file" "$prefix/$place"
     done
-    pkgconfig slh "SLH-DSA (FIPS 205) with SHA-2, proved by machine"
-    pkgconfig slh_verify "Verifying signatures of SLH-DSA (FIPS 205) with SHA-2, proved by machine"
+    if has libslh.so.0; then ln -sf libslh.so.0 "$prefix/lib/libslh.so"; fi
+    if has libslh.a; then pkgconfig slh "SLH-DSA (FIPS 205) with SHA-2, proved by machine"; fi
+    if has libslh_verify.a; then
+        pkgconfig slh_verify "Verifying signatures of SLH-DSA (FIPS 205) with SHA-2, proved by machine"
+    fi
     cmake_files
-    manual
+    if has libslh.a || has slh.c; then manual; fi
 fi
 if [ "$target" = x86-64 ]; then
-    ln -sf libslh.so.0 "$prefix/lib/libslh.so"
     # Releases up to 0.4 put the code for a level there, and glibc would load it in place of what is installed now.
     rm -f "$prefix"/lib/glibc-hwcaps/x86-64-v{3,4}/libslh.so.0
 fi

@@ -1,8 +1,8 @@
 #!/usr/bin/env python3
 """Writes the manual page of the calls of the library for C, section 3, from the comments of its headers.
 
-usage: tools/man3.py            writes packages/slh.3
-       tools/man3.py --check    the status is 0 if packages/slh.3 is what the headers say
+usage: tools/man3.py            writes bindings/debian/slh.3
+       tools/man3.py --check    the status is 0 if bindings/debian/slh.3 is what the headers say
        tools/man3.py --names    prints the calls, one a line: tools/library.sh links slh_NAME.3 to slh.3
 """
 import pathlib
@@ -10,8 +10,8 @@ import re
 import sys
 
 ROOT = pathlib.Path(__file__).resolve().parent.parent
-PAGE = ROOT / "packages" / "slh.3"
-HEADERS = [ROOT / "include" / name for name in ("slh.h", "slh_verify.h")]
+PAGE = ROOT / "bindings/debian/slh.3"
+HEADERS = [ROOT / "c/include" / name for name in ("slh.h", "slh_verify.h")]
 # A comment and the declaration behind it.
 CALL = re.compile(r"^/\*\n((?: \*.*\n)+?) \*/\n(?:SLH_MUST_USE )?SLH_API\n([^;{]*\b(slh_\w+)\([^;{]*\);)$", re.M)
 HEAD = """.TH SLH 3 "" "slh {version}" "Pipitscreen"
@@ -32,7 +32,7 @@ The duties of the caller are at the top of slh.h.
 """
 TAIL = """.SH SEE ALSO
 .BR slh (1),
-the headers slh.h and slh_verify.h, and the pages LIBRARY, DUTIES and JOBS of the project.
+the headers slh.h and slh_verify.h, and the pages LIBRARY and SECURITY of the project.
 """
 
 
@@ -71,7 +71,8 @@ def main():
     if sys.argv[1:] == ["--names"]:
         print("\n".join(it[0] for it in calls()))
     elif sys.argv[1:] == ["--check"]:
-        sys.exit(0 if PAGE.exists() and PAGE.read_text() == page() else "packages/slh.3 is not what the headers say")
+        is_same = PAGE.exists() and PAGE.read_text() == page()
+        sys.exit(0 if is_same else "bindings/debian/slh.3 is not what the headers say")
     elif sys.argv[1:]:
         sys.exit(__doc__.partition("\n\n")[2])
     else:

@@ -47,13 +47,27 @@ KINDS = {
 
 NUMBER = r"([\d,]+)"
 FILES = r"^\| (`(?:lib|include)/[^|]*)\|[^|\n]*\|([^|\n]*)\|$"
-OTHERS = [  # what stands before and between numbers, where N is one, and what they are
-    (r"`libslh\.a` \(N KB\), `libslh_verify\.a` \(N KB\)", ["aarch64 libslh.a", "aarch64 libslh_verify.a"]),
-    (r"`lib/slh\.wasm` \(N KB\)", ["wasm64 slh.wasm"]),
-]
+# The files of each target of the table of machines, in its order, as NAME (N KB).
+OTHERS = {
+    "aarch64": ["libslh.a", "libslh.so.0", "libslh_verify.a"],
+    "riscv64": ["libslh.a", "libslh.so.0"],
+    "armv7": ["libslh.a", "libslh.so.0"],
+    "windows-x86-64": ["libslh.a", "slh.dll"],
+    "macos-arm64": ["libslh.a"],
+    "macos-x86-64": ["libslh.a"],
+    "wasm32": ["slh.wasm"],
+    "wasm32-scalar": ["slh.wasm"],
+    "wasm64": ["slh.wasm"],
+}
 IN_README = [(r"\(N KB; N KB\s+for\s+verifying\s+alone\)", ["lib/libslh.a", "lib/libslh_verify.a"])]
 SPREAD = r"`slh_keygen`\s+by\s+N,\s+`slh_sign`\s+by\s+N\s+and\s+`slh_sign_job`\s+by\s+N"
-TARGETS = ["x86-64", *LEVELS, "aarch64", "wasm64", "portable"]
+# The boards with pointers of 32 bits, and how tests/board.sh runs a program for one; riscv32imac is run by itself.
+BOARDS = {"thumbv7em": [], "thumbv6m": ["--m0"], "riscv32imac": None}
+LINKERS = {"thumbv7em": ["arm-none-eabi-ld"], "riscv32imac": ["riscv64-linux-gnu-ld", "-m", "elf32lriscv"]}
+MEGAHERTZ = 64
+RISCV = ["riscv64-linux-gnu-gcc", "-march=rv32imac", "-mabi=ilp32", "-std=c11", "-O2", "-ffreestanding", "-fno-builtin",
+         "-nostdlib", "-static"]
+TARGETS = ["x86-64", *LEVELS, *OTHERS, *BOARDS, "portable"]
 PORTABLE = ["slh.c", "slh_verify.c"]
 BOARD = ["flash", "stack", "memory"]
 SETS = ["128s", "128f", "192s", "192f", "256s", "256f"]
@@ -83,7 +97,7 @@ def stack_of(target, library, work):
     if runs is None or not shutil.which(cc):
         return {}
     program = work / "stack"
-    run(cc, "-std=c99", *how, "-I", HERE / "include", "-o", program, HERE / "tests/library_stack.c", library,
+    run(cc, "-std=c99", *how, "-I", HERE / "c/include", "-o", program, HERE / "tests/library_stack.c", library,
         "-pthread", "-Wl,-z,now", f"-Wl,-rpath,{library.parent}")
     names, *rows = [line.split() for line in run(*runs, program).splitlines()[:-1]]
     columns = zip(*[[int(it) for it in row[1:]] for row in rows])
@@ -96,7 +110,7 @@ def growth(target, library, work):
     for name, call in (("none", "0"), ("one", CALL)):
         (work / f"{name}.c").write_text(
             f"#include <slh_verify.h>\nint main(int c, char **v) {{ (void)c; (void)v; return (int){call}; }}\n")
-        run(compiler(target)[0], "-O2", "-I", HERE / "include", work / f"{name}.c", library, "-Wl,--gc-sections",
+        run(compiler(target)[0], "-O2", "-I", HERE / "c/include", work / f"{name}.c", library, "-Wl,--gc-sections",
             "-o", work / name)
         sizes.append(code_of("size", work / name))
     return sizes[1] - sizes[0]
@@ -134,7 +148,7 @@ def portable_facts(folder, work):
     """The sizes of the portable C, its memory by sets, and what tests/board.sh measures on the emulated board."""
     files = {name: next(folder.rglob(name)) for name in PORTABLE}
     facts = {f"portable {name}": file.stat().st_size for name, file in files.items()}
-    headers = folder / "include" if (folder / "include").is_dir() else HERE / "include"
+    headers = folder / "include" if (folder / "include").is_dir() else HERE / "c/include"
     facts |= memory_facts(headers, work)
     if all(map(shutil.which, ("arm-none-eabi-gcc", "qemu-system-arm"))):
         said = run(HERE / "tests/board.sh", headers, files["slh_verify.c"])
@@ -142,19 +156,48 @@ def portable_facts(folder, work):
     return facts
 
 
+def kept_for(target, call, archive, work):
+    """The bytes that a board's linker keeps of an archive for one call, without what the archive asks for."""
+    linker, *words = LINKERS["riscv32imac" if BOARDS[target] is None else "thumbv7em"]
+    if not shutil.which(linker):
+        return None
+    run(linker, *words, "--gc-sections", "--unresolved-symbols=ignore-all", "-e", call, "-u", call, archive, "-o", work / "kept")
+    return code_of("size", work / "kept")
+
+
+def board_facts(target, folder, work):
+    """The code of a board's archives, and of the larger one the stack and the instructions under an emulator."""
+    files = {name: next(folder.rglob(name)) for name in ("libslh_verify.a", "libslh_verify_128.a")}
+    facts, how, said = {f"code of {target} {name}": code_of("size", it) for name, it in files.items()}, BOARDS[target], ""
+    kept = kept_for(target, "slh_hash_verify_digest", files["libslh_verify_128.a"], work)
+    facts |= {} if kept is None else {f"{target} by digest": kept}
+    if how is not None and all(map(shutil.which, ("arm-none-eabi-gcc", "qemu-system-arm"))):
+        said = run(HERE / "tests/board.sh", *how, HERE / "c/include", files["libslh_verify.a"])
+    elif how is None and all(map(shutil.which, (RISCV[0], "qemu-riscv32"))):
+        run(*RISCV, "-I", HERE / "c/include", HERE / "tests/bare_stack.c", files["libslh_verify.a"],
+            "-o", work / "bare")
+        said = run("qemu-riscv32", work / "bare")
+    facts |= {f"{target} {name}": int(number) for name, number in re.findall(r"^(\w+): (\d+)$", said, re.M)}
+    if f"{target} instructions" in facts:
+        facts[f"{target} ms"] = round(facts[f"{target} instructions"] / MEGAHERTZ / 1000)
+    return facts
+
+
 def facts_of(target, folder, work):
     """What is measured of a target, by name."""
     if target == "portable":
         return portable_facts(folder, work)
+    if target in BOARDS:
+        return board_facts(target, folder, work)
     lib, facts = folder / "lib" if (folder / "lib").is_dir() else folder, {}
     level = "x86-64-v2" if target == "x86-64" else target  # libslh_verify.a of what is installed is for this level
     for file in sorted(it for it in folder.rglob("*") if it.is_file() and not it.is_symlink()):
-        names = [f"{level} {file.name}"] if file.parent == lib else []
+        names = [f"{level} {file.name}"] if file.parent in (lib, folder / "bin") else []
         if target in ("x86-64", "x86-64-v2"):
             names.append(str(file.relative_to(folder)))
         for name in names:
             facts[name] = file.stat().st_size
-            if file.suffix == ".a":
+            if file.suffix == ".a" and target not in [*OTHERS][1:]:
                 facts[f"code of {name}"] = code_of("size", file)
     if f"{level} libslh_verify.a" in facts and shutil.which(compiler(level)[0]):
         facts[f"{level} growth"] = growth(level, lib / "libslh_verify.a", work)
@@ -253,20 +296,29 @@ def library_page(page):
 
 
 def machines_page(page):
-    for pattern, keys in OTHERS:
-        page.row(pattern, ["KB"] * len(keys), keys)
+    for target, files in OTHERS.items():
+        sizes = "[^|\\n]*".join(rf"`{re.escape(it)}` \(N KB\)" for it in files)
+        page.row(rf"\| `{target}` \|[^|\n]*\|[^|\n]*\|[^|\n]*{sizes}", ["KB"] * len(files),
+                 [f"{target} {it}" for it in files])
     archives = ["libslh.a", *(f"libslh-{level[-2:]}.a" for level in LEVELS)]
     page.row(r"\| all \| N \| N \| N \| N \|", ["bytes"] * 4, [f"code of lib/{it}" for it in archives])
     page.row(r"\| `slh_verify` alone \| N \| N \| N \| N \|", ["bytes"] * 4, [f"growth by {it}" for it in archives])
     page.stack_table()
     page.row(SPREAD, ["thousands"] * 3, [f"spread of {it}" for it in ("slh_keygen", "slh_sign", "slh_sign_job")])
+    boards_and_portable(page)
 
 
-def firmware_page(page):
+def boards_and_portable(page):
     for target in (*LEVELS, "aarch64"):
         page.row(rf"\| {target} \| N \| N \| N \| N \|", ["bytes", "bytes", "stack", "stack"],
                  [f"code of {target} libslh_verify.a", f"{target} growth", f"{target} stack of slh_verify",
                   f"{target} stack of slh_hash_verify_digest"], is_needed=target != "x86-64-v4")
+    for target in BOARDS:
+        page.row(rf"\| `{target}` \|[^|\n]*\| N \| N \| N \| N \|", ["bytes", "bytes", "bytes", "stack"],
+                 [f"code of {target} libslh_verify.a", f"code of {target} libslh_verify_128.a", f"{target} by digest",
+                  f"{target} stack"])
+        page.row(rf"\| `{target}` \|(?:[^|\n]*\|){{5}} N \| N \|", ["bytes"] * 2,
+                 [f"{target} instructions", f"{target} ms"], is_needed=BOARDS[target] is not None)
     page.row(r"`slh\.c` \(N KB\), `slh_verify\.c` \(N KB\)", ["KB"] * 2, [f"portable {it}" for it in PORTABLE])
     head = r"\| 128s \| 128f \| 192s \| 192f \| 256s \| 256f \|\n\|[-|]+\n"
     page.row(head + r"\| N \| N \| N \| N \| N \| N \|", ["exactly"] * 6, [f"memory for {it}" for it in SETS])
@@ -282,7 +334,7 @@ def readme_page(page):
         page.sizes_are_known()
 
 
-PAGES = {"docs/LIBRARY.md": library_page, "docs/MACHINES.md": machines_page, "docs/FIRMWARE.md": firmware_page,
+PAGES = {"docs/LIBRARY.md": library_page, "docs/MACHINES.md": machines_page,
          "README.md": readme_page}
 
 

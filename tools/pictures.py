@@ -1,9 +1,8 @@
 #!/usr/bin/env python3
-"""Draws the pictures of docs/pictures from the tables of README and docs: times and lengths (docs/BENCHMARKS.md,
-README.md), the crates and what each may touch (docs/ARCHITECTURE.md), and two threads at a board (docs/BOARD.md). It
-draws all builds that a table has. A picture has a background of its own, light or dark as its reader's system is. It
-also looks whether the steps of the board's table follow from one another, and whether README's sentence on speed has
-the times of the table.
+"""Draws the pictures of docs/pictures from the tables of docs: times and lengths (BENCHMARKS, FORMATS), the crates and
+what each may touch (ARCHITECTURE), and two threads at a board (BOARD). It draws all builds that a table has. A picture
+has a background of its own, light or dark as its reader's system is. The script also checks that the steps of the
+board's table follow from one another, and that README's sentence on speed has the times of the table.
 
 Usage: tools/pictures.py           draws them
        tools/pictures.py --check   fails where a picture or that sentence is not what the tables say
@@ -168,7 +167,7 @@ def draw_sign_times():
 def draw_lengths():
     builds, times = sign_times()
     lengths = {it["set"].removeprefix("SLH-DSA-SHA2-"): number(it["signature (bytes)"])
-               for it in table("README.md", "set", "signature (bytes)")}
+               for it in table("docs/FORMATS.md", "set", "signature (bytes)")}
     known = [it for row in times.values() for it in row if it]
     steps, top, bottom, tall = round_steps(min(known), max(known)), 72, 372, 60000
     picture = Picture(760, bottom + 50, "Signature length against time to sign, for the six sets")
@@ -238,8 +237,8 @@ def draw_panel(picture, sets, places, height, panel):
 
 # In which column a crate stands. Its row follows from the crates above it.
 COLUMNS = {
-    "slh": 2, "slh_c": 0, "slh_tool": 2, "slh_jobs": 0, "slh_par": 1.5, "slh_files": 4, "slh_key_files": 4,
-    "slh_vectors": 3, "slh_subtrees": 0.3, "slh_core": 1.5, "slh_workers": 2.8, "slh_io": 4, "slh_few": 0.7,
+    "slh": 2, "slh_c": 0, "slh_c_verify": 1, "slh_tool": 2, "slh_jobs": 0, "slh_par": 1.5, "slh_files": 4,
+    "slh_key_files": 4, "slh_vectors": 3, "slh_subtrees": 0.3, "slh_core": 1.5, "slh_workers": 2.8, "slh_io": 4, "slh_few": 0.7,
     "slh_board": 2.8, "slh_lanes": 0.2, "slh_tree": 1.3, "slh_hash": 0.2, "slh_width": 2,
     "slh_params": 0.7,
 }
@@ -310,7 +309,7 @@ def kind_colour(touch):
 
 def board_steps():
     """The steps of the board's table, each of which has to follow from the words as the steps before it left them."""
-    steps = table("docs/BOARD.md", "step", "thread", "exchange", "finds", "`next` after", "`claim` returns")
+    steps = table("crates/slh_board/README.md", "step", "thread", "exchange", "finds", "`next` after", "`claim` returns")
     jobs = 1 + max(int(it) for it in re.findall(r"Job\((\d+)\)", " ".join(it["`claim` returns"] for it in steps)))
     words = 0
     for step in steps:
@@ -318,7 +317,7 @@ def board_steps():
         finds, words = (words, words + 1) if draws else (0, words)
         returns = "" if not draws else f"`Job({finds})`" if finds < jobs else "`Done`"
         if (step["finds"], step["`next` after"], step["`claim` returns"]) != (str(finds), str(words), returns):
-            sys.exit(f"docs/BOARD.md: step {step['step']} does not follow from those before it")
+            sys.exit(f"crates/slh_board/README.md: step {step['step']} does not follow from those before it")
     return steps
 
 

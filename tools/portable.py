@@ -1,14 +1,15 @@
 #!/usr/bin/env python3
 """Writes the library for C as portable C: two files, each of which any C11 compiler takes beside the headers.
 
-usage: tools/portable.py MODULE FOLDER      writes FOLDER/slh.c and FOLDER/slh_verify.c
-       tools/portable.py wasm2c             where the program wasm2c is
+usage: tools/portable.py MODULE SMALL FOLDER      writes FOLDER/slh.c of MODULE and FOLDER/slh_verify.c of SMALL
+       tools/portable.py wasm2c                   where the program wasm2c is
 
-MODULE is the proved code as a WebAssembly module with a 64-bit memory and without vectors, as tools/target.sh makes it.
-wasm2c 1.0.36 of WABT writes it as C (WASM2C names another command). Of what it writes the functions alone are taken,
-under shorter names, and of those just what the calls of the file reach, and the constants. All else is in portable/,
-and is ours: what the functions do to memory (machine.h), how the calls hand their arguments over (parts.h, calls.c,
-verify_calls.c), and where the memory is from (taken_memory.c, fixed_memory.c).
+MODULE is the proved code as a WebAssembly module with a 64-bit memory and without vectors, as tools/target.sh makes it,
+and SMALL such a module of the calls that verify alone, compiled for size. wasm2c 1.0.36 of WABT writes them as C
+(WASM2C names another command). Of what it writes the functions alone are taken, under shorter names, and of those just
+what the calls of the file reach, and the constants. All else is in c/portable/, and is ours: what the functions do to
+memory (machine.h), how the calls hand their arguments over (parts.h, calls.c, verify_calls.c), and where the memory is
+from (taken_memory.c, fixed_memory.c).
 
 STACK_BYTES in the files is what the deepest path of calls takes of the module's stack: each function takes a constant
 number of bytes of it, none calls itself but those of NESTED, and no call goes through a pointer. That is looked at
@@ -23,20 +24,21 @@ import sys
 import tempfile
 
 ROOT = pathlib.Path(__file__).resolve().parent.parent
-PARTS = ROOT / "portable"
+PARTS = ROOT / "c/portable"
 WASM2C = os.environ.get("WASM2C", "wasm2c-1.0.36")
 PROVED = "/* ---- The proved code, as wasm2c writes it. ---- */\n\n"
-VERIFY_CALLS = ["hash_verify", "hash_verify_digest", "verify", "version"]
+VERIFY_CALLS = ["hash_verify", "hash_verify_digest", "hash_verify_digest_hardened", "verify", "verify_hardened",
+                "version"]
 FILES = {
     "slh.c": ["head.c", "machine.h", "taken_memory.c", "parts.h", "verify_calls.c", "calls.c", "../exports/refusal_text.c"],
     "slh_verify.c": ["verify_head.c", "machine.h", "fixed_memory.c", "parts.h", "verify_calls.c"],
 }
 # The functions that call themselves, and how many calls of each are open at once at most. A FORS tree has the height a,
 # which is at most 14 in the six sets; the first call is for a height of at most a, and each within for one less.
-NESTED = {"slh_few_fors_tree_ForsTree_eight_nodes": 15}
+NESTED = {"slh_few_fors_tree_ForsPlace_eight_nodes": 15}
 # The functions that compare what is secret, and look at all bytes before they decide. A compiler that inlines one for
-# a known number of bytes can make branches of it.
-COMPARISONS = {"slh_jobs_tag_have_same_bytes"}
+# a known number of bytes can make branches of it. And those that compare twice, which a compiler could do once.
+COMPARISONS = {"slh_jobs_tag_have_same_bytes", "slh_core_hardened_passes", "slh_core_hardened_passes_again"}
 DEFINITION = re.compile(r"^(u32|u64|void) (w2c_slh_\w+)\(w2c_slh\* instance([^{;]*)\) \{\n(.*?)^\}\n", re.M | re.S)
 # The functions for the blocks of SHA-512, which the sets whose n is 16 never reach.
 LONG_BLOCKS = re.compile(r"\bsha2_block512_\w+")
@@ -128,7 +130,16 @@ def reached(found, names):
 TAKES = re.compile(r"(j\d+) = STACK_POINTER\(m\); (j\d+) = (\d+)ull; \1 -= \2; l\d+ = \1; STACK_POINTER\(m\) = \1;")
 GIVES = re.compile(r"(j\d+) = l\d+; (j\d+) = (\d+)ull; \1 \+= \2; STACK_POINTER\(m\) = \1;")
 READS = re.compile(r"(j\d+) = STACK_POINTER\(m\); (l\d+) = \1;")
+LOOP = re.compile(r"\b(?:var_)?L\d+:")
 KEEPS = re.compile(r"(j\d+) = (l\d+); STACK_POINTER\(m\) = \1;")
+
+
+def is_unchanged(local, body):
+    """Whether a local has what was read into it until it is written to the stack pointer: its two assignments before are
+    its begin and that. Where the function has a loop, there is none behind, either."""
+    assigned = [it.start() for it in re.finditer(rf"\b{local} = ", body)]
+    written = max(it.start() for it in KEEPS.finditer(body) if it[2] == local)
+    return sum(it < written for it in assigned) == 2 and (len(assigned) == 2 or not LOOP.search(body))
 
 
 def frame(name, body):
@@ -138,7 +149,7 @@ def frame(name, body):
     bytes_of = {int(it[2]) for it in takes + gives}
     is_plain = len(takes) == 1 if gives else not takes
     is_plain &= not keeps or (not takes and {it[1] for it in keeps} == {it[1] for it in reads})
-    is_plain &= all(len(re.findall(rf"\b{it[1]} = ", body)) == 2 for it in reads if keeps)
+    is_plain &= all(is_unchanged(it[1], body) for it in reads if keeps)
     is_plain &= body.count("= STACK_POINTER(m);") <= 1 and len(bytes_of) <= 1
     if not is_plain or body.count("STACK_POINTER(m) = ") != len(takes + gives + keeps):
         refuse(f"what {name} takes of the stack is not to be seen")
@@ -258,12 +269,12 @@ def program():
 def main():
     if sys.argv[1:] == ["wasm2c"]:
         return print(program())
-    if len(sys.argv) != 3:
-        sys.exit("usage: tools/portable.py MODULE FOLDER, or wasm2c")
-    text, folder = translated(sys.argv[1]), pathlib.Path(sys.argv[2])
+    if len(sys.argv) != 4:
+        sys.exit("usage: tools/portable.py MODULE SMALL FOLDER, or wasm2c")
+    folder = pathlib.Path(sys.argv[3])
     folder.mkdir(parents=True, exist_ok=True)
-    for name, parts in FILES.items():
-        (folder / name).write_text(file_of(text, parts))
+    for module, (name, parts) in zip(sys.argv[1:3], FILES.items(), strict=True):
+        (folder / name).write_text(file_of(translated(module), parts))
 
 
 if __name__ == "__main__":

@@ -5,7 +5,7 @@
 #
 # usage: tools/program.sh LEVEL FILE [CRATE [LANES]]      LEVEL is x86-64-v2, x86-64-v3 or x86-64-v4; LANES is a name of
 #                                                         tools/kit.py, in place of the level's own
-#        tools/program.sh x86-64 FILE                     packages/slh.c, which runs the program for the best level. It
+#        tools/program.sh x86-64 FILE                     c/starter.c, which runs the program for the best level. It
 #                                                         stands on no crate
 #
 # rattle knows no x86-64-v4: it makes the module for x86-64-v3, which tools/clang.sh has compiled for x86-64-v4. That
@@ -24,9 +24,9 @@ kit() { "$here/tools/kit.py" path "$1"; }
 # Paths are relative, so that none of this machine is in it. It has no C library, and nobody relocates it.
 chooser() {
     local file
-    for file in packages/slh.c exports/{chosen,processor}.c; do
+    for file in c/starter.c c/exports/{chosen,processor}.c; do
         (cd "$here" && exec -a clang "$(kit toolchain/bin/clang)" --target=x86_64-unknown-linux-gnu -std=c11 -O2 -fPIE \
-            -ffreestanding -nostdinc -I exports/freestanding -fvisibility=hidden -fno-asynchronous-unwind-tables \
+            -ffreestanding -nostdinc -I c/exports/freestanding -fvisibility=hidden -fno-asynchronous-unwind-tables \
             -Wall -Wextra -Werror -c "$file" -o "$work/${file//\//_}.o")
     done
     "$(kit toolchain/bin/ld.lld)" -pie --no-dynamic-linker -z norelro --strip-all -o "$work/slh" "$work"/*.o

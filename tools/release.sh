@@ -4,20 +4,20 @@
 #   dist/x86-64/                  libslh.a and libslh.so.0, with the code for each level below, and slh, which runs the
 #                                 program of a level where it is installed
 #   dist/x86-64-v2/, -v3/, -v4/   the program slh, libslh.a and libslh_verify.a
-#   dist/aarch64/                 libslh.a and libslh_verify.a
-#   dist/wasm64/                  slh.wasm
+#   dist/TARGET/                  what tools/target.sh makes for each other machine: archives, slh.dll, slh.wasm
 #   dist/portable/                slh.c and slh_verify.c
 #   dist/include/                 the headers
 #   dist/BUILD                    the version, the hash of the sources (tools/sources.sh), the kit, and the hashes of
-#                                 what compiles: its files, tools/clang.sh, for x86-64-v4 and wasm64, and wasm2c
+#                                 what compiles: its files, tools/clang.sh, and wasm2c
 #   dist/SHA256SUMS               the hashes of all these files
 #
 # usage: tools/release.sh [--after-ci] VERSION     VERSION is that of the file VERSION, and nothing is uncommitted
 #        tools/release.sh [--after-ci] --check [FOLDER]     builds all again and compares, bit for bit
 #
-# `rt check` proves what is not proved yet; under --after-ci nobody looks, since `rt ci` has just proved all. What --check
-# builds is left in FOLDER, where one is given. Its last line is 'N passed, M failed'. Where the sources or the kit are not
-# those of dist/BUILD, it says so and compares the hashes alone: the status is then 3, and 0 under --after-ci. It needs rt.
+# `rt check` proves what is not proved yet; under --after-ci nobody looks, since `rt ci` has just proved all. What
+# --check builds is left in FOLDER, where one is given. Its last line is 'N passed, M failed'. Where the sources or the
+# kit are not those of dist/BUILD, it says so and compares the hashes alone: the status is then 3, and 0 under
+# --after-ci. It needs rt.
 set -euo pipefail
 here=$(cd "$(dirname "${BASH_SOURCE[0]}")/.." && pwd)
 source "$here/tests/counts.sh"
@@ -51,19 +51,18 @@ kit_lines() {
 
 # Builds all into a folder. Without wasm2c the portable C is not made, and that of dist/ stands there.
 build() {
-    local target level
+    local level
     if [ "$after_ci" = no ]; then
         (cd "$here/crates/slh" && rt check) >&2
         (cd "$here/crates/slh_c" && rt check) >&2
+        (cd "$here/crates/slh_c_verify" && rt check) >&2
     fi
-    for target in x86-64 aarch64 wasm64; do
-        "$here/tools/target.sh" "$target" "$1"
-    done
+    "$here/tools/target.sh" release "$1"
     if has_wasm2c; then "$here/tools/target.sh" portable "$1"; else cp -r "$here/dist/portable" "$1"; fi
     for level in x86-64 x86-64-v2 x86-64-v3 x86-64-v4; do
         "$here/tools/program.sh" "$level" "$1/$level/slh"
     done
-    install -D -m 644 -t "$1/include" "$here"/include/*.h "$here"/include/*.hpp
+    install -D -m 644 -t "$1/include" "$here"/c/include/*.h "$here"/c/include/*.hpp
     {
         echo "version $(cat "$here/VERSION")"
         echo "sources $("$here/tools/sources.sh")"
@@ -96,8 +95,9 @@ write() {
 write_numbers() {
     local folder targets=()
     "$here/tools/library.sh" "$work/prefix" >&2
-    for folder in "$here"/dist/*-v? "$here"/dist/{aarch64,wasm64,portable}; do
-        targets+=("${folder##*/}=$folder")
+    for folder in "$here"/dist/*/; do
+        case "$folder" in */x86-64/ | */include/) continue ;; esac
+        folder=${folder%/} && targets+=("${folder##*/}=$folder")
     done
     "$here/tools/numbers.py" --write "x86-64=$work/prefix" "${targets[@]}" >&2
 }

@@ -22,6 +22,12 @@ programs_here() {
     done
 }
 
+# The files of a target that SHA256SUMS lists, but for programs.
+listed() {
+    [ ! -f "$dist/SHA256SUMS" ] ||
+        awk -v at="$1/" 'index($2, at) == 1 && at != "include/" && $2 != at "slh" { print $2 }' "$dist/SHA256SUMS"
+}
+
 # Whether these files of dist/ have the hashes that SHA256SUMS lists. The first that has not is told.
 are_whole() {
     local file listed name=${dist#"$here/"}
@@ -81,7 +87,7 @@ note_of() {
 
 # All files on which the answer hangs, with the program in `file`: more than those of tools/sources.sh, and that script.
 looked_at() {
-    LC_ALL=C exec find -H "$here"/{HANDLES,VERSION,crates.txt,exports,include,packages/slh.c,portable,tools,crates} \
+    LC_ALL=C exec find -H "$here"/{HANDLES,VERSION,c,crates.txt,tools,crates} \
         "$dist"/{BUILD,SHA256SUMS,"$file"} -path '*/out' -prune -o -type f -printf '%C@ %D:%i %s %p\n' 2>/dev/null
 }
 

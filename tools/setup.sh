@@ -10,8 +10,8 @@
 #   --help      prints this
 #
 # All tests need compilers for C, C++, Rust and Go, Python, Node, CMake, OpenSSL, git, xxd, valgrind, lintian and
-# others. Tests of other machines need compilers for ARM, RISC-V, s390x, Windows and boards, emulators, wine, and a
-# browser. A command that another installer put on the path, for example rustup, replaces Debian's package.
+# others. Tests of other machines need compilers for ARM, RISC-V, s390x, Windows and boards, emulators, wine, and
+# browsers. A command that another installer put on the path, for example rustup, replaces Debian's package.
 #
 # Debian 12 has no OpenSSL 3.5 and no wasm2c 1.0.36: both are unpacked from packages of Debian 13 into /usr/local/lib,
 # with their libraries. On Debian 12 and 13 the commands are openssl-3.5 and wasm2c-1.0.36 in /usr/local/bin.
@@ -40,6 +40,7 @@ make make
 pkg-config pkg-config
 python3 python3
 - python3-venv python3-setuptools python3-wheel python3-distributed python3-tqdm
+- python3-prometheus-client e2fsprogs
 - librust-rand-core-dev
 git git
 xxd xxd
@@ -70,7 +71,10 @@ qemu-aarch64-static qemu-user-static
 qemu-system-arm qemu-system-arm
 wine wine
 - wine64
-chromium chromium"
+ld.lld lld
+llvm-nm llvm
+chromium chromium
+firefox-esr firefox-esr"
 
 wanted() {
     echo "$of_all_tests"
@@ -133,6 +137,7 @@ choose_packages() {
         packages=("${packages[@]/%cargo/cargo-web}")
     fi
     if has_version librust-signature-dev 2; then packages+=(librust-signature-dev); fi
+    if [ $few = no ] && has_version python3-unicorn 2; then packages+=(python3-unicorn); fi
     if ! has_openssl && has_version openssl 3.5; then packages+=(openssl libssl-dev); fi
     if ! has_wasm2c && has_version wabt 1.0.36; then packages+=(wabt); fi
 }

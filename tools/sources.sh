@@ -1,15 +1,15 @@
 #!/usr/bin/env bash
-# Prints the SHA-256 of all that the program and the library for C are made of: the crates `slh`, `slh_c` and those below
-# them, with their lines of crates.txt, their sources, definitions and proofs, and without tests; the C round the
-# exports and that of the portable C, the headers, and packages/slh.c; HANDLES and VERSION; and the scripts that build.
-# It needs no kit.
+# Prints the SHA-256 of all that the program and the library for C are made of: the crates `slh`, `slh_c`,
+# `slh_c_verify` and those below them, with their lines of crates.txt, their sources, definitions and proofs, and
+# without tests; the C round the exports and that of the portable C, the headers, and c/starter.c; HANDLES and VERSION;
+# and the scripts that build. It needs no kit.
 #
 # usage: tools/sources.sh
 set -euo pipefail
 cd "$(dirname "${BASH_SOURCE[0]}")/.."
 export LC_ALL=C
 
-# The crates `slh` and `slh_c` and those below them, each with its line.
+# The crates `slh`, `slh_c` and `slh_c_verify` and those below them, each with its line.
 lines() {
     awk -F: '
         function visit(name, below, count, i) {
@@ -21,7 +21,7 @@ lines() {
         }
         { sub(/#.*/, "") }
         NF == 2 { split($1, head, " "); line[head[1]] = $0; uses[head[1]] = $2 }
-        END { visit("slh"); visit("slh_c") }
+        END { visit("slh"); visit("slh_c"); visit("slh_c_verify") }
     ' crates.txt | sort
 }
 
@@ -29,8 +29,8 @@ mapfile -t crates < <(lines | sed 's/[: ].*//')
 {
     lines
     {
-        find HANDLES VERSION exports include packages/slh.c portable tools/{clang.sh,kit.py,portable.py,program.sh,target.sh} \
-            -type f -print0
+        find HANDLES VERSION c/{exports,include,portable} c/starter.c \
+            tools/{clang.sh,for_128.sed,for_hook.sed,for_size.sed,kit.py,lay_out.py,portable.py,program.sh,target.sh} -type f -print0
         find "${crates[@]/#/crates/}" -path '*/out' -prune -o -path '*/tests/*' -o -name 'tests.*' \
             -o \( -path '*/src/*' -o -path '*/specs/*' -o -path '*/proofs/*' \) -type f -print0
     } | sort -z | xargs -0 sha256sum

@@ -7,7 +7,7 @@
 # usage: tools/test.sh [--no-setup] [--quick | [--release] [--few]]
 #
 #   --no-setup   installs nothing
-#   --quick      the layout of all files, the program, the wrong bodies of changed crates, and the scripts over the
+#   --quick      the layout of all files, the program, changed wrong bodies, and the scripts over the
 #                program, by the work that earlier checks kept: no `rt ci`, no tables and no library
 #   --release    the scripts over the release in dist/, also if rt is there
 #   --few        the same, with a few tests of each script
@@ -18,7 +18,7 @@
 #
 # Each part is announced with its number and its minutes. The end is a table of all parts, a list of the skipped tests,
 # and each failure with the command that runs its part alone. The last line is 'N passed, M failed, K skipped', and the
-# status is 0 if nothing failed. The table marks parts that took more processor minutes than docs/CONTRIBUTING.md
+# status is 0 if nothing failed. The table marks parts that took more processor minutes than tests/README.md
 # grants: that is no failure.
 set -uo pipefail
 here=$(cd "$(dirname "${BASH_SOURCE[0]}")/.." && pwd)
@@ -51,7 +51,9 @@ scripts_of_sources="tests/commands.py|program: its commands, refusals and help t
 tests/library_tests.sh|library for C: calls, headers, examples|6|1|cc g++ nm readelf pkg-config python3
 tests/faults_tests.sh|faults: one flipped bit in the course of a call|2|1|cc
 tests/compare_tests.sh|comparisons: instructions by the place of a wrong byte|2|1|cc
-tests/targets_tests.sh|targets: aarch64, WebAssembly|2|1|python3
+tests/instructions.sh|instructions: calls of the library, counted|1|1|cc
+tests/targets_tests.sh|targets: ARM, RISC-V, Windows, macOS, WebAssembly|4|1|python3
+tests/boards_tests.sh|boards: Cortex-M4, Cortex-M0, 32-bit RISC-V|1|1|nm size python3
 tests/portable_tests.sh|portable C: ARM, RISC-V, s390x, Windows, Cortex-M4|4|1|cc python3
 tests/packages_tests.sh|packages: Python, JavaScript, CMake, Rust, Go|5|1|cc python3
 tests/release_tests.sh|release: README's commands, damaged files, the test command|3|1|cc objdump openssl xxd python3
@@ -63,10 +65,13 @@ tests/each_growth.sh|growth: each request for memory refused|1|1|cc
 tests/limits.sh|limits: little stack and address space|1|1|cc
 tests/debian_tests.sh|Debian: its packages|3|1|dpkg-deb dpkg-shlibdeps strip python3 cc pkg-config openssl
 tests/web_tests.py|web: the page that verifies|1|1|python3
-tests/archive_tests.py|archives: the examples for much work|1|1|python3
+tests/archive_tests.py|archives: the examples for much work|2|1|python3
+tests/queue_tests.py|queues: the examples that sign a queue|1|1|python3
 tests/openssl_keys.sh|keys: to and from OpenSSL|1|1|openssl xxd"
+script_of_pages="tests/pages_tests.py|pages: links, widths, sentences|1|1|python3"
 scripts_of_kit="rt ci|proofs: each function, from nothing|60|1|rt
-tests/wrong_bodies.py --gate|wrong bodies: of changed crates, and some of all|6|1|rt
+tests/wrong_bodies.py --gate|wrong bodies: changed ones, and some of all|6|1|rt
+tests/tested_bodies.py --few|wrong bodies: some that tests refuse|2|1|rt
 tests/tables.sh|tables: known values of single functions|1|1|rt
 tests/widths_tests.sh|widths: vectors for each number of lanes|6|1|rt"
 
@@ -135,6 +140,7 @@ plan_parts() {
 # Plans the scripts over the release. If the sources are others, some scripts would test calls that it lacks.
 plan_release() {
     local other others= why=
+    plan_parts "" "" "$script_of_pages"
     plan_parts "" "it needs rt" "$scripts_of_kit"
     [ $same = yes ] || why="the sources are not those of dist/"
     plan_parts "${few:+$few }--dist dist" "$why" "$scripts_of_sources"
@@ -150,13 +156,14 @@ plan_release() {
 plan_sources() {
     local all
     all=$(printf '%s\n' "$scripts_of_sources" "$scripts_of_release")
+    plan_parts "" "" "$script_of_pages"
     [ $mode = quick ] || plan_parts "" "" "$scripts_of_kit"
     [ $mode = whole ] ||
-        plan_parts "" "" "tests/wrong_bodies.py --changed|wrong bodies: of changed crates|3|1|rt"
+        plan_parts "" "" "tests/wrong_bodies.py --changed|wrong bodies: changed ones|3|1|rt"
     plan_parts "" "" "$(grep -E '^tests/(commands|vectors|interchange|streams|each_growth|limits)\.' <<<"$all")"
     [ $mode = whole ] || return 0
     plan_parts --after-ci "" "$(grep '^tests/library' <<<"$all")"
-    plan_parts "" "" "$(grep -E '^tests/(targets|portable)' <<<"$all")"
+    plan_parts "" "" "$(grep -E '^tests/(targets|boards|portable)' <<<"$all")"
     plan_parts "" "" "tests/release_tests.sh|release: packages, provider, Debian, what needs no rt|10|1|cc openssl xxd"
     plan_parts --few "" "tests/fresh_tests.sh|fresh: the test command on a minimal Debian|5|5|"
 }
@@ -167,11 +174,11 @@ measure() {
     spent=$(awk -F'[ms ]+' 'NR == 2 { print int(100 * ($1 * 60 + $2 + $3 * 60 + $4)) }' "$work/clock")
 }
 
-# The processor minutes that docs/CONTRIBUTING.md grants a command: those of the script, if it runs over a release.
+# The processor minutes that tests/README.md grants a command: those of the script, if it runs over a release.
 granted() {
     local script=${1%% --dist *}
     awk -F' *[|] *' -v command="\`$1\`" -v script="\`${script% --few}" '
-        $2 == command || $2 == script "`" || $2 == script " --after-ci`" { print $3; exit }' docs/CONTRIBUTING.md
+        $2 == command || $2 == script "`" || $2 == script " --after-ci`" { print $3; exit }' tests/README.md
 }
 
 # Prints the first of these commands that is not there.
@@ -258,7 +265,7 @@ whole) plan_sources ;;
 esac
 check "docs/CONTRACTS.md is what the sources say" python3 "tools/contracts.py --check" tools/contracts.py --check
 check "docs/pictures is what the tables say" python3 "tools/pictures.py --check" tools/pictures.py --check
-check "packages/slh.3 is what the headers say" python3 "tools/man3.py --check" tools/man3.py --check
+check "bindings/debian/slh.3 is what the headers say" python3 "tools/man3.py --check" tools/man3.py --check
 rows+=("tools/test.sh|$passed|$failed|$skipped|$SECONDS|0|")
 for part in "${plan[@]}"; do run_part "$part"; done
 measure

@@ -1,0 +1,56 @@
+/*
+ * For the library of several levels of x86-64: exports.c calls the proved export of the best level, which is named
+ * slh_NAME_v2, slh_NAME_v3 or slh_NAME_v4. SLH_HIGHEST is the highest that there is, 3 or 4.
+ */
+#ifndef SLH_ALL_LEVELS_H
+#define SLH_ALL_LEVELS_H
+
+#define PROVED(name, parameters)                \
+    HIDDEN uint32_t slh_##name##_v2 parameters; \
+    HIDDEN uint32_t slh_##name##_v3 parameters; \
+    HIDDEN uint32_t slh_##name##_v4 parameters;
+#if SLH_HIGHEST == 4
+#define IF_V4(level, it) (level) == 4 ? it :
+#else
+#define IF_V4(level, it)
+#endif
+#define CALL(level, name, arguments)             \
+    (IF_V4(level, slh_##name##_v4 arguments)     \
+     (level) == 3 ? slh_##name##_v3 arguments    \
+                  : slh_##name##_v2 arguments)
+
+/* A jump takes no stack. */
+#define JUMP __attribute__((musttail)) return
+#if SLH_HIGHEST == 4
+#define JUMP_IF_V4(level, it) if (level == 4) JUMP it;
+#else
+#define JUMP_IF_V4(level, it)
+#endif
+#define OPEN(name, parameters, arguments)                \
+    PROVED(name, parameters)                             \
+    uint32_t slh_##name parameters {                     \
+        uint32_t level = level_of(choice());             \
+        JUMP_IF_V4(level, slh_##name##_v4 arguments)     \
+        if (level == 3) JUMP slh_##name##_v3 arguments;  \
+        JUMP slh_##name##_v2 arguments;                  \
+    }
+
+#define DEPTHS(name, ...) static const uint32_t name##_depths_v2[] = {__VA_ARGS__};
+#include SLH_DEPTHS_V2
+#undef DEPTHS
+#define DEPTHS(name, ...) static const uint32_t name##_depths_v3[] = {__VA_ARGS__};
+#include SLH_DEPTHS_V3
+#undef DEPTHS
+#if SLH_HIGHEST == 4
+#define DEPTHS(name, ...) static const uint32_t name##_depths_v4[] = {__VA_ARGS__};
+#include SLH_DEPTHS_V4
+#undef DEPTHS
+#endif
+#define DEPTH(level, name, row)              \
+    (IF_V4(level, name##_depths_v4[row])     \
+     (level) == 3 ? name##_depths_v3[row]    \
+                  : name##_depths_v2[row])
+
+static inline uint32_t level_of(uint32_t chosen) { return chosen & LEVEL_MASK; }
+
+#endif

@@ -1,0 +1,74 @@
+/* ---- The calls: arguments go into the memory of the proved code, and results out of it. ---- */
+
+/* An argument that is bytes: to be read, or to be written. */
+struct part {
+    const void *in;
+    void *out;
+    size_t len;
+    u64 address;
+};
+
+#define READ(name) {name, NULL, name##_len, 0}
+#define WRITE(name) {NULL, name, name##_len, 0}
+#define COUNT(parts) (sizeof(parts) / sizeof(parts)[0])
+
+/* What is put into memory begins at a multiple of 16, since the proved code takes numbers that are aligned. */
+#define ALIGNED(n) (((n) + 15) / 16 * 16)
+#define PARTS_AT ALIGNED(STACK_BYTES + CONSTANT_BYTES)
+
+#if SLH_VERSION_NUMBER != MODULE_VERSION
+#error "slh_verify.h is of another version than this file"
+#endif
+#ifdef SLH_VERIFY_MEMORY
+/* The public key, the context and the digest, each at a multiple of 16. */
+_Static_assert(MACHINE_BYTES + PARTS_AT + SLH_MAX_PUBLIC_KEY + ALIGNED(SLH_MAX_CONTEXT) + 64 <=
+                   SLH_VERIFY_MEMORY_FOR(0, 0),
+               "slh_verify.h grants a set less memory than it takes");
+#endif
+
+/* Gives each part a place, and tells how many bytes of memory there have to be: 0 where that is more than half of all
+   that a size_t can count. */
+static size_t placed(struct part *parts, size_t count) {
+    size_t size = PARTS_AT;
+    for (size_t i = 0; i < count; i++) {
+        if (size > SIZE_MAX / 2 || parts[i].len > SIZE_MAX / 2 - size) return 0;
+        parts[i].address = FIRST + size;
+        size += ALIGNED(parts[i].len);
+    }
+    return size;
+}
+
+#define PLACE(m, part) ((m)->bytes + (size_t)((part).address - FIRST))
+
+/* A memory with the parts in it, or null. */
+static struct machine *begin(struct part *parts, size_t count) {
+    size_t size = placed(parts, count);
+    struct machine *m = size > 0 ? take_memory(size) : NULL;
+    if (m == NULL) return NULL;
+    m->stack_pointer = STACK_TOP;
+    m->size = size;
+    m->in_call = 0;
+    memcpy(m->bytes + STACK_BYTES, constants, CONSTANT_BYTES);
+    for (size_t i = 0; i < count; i++)
+        if (parts[i].in != NULL && parts[i].len > 0) memcpy(PLACE(m, parts[i]), parts[i].in, parts[i].len);
+    return m;
+}
+
+/* Hands out what is done, erases the memory and gives it back. */
+static u32 end(struct machine *m, const struct part *parts, size_t count, u32 result) {
+    for (size_t i = 0; result == SLH_DONE && i < count; i++)
+        if (parts[i].out != NULL && parts[i].len > 0) memcpy(parts[i].out, PLACE(m, parts[i]), parts[i].len);
+    erase(m, MACHINE_BYTES + (size_t)m->size);
+    give_back(m);
+    return result;
+}
+
+/* A part as the proved code takes it: where it is, and its length; or where it is alone. */
+#define B(i) parts[i].address, (u64)parts[i].len
+#define P(i) parts[i].address
+
+/* Runs a call of the proved code over the parts: `result` is what it returns. */
+#define RUN(call, ...)                                                                          \
+    u32 result = SLH_NO_MEMORY;                                                                 \
+    struct machine *m = begin(parts, COUNT(parts));                                             \
+    if (m != NULL) result = end(m, parts, COUNT(parts), module_##call(BASE(m), __VA_ARGS__))
