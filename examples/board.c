@@ -1,6 +1,7 @@
+/* SPDX-License-Identifier: MIT OR Apache-2.0 */
 /* A program for a board without an operating system, ARM Cortex-M: it starts, verifies the image that is compiled in,
    and says whether it is valid, how deep the stack went, and stops. As a bootloader does, but that this one would jump
-   to the image. qemu-system-arm runs it (docs/FIRMWARE.md).
+   to the image. qemu-system-arm runs it (docs/MACHINES.md).
 
    public_key.h, image.h and signature.h have the bytes, as xxd -i writes them: the image is signed in the pre-hash form
    with SHA2-256 under the set SET and the context CONTEXT. What the program says goes to the debugger or the emulator
@@ -60,8 +61,13 @@ void trapped(const char *why) {
     debugger(0x18, (const void *)0x20023);
 }
 
-/* By -DSLH_VERIFY_MEMORY_AT=memory: the memory of the calls, so that this program can see how much of it is used. */
+/* By -DSLH_VERIFY_MEMORY_AT=memory: the memory of the calls of slh_verify.c, so that this program can see how much of it
+   is used. An archive for the board takes none. */
+#ifdef SLH_VERIFY_MEMORY_AT
 uint64_t memory[SLH_VERIFY_MEMORY / 8];
+#else
+uint64_t memory[1];
+#endif
 
 /* A timer of the processor, which counts 24 bits downwards. */
 #define TIMER ((volatile uint32_t *)0xe000e010)
@@ -103,7 +109,7 @@ static void start(void) {
     for (painted = stack_begin; *painted == PAINT * 0x1010101u;) painted++;
     while (used > 0 && ((uint8_t *)memory)[used - 1] == PAINT) used--;
     say_number("stack: ", (uint32_t)((char *)stack_end - (char *)painted));
-    say_number("memory: ", (uint32_t)used);
+    if (used > 0) say_number("memory: ", (uint32_t)used);
     say_number("ticks of one verification: ", ticks);
     debugger(0x18, (const void *)0x20026);
     for (;;) {}

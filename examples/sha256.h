@@ -1,3 +1,4 @@
+/* SPDX-License-Identifier: MIT OR Apache-2.0 */
 /* SHA-256 (FIPS 180-4) over pieces, for examples/verify_image.c: begin, any number of pieces, end. It is not proved. It
    stands for the one that your device has, as hardware or from your vendor, which is faster. */
 #ifndef SHA256_H

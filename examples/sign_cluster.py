@@ -1,7 +1,7 @@
 """Makes one signature of the set 256s by its jobs over a cluster of dask.distributed, looks whether slh_sign makes the
 same bytes, writes it into FILE.sig, and says how long each took: sign_cluster.py SCHEDULER KEY FILE
 
-It needs the package slh, here and at each worker, which docs/PACKAGES.md says how to install.
+It needs the package slh, here and at each worker, which bindings/README.md says how to install.
 
 THE ANSWERS OF THE JOBS ARE SECRET: who reads one can have the key. They lie in the memory of the workers and of the
 scheduler, and go over the connections between them. So trust each of these as the machine that has the key, have the

@@ -1,3 +1,4 @@
+/* SPDX-License-Identifier: MIT OR Apache-2.0 */
 /* Verifies an image under a public key that is compiled in, as a device does: the image is read in blocks and hashed,
    and never stands in memory whole. verify_image IMAGE SIGNATURE ends with status 0 where the signature is valid.
 

@@ -2,7 +2,7 @@
 # the library by where it stands itself.
 #
 #   slh::slh      all calls, as an archive
-#   slh::shared   all calls, as a shared object, where one is installed
+#   slh::shared   all calls, as a shared object or a DLL, where one is installed
 #   slh::verify   the calls of slh_verify.h alone, as an archive, for firmware
 #   slh::portable all calls as portable C, which is compiled with the program, where tools/library.sh has put that
 cmake_minimum_required(VERSION 3.13)
@@ -29,8 +29,11 @@ endfunction()
 _slh_library(slh STATIC libslh.a)
 _slh_library(verify STATIC libslh_verify.a)
 _slh_library(shared SHARED libslh.so.0)
+_slh_library(shared SHARED ../bin/slh.dll)
 if(TARGET slh::shared)
-    set_target_properties(slh::shared PROPERTIES IMPORTED_SONAME libslh.so.0)
+    set_target_properties(
+        slh::shared PROPERTIES IMPORTED_SONAME libslh.so.0 IMPORTED_IMPLIB "${_slh_lib}/slh.lib"
+    )
 endif()
 
 set(_slh_source "${_slh_lib}/../src/slh.c")

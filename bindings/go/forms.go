@@ -1,3 +1,5 @@
+// The forms of signing of FIPS 205, section 10.2, and the library's calls for each.
+
 package slh
 
 // #include "library.h"

@@ -1,3 +1,5 @@
+// One signature by several goroutines, over the library's jobs.
+
 package slh
 
 // #include "library.h"
@@ -56,7 +58,7 @@ func (it *signing) erase() {
 }
 
 // signJobs returns the signature that a start begins, which a call writes. That many goroutines do its jobs, or as many
-// as there are jobs (docs/JOBS.md, "Signing with threads of your own"). A key whose root is not the one that its
+// as there are jobs (docs/LIBRARY.md, "Threads of your own"). A key whose root is not the one that its
 // seeds give signs nothing: AnswersDisagree.
 func (secret *SecretKey) signJobs(key []byte, options Options, begin writing) ([]byte, error) {
 	it, err := newSigning(secret.set, key, options.runs())

@@ -1,3 +1,5 @@
+// A test of key files that needs Linux, whose writes it has the system refuse.
+
 package slh_test
 
 import (

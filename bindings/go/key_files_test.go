@@ -1,3 +1,5 @@
+// Tests of key files, by the rows of the program's own tests.
+
 package slh_test
 
 import (
@@ -38,7 +40,7 @@ func (it *latin1) UnmarshalJSON(text []byte) error {
 	return nil
 }
 
-// A row is a command line of vectors/commands, as tests/commands.py reads it.
+// A row is a command line of tests/vectors/commands, as tests/commands.py reads it.
 type row struct {
 	Words          []string
 	Status         int
@@ -112,7 +114,7 @@ func load(text []byte, isSecret bool) (string, error) {
 // rowsOf calls a function with each row of a table that has a key file.
 func rowsOf(t *testing.T, table string, call func(line int, it row, text []byte)) {
 	t.Helper()
-	file, err := os.Open(filepath.Join("../../vectors/commands", table))
+	file, err := os.Open(filepath.Join("../../tests/vectors/commands", table))
 	if err != nil {
 		t.Fatal(err)
 	}

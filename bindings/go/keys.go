@@ -1,3 +1,5 @@
+// Public and secret keys (FIPS 205, section 9.1): making, printing, using and erasing them.
+
 package slh
 
 // #include "library.h"

@@ -1,3 +1,5 @@
+// Tests that a secret key is not printed, serialised or copied, by each way of printing and each holder of a key.
+
 package slh_test
 
 import (

@@ -1,3 +1,5 @@
+// The search for a secret in printed text, in each encoding, for the tests of printing.
+
 package slh_test
 
 import (

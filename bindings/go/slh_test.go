@@ -1,3 +1,5 @@
+// Tests of keys, signatures and verdicts, by the vectors of other implementations.
+
 package slh
 
 import (
@@ -49,7 +51,7 @@ type vector struct {
 // vectors returns the tests of a kind, but for those of the internal form, which this package does not have.
 func vectors(t *testing.T, kind string) []vector {
 	t.Helper()
-	paths, err := filepath.Glob("../../vectors/slh-dsa-*.json")
+	paths, err := filepath.Glob("../../tests/vectors/slh-dsa-*.json")
 	if err != nil || len(paths) != 6 {
 		t.Fatal("there are no six vector files", paths, err)
 	}

@@ -122,7 +122,7 @@ class Instance {
     #reserve(end) {
         const { memory } = this.#exports;
         const lacking = Math.ceil((end - memory.buffer.byteLength) / PAGE);
-        if (lacking > 0) grow(memory, lacking);
+        if (lacking > 0) memory.grow(lacking);
     }
 }
 
@@ -198,19 +198,9 @@ export class Calls {
     }
 }
 
-/** The pointer and the length of a place. A number has no length. */
+/** The pointer and the length of a place, which has 64 bits. A number has no length. */
 function wordsOf({ it, at, length }) {
-    return it instanceof NumberRoom ? [BigInt(at)] : [BigInt(at), BigInt(length)];
-}
-
-/** Adds pages to a 64-bit memory. The standard has their number as a BigInt, and Node 20 as a number. */
-function grow(memory, pages) {
-    try {
-        memory.grow(BigInt(pages));
-    } catch (error) {
-        if (!(error instanceof TypeError)) throw error;
-        memory.grow(pages);
-    }
+    return it instanceof NumberRoom ? [at] : [at, BigInt(length)];
 }
 
 function aligned(at) {

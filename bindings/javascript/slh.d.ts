@@ -201,6 +201,6 @@ export interface Library {
 
 /**
  * Makes an instance of slh.wasm: the one beside slh.js, or of a URL, of its bytes, or of a compiled module. Throws an
- * Error that names the flag and the engines to take if this one has no WebAssembly with 64-bit memory.
+ * Error if this engine has no WebAssembly.
  */
 export function load(source?: URL | ArrayBuffer | ArrayBufferView | WebAssembly.Module): Promise<Library>;

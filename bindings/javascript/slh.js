@@ -17,7 +17,7 @@
  * the module's stack too if the call takes secrets. `erase` clears a secret key. The caller's arrays stay as they are,
  * and an engine may keep copies in its own stack and registers.
  *
- * The module has a 64-bit memory. Node 20 needs --experimental-wasm-memory64.
+ * It runs in Node 20 and later, and in browsers.
  */
 
 import { byteLength, copyOf, NONE, zeros } from "./bytes.js";
@@ -42,9 +42,6 @@ const BAD_RANDOMIZER_LENGTH = 17;
 const SIGN_OPTIONS = ["context", "randomizer", "deterministic", "twice", "verify"];
 const VERIFY_OPTIONS = ["context"];
 const INSPECT = Symbol.for("nodejs.util.inspect.custom");
-
-// The shortest module with a memory whose addresses have 64 bits.
-const WITH_MEMORY64 = Uint8Array.of(0, 97, 115, 109, 1, 0, 0, 0, 5, 3, 1, 4, 1);
 
 // The bytes of each key. They are not fields: consoles of browsers and debuggers print private fields, too. Those of a
 // public key may be secret, if somebody took a secret key for one.
@@ -357,11 +354,8 @@ async function read(url) {
     return response.arrayBuffer();
 }
 
-/** Throws an Error that says what to do if the engine has no 64-bit memory. */
-function expectMemory64() {
-    if (typeof WebAssembly === "object" && WebAssembly.validate(WITH_MEMORY64)) return;
-    throw new Error("this engine has no WebAssembly with 64-bit memory: run Node 20 or 22 as " +
-        "`node --experimental-wasm-memory64 FILE`, or take Node 24, Chrome or Edge 133, Firefox 134, or later");
+function expectWebAssembly() {
+    if (typeof WebAssembly !== "object") throw new Error("this engine has no WebAssembly");
 }
 
 async function compile(bytes) {
@@ -375,7 +369,7 @@ async function compile(bytes) {
 
 /** Makes an instance of slh.wasm: the one beside this file, or of a URL, of its bytes, or of a compiled module. */
 export async function load(source = new URL("slh.wasm", import.meta.url)) {
-    expectMemory64();
+    expectWebAssembly();
     if (source instanceof WebAssembly.Module) return new Library(new Calls(source));
     return new Library(new Calls(await compile(source instanceof URL ? await read(source) : source)));
 }

@@ -1,6 +1,7 @@
 #!/usr/bin/env bash
 # Builds the provider `slh` for OpenSSL 3.5 and later, and installs it as PREFIX/lib/ossl-modules/slh.so, over the
-# library that tools/library.sh has installed into PREFIX. docs/OPENSSL.md says how it is used.
+# library that tools/library.sh has installed into PREFIX, with a configuration for it as PREFIX/etc/slh.cnf.
+# docs/OPENSSL.md says how they are used.
 #
 # usage: bindings/openssl/build.sh PREFIX
 #
@@ -51,4 +52,7 @@ mkdir -p "$prefix/lib/ossl-modules"
     "${runpath[@]}" \
     -Wl,--version-script="$here/slh.map",-z,defs,-z,relro,-z,now,--allow-shlib-undefined ${CFLAGS-} \
     -o "$prefix/lib/ossl-modules/slh.so"
-echo "installed in $prefix: lib/ossl-modules/slh.so"
+mkdir -p "$prefix/etc"
+module=$(cd "$prefix/lib/ossl-modules" && pwd)/slh.so
+sed "s|@MODULE@|$module|" "$here/slh.cnf.in" >"$prefix/etc/slh.cnf"
+echo "installed in $prefix: lib/ossl-modules/slh.so, etc/slh.cnf"

@@ -1,4 +1,4 @@
-/* What the files of the provider `slh` for OpenSSL share. docs/OPENSSL.md says what it is and how it is used. */
+/* Declarations that the files of the provider `slh` for OpenSSL share. docs/OPENSSL.md explains its use. */
 #ifndef SLH_OPENSSL_PROVIDER_H
 #define SLH_OPENSSL_PROVIDER_H
 
@@ -26,10 +26,14 @@ struct set {
 const struct set *set_of(uint32_t number);
 
 /* A provider's context: where random bytes are drawn, and how signatures are made, by how many threads and whether each
-   job is done two times and its answers compared. 0 workers stand for a configuration that is wrong. */
+   job is done two times and its answers compared. 0 workers stand for a configuration that is wrong. tls is whether TLS
+   is told the sets, and max_message how many bytes a message in pieces may have. settings is all this as a text. */
 struct provider {
     OSSL_LIB_CTX *libctx;
-    int workers, twice;
+    int workers, twice, tls;
+    size_t max_message;
+    char settings[112];
+    atomic_size_t signatures;
 };
 
 /* A key: it has PRIVATE, PUBLIC, both or nothing. sk is SK.seed || SK.prf || PK.seed || PK.root; in a public key the
@@ -47,13 +51,15 @@ static inline size_t pk_len(const struct key *it) { return 2 * it->set->n; }
 static inline const uint8_t *pk(const struct key *it) { return it->sk + pk_len(it); }
 
 /* What a caller chose for signatures under a key. encoding is 1 in the pure form, and 0 in the internal one, for test
-   vectors, whose message is M' as it is. */
+   vectors, whose message is M' as it is. The pieces of a message are held until it is over. */
 struct signature {
-    OSSL_LIB_CTX *libctx;
+    struct provider *prov;
     const struct set *set;
     struct key *key;
     int workers, twice, deterministic, encoding;
-    size_t context_len, entropy_len;
+    enum { NO_PIECES, PIECES, OVER } pieces;
+    uint8_t *held;
+    size_t held_len, held_room, context_len, entropy_len;
     uint8_t context[SLH_MAX_CONTEXT], entropy[SLH_MAX_N];
 };
 /* Makes a signature of the pure form by its jobs, with the entropy as its randomizer. Unless it returns SLH_DONE it has
@@ -72,9 +78,10 @@ int put_bytes(OSSL_PARAM params[], const char *name, const void *bytes, size_t l
 
 extern const OSSL_ALGORITHM keymgmts[], signatures[];
 
-/* The algorithms of the six sets, by the names of the default provider, with the tables NAME_1 to NAME_6. */
+/* The six sets, by the default provider's names, with the tables NAME_1 to NAME_6. slh.cnf prefers slh.first. */
 #define ALGORITHM(set, oid, table)                                                                                     \
-    {"SLH-DSA-SHA2-" set ":id-slh-dsa-sha2-" set ":2.16.840.1.101.3.4.3." oid, "provider=slh", table, "by libslh"}
+    {"SLH-DSA-SHA2-" set ":id-slh-dsa-sha2-" set ":2.16.840.1.101.3.4.3." oid, "provider=slh,slh.first=yes", table,    \
+     "by libslh"}
 #define ALL_SETS(name)                                                                                                 \
     {ALGORITHM("128s", "20", name##_1), ALGORITHM("128f", "21", name##_2), ALGORITHM("192s", "22", name##_3),          \
      ALGORITHM("192f", "23", name##_4), ALGORITHM("256s", "24", name##_5), ALGORITHM("256f", "25", name##_6), {0}}

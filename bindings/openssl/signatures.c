@@ -1,4 +1,4 @@
-/* Signing and verifying, as OpenSSL's default provider does it: messages that are handed in whole. */
+/* Signing and verifying, as OpenSSL's default provider does it, and of messages that come in pieces. */
 #include "provider.h"
 #include <limits.h>
 #include <slh_internal.h>
@@ -6,21 +6,35 @@
 static void *signature_new(struct provider *prov, uint32_t number) {
     struct signature *it = OPENSSL_zalloc(sizeof *it);
     if (it == NULL) return NULL;
-    it->libctx = prov->libctx;
+    it->prov = prov;
     it->set = set_of(number);
     it->workers = prov->workers, it->twice = prov->twice, it->encoding = 1;
     return it;
 }
 
-static void signature_free(void *it) {
-    if (it != NULL) key_free(((struct signature *)it)->key);
-    OPENSSL_clear_free(it, sizeof(struct signature));
+/* Erases the pieces of a message. */
+static void drop(struct signature *it, int pieces) {
+    OPENSSL_clear_free(it->held, it->held_room);
+    it->held = NULL, it->held_len = it->held_room = 0, it->pieces = pieces;
+}
+
+static void signature_free(void *handed) {
+    struct signature *it = handed;
+    if (it == NULL) return;
+    drop(it, NO_PIECES);
+    key_free(it->key);
+    OPENSSL_clear_free(it, sizeof *it);
 }
 
 static void *signature_dup(void *handed) {
-    struct signature *it = OPENSSL_memdup(handed, sizeof *it);
-    if (it != NULL && it->key != NULL) atomic_fetch_add(&it->key->holders, 1);
-    return it;
+    const struct signature *from = handed;
+    struct signature *it = OPENSSL_memdup(from, sizeof *it);
+    if (it == NULL) return NULL;
+    it->held = NULL, it->held_room = it->held_len;
+    if (it->key != NULL) atomic_fetch_add(&it->key->holders, 1);
+    if (it->held_len == 0 || (it->held = OPENSSL_memdup(from->held, from->held_len)) != NULL) return it;
+    signature_free(it);
+    return NULL;
 }
 
 static int set_number(const OSSL_PARAM params[], const char *name, int least, int most, int *to) {
@@ -86,7 +100,9 @@ static int init(struct signature *it, const char *digest, struct key *key, const
     if (key->set != it->set) return fail(PROV_R_INVALID_KEY, "the key is of another set");
     if (!key_has(key, needed)) return fail(PROV_R_NOT_A_PRIVATE_KEY, "");
     if (needed == PRIVATE && it->workers == 0)
-        return fail(PROV_R_INVALID_CONFIG_DATA, "in the configuration workers is 1 to 64, and twice 0 or 1");
+        return fail(PROV_R_INVALID_CONFIG_DATA, "in the configuration workers is 1 to 64, twice 0 or 1, tls draft, and "
+                                                "max_message at most 1099511627776");
+    drop(it, NO_PIECES);
     atomic_fetch_add(&key->holders, 1);
     key_free(it->key);
     it->key = key;
@@ -111,6 +127,12 @@ static uint32_t make(const struct signature *it, const uint8_t *msg, size_t msg_
                     it->entropy_len, sig, it->set->sig_len);
 }
 
+/* Of a message that began in pieces all pieces are signed or verified, and nothing else. */
+static int is_whole(const struct signature *it, const uint8_t *msg) {
+    return it->pieces == NO_PIECES || (it->pieces == PIECES && msg == it->held) ||
+           fail(PROV_R_INVALID_DATA, "the message has begun in pieces, or a piece was refused");
+}
+
 /* libslh asks of its caller that an output overlaps no input, and that no length is above PTRDIFF_MAX. */
 static int sign(void *handed, unsigned char *sig, size_t *len, size_t room, const unsigned char *msg, size_t msg_len) {
     struct signature it = *(struct signature *)handed;
@@ -119,16 +141,18 @@ static int sign(void *handed, unsigned char *sig, size_t *len, size_t room, cons
     if (!key_has(it.key, PRIVATE)) return fail(PROV_R_NOT_A_PRIVATE_KEY, "");
     if (sig == NULL) return *len = it.set->sig_len, 1;
     if (room < it.set->sig_len) return fail(PROV_R_INVALID_SIGNATURE_SIZE, "there is no room for the signature");
+    if (!is_whole(&it, msg)) return 0;
     if (it.encoding == 0 && it.twice) return fail(PROV_R_FAILED_TO_SIGN, "twice is of the pure form alone");
     if (msg_len > PTRDIFF_MAX || (msg_len != 0 && in < out + it.set->sig_len && out < in + msg_len))
         return fail(PROV_R_INVALID_DATA, "the message is too long, or overlaps the signature");
     if (it.entropy_len == 0 && !it.deterministic) {
-        if (RAND_priv_bytes_ex(it.libctx, it.entropy, n, (unsigned)(8 * n)) <= 0) return 0;
+        if (RAND_priv_bytes_ex(it.prov->libctx, it.entropy, n, (unsigned)(8 * n)) <= 0) return 0;
         it.entropy_len = n;
     }
     uint32_t result = make(&it, msg, msg_len, sig);
     OPENSSL_cleanse(it.entropy, sizeof it.entropy);
     if (result != SLH_DONE) return fail(PROV_R_FAILED_TO_SIGN, "");
+    atomic_fetch_add(&it.prov->signatures, 1);
     *len = it.set->sig_len;
     return 1;
 }
@@ -136,10 +160,49 @@ static int sign(void *handed, unsigned char *sig, size_t *len, size_t room, cons
 static int verify(void *handed, const unsigned char *sig, size_t len, const unsigned char *msg, size_t msg_len) {
     const struct signature *it = handed;
     if (it->key == NULL) return fail(PROV_R_NO_KEY_SET, "");
+    if (!is_whole(it, msg)) return 0;
     if (it->encoding == 0)
         return slh_verify_internal(it->set->number, pk(it->key), pk_len(it->key), msg, msg_len, sig, len) == SLH_DONE;
     return slh_verify(it->set->number, pk(it->key), pk_len(it->key), msg, msg_len, it->context, it->context_len, sig,
                       len) == SLH_DONE;
+}
+
+/* Ends a message in pieces that is refused: what is signed or verified must not be a part of it. */
+static int refuse(struct signature *it, const char *text) {
+    drop(it, OVER);
+    return fail(PROV_R_INVALID_DATA, text);
+}
+
+/* Holds one more piece. Signing hashes the whole message two times. In verifying R is hashed before the message, and
+   OpenSSL hands over the signature last. */
+static int update(void *handed, const unsigned char *piece, size_t len) {
+    struct signature *it = handed;
+    size_t most = it->prov->max_message, all = it->held_len + len;
+    if (it->pieces == OVER || (piece == NULL && len != 0)) return refuse(it, "the message is over, or a piece is null");
+    if (len > most || it->held_len > most - len) return refuse(it, "the pieces are longer than max_message");
+    if (all > it->held_room) {
+        size_t room = all > most / 2 ? most : 2 * all;
+        uint8_t *held = OPENSSL_clear_realloc(it->held, it->held_room, room);
+        if (held == NULL) return refuse(it, "there is no memory for the pieces");
+        it->held = held, it->held_room = room;
+    }
+    if (len != 0) memcpy(it->held + it->held_len, piece, len);
+    it->held_len = all, it->pieces = PIECES;
+    return 1;
+}
+
+/* A caller that only asks for the signature's length, or has no room for it, may call again. */
+static int sign_final(void *handed, unsigned char *sig, size_t *len, size_t room) {
+    struct signature *it = handed;
+    if (!sign(it, sig, len, room, it->held, it->held_len)) return 0;
+    if (sig != NULL) drop(it, OVER);
+    return 1;
+}
+static int verify_final(void *handed, const unsigned char *sig, size_t len) {
+    struct signature *it = handed;
+    int is_valid = verify(it, sig, len, it->held, it->held_len);
+    drop(it, OVER);
+    return is_valid;
 }
 
 /* SIGN_INIT and VERIFY_INIT must not stand here: with them `cms` signs the digest of a message in its place. */
@@ -155,6 +218,10 @@ static int verify(void *handed, const unsigned char *sig, size_t len, const unsi
         OF_SIGNATURES(DIGEST_SIGN_INIT, digest_sign_init, digest_sign_init),                                           \
         OF_SIGNATURES(DIGEST_SIGN, digest_sign, sign), OF_SIGNATURES(DIGEST_VERIFY, digest_verify, verify),            \
         OF_SIGNATURES(DIGEST_VERIFY_INIT, digest_verify_init, digest_verify_init),                                     \
+        OF_SIGNATURES(DIGEST_SIGN_UPDATE, digest_sign_update, update),                                                 \
+        OF_SIGNATURES(DIGEST_SIGN_FINAL, digest_sign_final, sign_final),                                               \
+        OF_SIGNATURES(DIGEST_VERIFY_UPDATE, digest_verify_update, update),                                             \
+        OF_SIGNATURES(DIGEST_VERIFY_FINAL, digest_verify_final, verify_final),                                         \
         OF_SIGNATURES(SET_CTX_PARAMS, set_ctx_params, signature_set_params),                                           \
         OF_SIGNATURES(SETTABLE_CTX_PARAMS, settable_ctx_params, signature_settable),                                   \
         OF_SIGNATURES(GET_CTX_PARAMS, get_ctx_params, signature_get_params),                                           \

@@ -2,10 +2,11 @@
 
     SLH_PREFIX=PREFIX pip install bindings/python
 
-PREFIX is the absolute path of a folder that tools/library.sh has installed into. The wheel has its shared object. Where
-there is none, as `tools/library.sh --target portable` leaves it, the portable C is compiled: the wheel is then for this
-kind of machine. A source distribution has the portable C and its headers in the folder `library`, and takes these where
-there is no SLH_PREFIX. The same files give the same wheel, bit for bit, by the same setuptools.
+PREFIX is the absolute path of a folder that tools/library.sh has installed into. The wheel has its shared object, and
+is for the machine of that: Linux on x86-64, ARM or RISC-V, or Windows. Where there is none, as `tools/library.sh
+--target portable` leaves it, the portable C is compiled: the wheel is then for this kind of machine. A source
+distribution has the portable C and its headers in the folder `library`, and takes these where there is no SLH_PREFIX.
+The same files give the same wheel, bit for bit, by the same setuptools.
 """
 
 from __future__ import annotations
@@ -56,7 +57,19 @@ def library_version(prefix: pathlib.Path) -> str:
 
 
 PREFIX = library_prefix()
-SHARED = PREFIX / "lib" / "libslh.so.0"
+NAME = "libslh.so.0"
+DLL = PREFIX / "bin" / "slh.dll"
+SHARED = DLL if DLL.is_file() else PREFIX / "lib" / NAME
+# The platform tags, by the first bytes of a file and by the class and the machine of ELF.
+MACHINES = {(2, 62): "x86_64", (2, 183): "aarch64", (2, 243): "riscv64", (1, 40): "armv7l"}
+
+
+def platform_of(shared: pathlib.Path) -> str:
+    """The platform tag of a wheel with this shared object."""
+    head = shared.read_bytes()[:20]
+    if head[:2] == b"MZ":
+        return "win_amd64"
+    return "linux_" + MACHINES[head[4], int.from_bytes(head[18:20], "little")]
 SOURCE = PREFIX / "src" / "slh.c"
 
 
@@ -69,7 +82,7 @@ class Library(build_ext.build_ext):
         self.force = True
 
     def get_ext_filename(self, fullname: str) -> str:
-        return os.path.join(*fullname.split(".")[:-1], SHARED.name)
+        return os.path.join(*fullname.split(".")[:-1], NAME)
 
     def get_export_symbols(self, ext: setuptools.Extension) -> list[str]:
         """The calls, where a linker has to be told them, as on Windows."""
@@ -86,7 +99,7 @@ class Library(build_ext.build_ext):
             self.copy_file(str(SHARED), target)
             return
         if not SOURCE.is_file():
-            sys.exit(f"setup.py: there is neither lib/libslh.so.0 nor src/slh.c in {PREFIX}")
+            sys.exit(f"setup.py: there is neither lib/libslh.so.0, bin/slh.dll nor src/slh.c in {PREFIX}")
         ext.sources = [str(SOURCE)]
         ext.include_dirs = [str(PREFIX / "include")]
         is_msvc = self.compiler.compiler_type == "msvc"
@@ -98,7 +111,7 @@ class Wheel(bdist_wheel):
     """A wheel for any Python 3: what is compiled knows nothing of Python."""
 
     def get_tag(self) -> tuple[str, str, str]:
-        return "py3", "none", "linux_x86_64" if SHARED.is_file() else super().get_tag()[2]
+        return "py3", "none", platform_of(SHARED) if SHARED.is_file() else super().get_tag()[2]
 
 
 class Sources(sdist.sdist):

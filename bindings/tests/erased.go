@@ -47,6 +47,7 @@ func main() {
 	expect(secret.Check())
 	expectNoneInVectors(key)
 	throughFile(secret, key)
+	throughPKCS8(secret, key)
 	for at := range key {
 		fmt.Printf("%02x", key[at]^0x5a)
 		key[at] = 0
@@ -68,6 +69,32 @@ func main() {
 	secret.Destroy()
 	fmt.Println("erased")
 	io.Copy(io.Discard, in)
+}
+
+// throughPKCS8 writes a key in PEM and DER, reads both again, and destroys these keys.
+func throughPKCS8(secret *slh.SecretKey, key []byte) {
+	pem, err := secret.MarshalPKCS8PEM()
+	expectNoneInVectors(key)
+	expect(err)
+	first, err := slh.ParsePKCS8SecretKeyPEM(pem)
+	expectNoneInVectors(key)
+	expect(err)
+	der, err := secret.MarshalPKCS8()
+	expectNoneInVectors(key)
+	expect(err)
+	second, err := slh.ParsePKCS8SecretKey(der)
+	expectNoneInVectors(key)
+	expect(err)
+	if !first.Equal(secret) || !second.Equal(secret) {
+		expect(fmt.Errorf("another key"))
+	}
+	first.Destroy()
+	second.Destroy()
+	for _, bytes := range [][]byte{pem, der} {
+		for at := range bytes {
+			bytes[at] = 0
+		}
+	}
 }
 
 // throughFile writes a key into a file, reads it again, and destroys that key.

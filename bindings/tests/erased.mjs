@@ -6,6 +6,7 @@ import { join } from "node:path";
 
 import { load, SLH_DSA_SHA2_128F, SLH_SHA2_256 } from "slh";
 import { dump, loadSecretKey } from "slh/files";
+import * as pkix from "slh/pkix";
 
 const slh = await load();
 const message = new TextEncoder().encode("letter");
@@ -28,7 +29,12 @@ rmSync(folder, { recursive: true });
 const file = loaded.format();
 const parsed = slh.parseSecretKey(file);
 file.fill(0);
-if (!publicKey.verify(message, parsed.sign(message))) process.exit(1);
+const pem = pkix.toPem(slh, secret);
+const der = pkix.toDer(slh, secret);
+const others = [pkix.secretKeyFromPem(slh, pem), pkix.secretKeyFromDer(slh, der)];
+for (const it of [pem, der]) it.fill(0);
+for (const key of [parsed, ...others]) if (!publicKey.verify(message, key.sign(message))) process.exit(1);
+for (const key of others) key.erase();
 for (const key of [secret, loaded, parsed]) key.erase();
 console.log("erased");
 await once(process.stdin, "end");

@@ -4,6 +4,7 @@ import sys
 import tempfile
 
 import slh
+from slh import pkix
 
 MESSAGE, FUNCTION, DIGEST = b"letter", slh.Function.SLH_SHA2_256, bytes(32)
 HOW = {"deterministic": True}
@@ -22,6 +23,10 @@ def dump_and_load(key):
     text = key.dumps()
     assert slh.SecretKey.loads(text) == key
     text[:] = bytes(len(text))
+    for write, read in ((pkix.to_pem, pkix.secret_from_pem), (pkix.to_der, pkix.secret_from_der)):
+        text = write(key)
+        assert read(text) == key
+        text[:] = bytes(len(text))
     data = key.to_bytes()
     assert slh.SecretKey(key.set, data) == key
     data[:] = bytes(len(data))

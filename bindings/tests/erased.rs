@@ -40,12 +40,25 @@ fn through_a_file(secret: &Secret) -> Result<AnySecretKey, Error> {
     Ok(again)
 }
 
+/// The key through PKCS#8 in PEM and DER, in a buffer that is cleared.
+fn through_pkcs8(secret: &Secret) -> Result<(), Error> {
+    let (mut pem, mut der) = ([0; 168], [0; 84]);
+    secret.write_pem_to(&mut pem[..])?;
+    secret.write_der_to(&mut der[..])?;
+    assert!(Secret::from_pem(&pem)? == *secret && Secret::from_der(&der)? == *secret);
+    pem.fill(0);
+    der.fill(0);
+    std::hint::black_box((&pem, &der));
+    Ok(())
+}
+
 /// Makes a key, signs by it, and drops it where it was moved to.
 fn sign() -> Result<(), Error> {
     let first = Secret::generate()?;
     let digits: Vec<_> = first.as_bytes().iter().map(|byte| format!("{:02x}", byte ^ 0x5a)).collect();
     println!("{}", digits.concat());
     stdin().read_line(&mut String::new()).expect("a line");
+    through_pkcs8(&first)?;
     let file = through_a_file(&first)?;
     let AnySecretKey::Sha2_128f(loaded) = file else { panic!("{file:?} is of another set") };
     let (other, again) = (first.duplicate(), Secret::try_from(&first.as_bytes()[..])?);

@@ -1,4 +1,4 @@
-// Tests include/slh.hpp: tests of a vector file from standard input, and the types by themselves. tests.sh of this
+// Tests c/include/slh.hpp: tests of a vector file from standard input, and the types by themselves. tests.sh of this
 // folder compiles and runs it. The last line has the counts, and the status is 0 if nothing failed.
 #include <slh.hpp>
 
@@ -187,7 +187,8 @@ void test_refusals() {
 slh::Bytes *wanted = nullptr;
 int left = 0, freed = 0;
 
-// Whether blocks of a signature's length are counted that are freed, and of these the ones that have other bytes than 0.
+// Whether blocks of a signature's length are counted that are freed, and of these the ones that have other bytes than
+// 0.
 bool is_counting = false;
 int signatures = 0, kept_signatures = 0;
 

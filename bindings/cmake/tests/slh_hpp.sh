@@ -1,6 +1,6 @@
 #!/usr/bin/env bash
-# Tests include/slh.hpp, the header of types for C++, over a library that tools/library.sh has installed: slh_hpp.cpp is
-# compiled as C++17 and as C++20 by each of GCC and clang that is there, and runs over vectors of the set 128f.
+# Tests c/include/slh.hpp, the header of types for C++, over a library that tools/library.sh has installed: slh_hpp.cpp
+# is compiled as C++17 and as C++20 by each of GCC and clang that is there, and runs over vectors of the set 128f.
 #
 # usage: bindings/cmake/tests/slh_hpp.sh PREFIX
 #
@@ -16,7 +16,7 @@ prefix=$1
 
 # The tests of a vector file, but for those of the internal form: a line each, of words NAME=VALUE.
 write_vectors() {
-    python3 - "$here/vectors/slh-dsa-sha2-128f.json" <<'END'
+    python3 - "$here/tests/vectors/slh-dsa-sha2-128f.json" <<'END'
 import json, sys
 for test in json.load(open(sys.argv[1])):
     if test.get("form") != "internal":
@@ -26,7 +26,7 @@ END
 
 # Compiles and runs the test program: COMPILER and STANDARD.
 test_types() {
-    one "$1 compiles slh.hpp as $2" "$1" -std="$2" -O1 "${strict[@]}" -I "$here/include" -I "$prefix/include" \
+    one "$1 compiles slh.hpp as $2" "$1" -std="$2" -O1 "${strict[@]}" -I "$here/c/include" -I "$prefix/include" \
         -o "$work/slh_hpp" "$here/bindings/cmake/tests/slh_hpp.cpp" "$prefix/lib/libslh.a" -pthread &&
         count "$1, $2: types of slh.hpp" by_vectors "$work/slh_hpp"
 }
@@ -39,7 +39,8 @@ by_vectors() {
 is_refused() {
     printf '#include <slh.hpp>\n#include <iostream>\nvoid it(slh::SecretKey key, slh::SecretKey other) { %s; }\n' "$2" \
         >"$work/refused.cpp"
-    ! "$1" -std=c++17 -Werror -fsyntax-only -I "$here/include" -I "$prefix/include" "$work/refused.cpp" 2>"$work/why" &&
+    ! "$1" -std=c++17 -Werror -fsyntax-only -I "$here/c/include" -I "$prefix/include" "$work/refused.cpp" \
+        2>"$work/why" &&
         grep -q "refused.cpp.*error" "$work/why"
 }
 
@@ -47,7 +48,7 @@ compiles() {
     ! is_refused "$@"
 }
 
-one "slh.hpp has at most 150 lines" test "$(wc -l <"$here/include/slh.hpp")" -le 150
+one "slh.hpp has at most 150 lines" test "$(wc -l <"$here/c/include/slh.hpp")" -le 150
 if can_run "C++" python3; then
     write_vectors >"$work/vectors"
     for cxx in g++ clang++; do

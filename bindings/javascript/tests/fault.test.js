@@ -1,6 +1,6 @@
 // A bit of the secret key that is flipped in the module's memory while it signs: `twice` gives no wrong signature.
 //
-// usage: SLH_WASM=PREFIX/lib/slh.wasm node --experimental-wasm-memory64 --test bindings/javascript/tests
+// usage: SLH_WASM=PREFIX/lib/slh.wasm node --test bindings/javascript/tests
 import assert from "node:assert/strict";
 import { readFileSync } from "node:fs";
 import test, { after } from "node:test";
@@ -10,7 +10,7 @@ import { Fault, load, SLH_DSA_SHA2_128F, SLH_SHA2_256 } from "../slh.js";
 import { hex, vectorKey, watchInstances } from "./support.js";
 
 const MEMORY_SECTION = 5;
-const SHARED_WITH_MOST = 7; // the flags of a memory: its addresses have 64 bits, it is shared, and has a limit
+const SHARED_WITH_MOST = 3; // the flags of a memory: it is shared, and has a limit
 const MOST_PAGES = [0xe8, 0x07]; // 1000, as LEB128
 
 /** A number of LEB128, and the place behind it. */

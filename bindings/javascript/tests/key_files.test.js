@@ -1,6 +1,6 @@
-// Key files: the tables of malformed ones in vectors/commands, and files to and from the program `slh`.
+// Key files: the tables of malformed ones in tests/vectors/commands, and files to and from the program `slh`.
 //
-// usage: SLH_WASM=PREFIX/lib/slh.wasm node --experimental-wasm-memory64 --test bindings/javascript/tests
+// usage: SLH_WASM=PREFIX/lib/slh.wasm node --test bindings/javascript/tests
 import assert from "node:assert/strict";
 import { spawnSync } from "node:child_process";
 import { existsSync, mkdtempSync, readFileSync, rmSync, statSync, symlinkSync, writeFileSync } from "node:fs";
@@ -28,7 +28,7 @@ const PUBLIC_FILE = `slh-dsa-public 2\nSLH-DSA-SHA2-128f\n${hex(sk.subarray(32))
 
 /** The rows of a table of command lines: the words, the refusal, and the bytes of the key file. */
 function* rowsOf(table) {
-    const lines = readFileSync(new URL(`vectors/commands/${table}.jsonl`, repository), "utf8").split("\n");
+    const lines = readFileSync(new URL(`tests/vectors/commands/${table}.jsonl`, repository), "utf8").split("\n");
     const files = {};
     for (const row of lines.filter((it) => it && !it.startsWith("#")).map((it) => JSON.parse(it))) {
         for (const [name, content] of Object.entries(row.write ?? {})) files[name] = Buffer.from(content, "latin1");

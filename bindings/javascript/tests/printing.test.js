@@ -1,7 +1,7 @@
 // All ways of printing, serialising and copying, over all holders of a secret key: no eight bytes in a row of SK.seed
 // or SK.prf come out, in hexadecimal digits, decimal numbers, base64, raw or escaped.
 //
-// usage: SLH_WASM=PREFIX/lib/slh.wasm node --experimental-wasm-memory64 --test bindings/javascript/tests
+// usage: SLH_WASM=PREFIX/lib/slh.wasm node --test bindings/javascript/tests
 import assert from "node:assert/strict";
 import { Console } from "node:console";
 import inspector from "node:inspector";

@@ -1,6 +1,6 @@
 // README.md's lines install the package, and its blocks of JavaScript run as they stand, in their order.
 //
-// usage: SLH_WASM=PREFIX/lib/slh.wasm node --experimental-wasm-memory64 --test bindings/javascript/tests
+// usage: SLH_WASM=PREFIX/lib/slh.wasm node --test bindings/javascript/tests
 import assert from "node:assert/strict";
 import { spawnSync } from "node:child_process";
 import { copyFileSync, mkdirSync, mkdtempSync, readFileSync, rmSync, writeFileSync } from "node:fs";
@@ -29,7 +29,7 @@ function run(words) {
 /** Runs the lines that install. The module is there already: it is the one that is tested. Without npm, copies. */
 function install() {
     const [lines] = blocks("sh").map((it) => it.trim().split("\n"));
-    assert.match(lines[0], /^"\$CLONE"\/tools\/library\.sh --target wasm64 ~\/slh-wasm$/);
+    assert.match(lines[0], /^"\$CLONE"\/tools\/library\.sh --target wasm32 ~\/slh-wasm$/);
     mkdirSync(join(home, "slh-wasm", "lib"), { recursive: true });
     copyFileSync(process.env.SLH_WASM, join(home, "slh-wasm", "lib", "slh.wasm"));
     assert.equal(lines.pop(), "npm install ./slh-package");
@@ -51,16 +51,6 @@ test("README's lines install the package, and its blocks run", () => {
 
 const SLH = JSON.stringify(new URL("../slh.js", import.meta.url));
 const LOAD = `import { load } from ${SLH}; await load().catch((error) => console.log(error.message))`;
-
-test("without the flag the error names it", { skip: !isFlagNeeded() && "this engine needs no flag" }, () => {
-    const said = run([process.execPath, "--input-type=module", "-e", LOAD]);
-    assert.match(said, /64-bit memory.*--experimental-wasm-memory64.*Node 24.*Chrome.*Firefox/);
-});
-
-function isFlagNeeded() {
-    const line = "WebAssembly.validate(Uint8Array.of(0, 97, 115, 109, 1, 0, 0, 0, 5, 3, 1, 4, 1)) || process.exit(1)";
-    return spawnSync(process.execPath, ["-e", line]).status !== 0;
-}
 
 test("without WebAssembly the error says so", () => {
     assert.match(run([process.execPath, "--jitless", "--input-type=module", "-e", LOAD]), /no WebAssembly/);

@@ -1,6 +1,6 @@
-// Tests over slh.wasm, with signatures and keys that other implementations made (vectors/README.md).
+// Tests over slh.wasm, with signatures and keys that other implementations made (tests/vectors/README.md).
 //
-// usage: SLH_WASM=PREFIX/lib/slh.wasm node --experimental-wasm-memory64 --test bindings/javascript/tests
+// usage: SLH_WASM=PREFIX/lib/slh.wasm node --test bindings/javascript/tests
 import assert from "node:assert/strict";
 import { createHash } from "node:crypto";
 import { readFileSync, readdirSync } from "node:fs";
@@ -12,8 +12,8 @@ import { hex, isZeros, module, repository, unhex, watchInstances } from "./suppo
 const { Erased, load, Refusal, SLH_DSA_SHA2_128F, SLH_SHA2_256 } = names;
 const slh = await load(module);
 
-const FILES = readdirSync(new URL("vectors/", repository)).filter((it) => /^slh-dsa-.*\.json$/.test(it));
-const VECTORS = FILES.flatMap((file) => JSON.parse(readFileSync(new URL(`vectors/${file}`, repository), "utf8")));
+const FILES = readdirSync(new URL("tests/vectors/", repository)).filter((it) => /^slh-dsa-.*\.json$/.test(it));
+const VECTORS = FILES.flatMap((file) => JSON.parse(readFileSync(new URL(`tests/vectors/${file}`, repository), "utf8")));
 
 const bytes = (text) => Uint8Array.from(Buffer.from(text, "utf8"));
 const setOf = (it) => names[it.set.replaceAll("-", "_").toUpperCase()];
@@ -424,7 +424,7 @@ test("a module that is damaged, or another one, is told", async () => {
 });
 
 test("numbers are those of the header", () => {
-    const text = readFileSync(new URL("include/slh_verify.h", repository), "utf8");
+    const text = readFileSync(new URL("c/include/slh_verify.h", repository), "utf8");
     for (const [list, prefix] of [["slh_set", "SLH_DSA_"], ["slh_function", "SLH_SHA2_"]]) {
         const [, listed] = new RegExp(`enum ${list} {([^}]*)}`).exec(text);
         const numbers = [...listed.matchAll(/(\w+) = (\d+)/g)].map(([, name, number]) => [name, Number(number)]);

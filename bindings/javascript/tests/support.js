@@ -8,9 +8,9 @@ export const hex = (it) => Buffer.from(it).toString("hex");
 export const unhex = (digits) => Uint8Array.from(Buffer.from(digits, "hex"));
 export const isZeros = (it) => it.every((byte) => byte === 0);
 
-/** A secret key of the set 128f in vectors/ whose bytes are random: those of the first are 0, 1, 2 and so on. */
+/** A secret key of the set 128f in tests/vectors/ whose bytes are random: those of the first are 0, 1, 2 and so on. */
 export function vectorKey() {
-    const tests = JSON.parse(readFileSync(new URL("vectors/slh-dsa-sha2-128f.json", repository), "utf8"));
+    const tests = JSON.parse(readFileSync(new URL("tests/vectors/slh-dsa-sha2-128f.json", repository), "utf8"));
     return unhex(tests.findLast((it) => it.kind === "sign").sk);
 }
 

@@ -554,14 +554,14 @@ class Signer:
         with slh.Signer(workers=4) as signer:
             signature = signer.sign(secret, message)
 
-    A signature is cut into jobs (docs/JOBS.md, "Signing with threads of your own"), which the workers do. With the
+    A signature is cut into jobs (docs/LIBRARY.md, "Threads of your own"), which the workers do. With the
     same randomizer, or with none, it is byte for byte the one that `SecretKey` makes. A secret key that `check` finds
     invalid is refused as AnswersDisagree, while `SecretKey` makes a signature that is not valid. Digests are signed by
     `SecretKey.hash_sign_digest` alone. Any number of threads may sign by one Signer at once.
 
     With `twice` each job runs two times, and Fault is raised unless both runs gave the same bytes. With `verify` each
     signature is verified under the key's public key, and Fault is raised unless it is valid. After Fault nothing is
-    signed. Both find faults of the memory or the processor (docs/JOBS.md, "Faults").
+    signed. Both find faults of the memory or the processor (SECURITY.md, "Faults").
     """
 
     def __init__(self, workers: int, *, twice: bool = False, verify: bool = False) -> None:

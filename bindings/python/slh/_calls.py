@@ -21,6 +21,10 @@ _NAMES = """slh_version slh_lengths slh_refusal_name slh_keygen slh_public slh_c
 slh_hash_sign slh_hash_sign_twice slh_hash_verify slh_hash_sign_digest slh_hash_sign_digest_twice slh_hash_verify_digest
 slh_sign_jobs slh_answer_place slh_sign_start slh_hash_sign_start slh_sign_job slh_sign_join""".split()
 
+_IS_WINDOWS = os.name == "nt"
+#: BCRYPT_USE_SYSTEM_PREFERRED_RNG of Windows.
+_SYSTEM_RNG = 2
+
 #: Types of messages, contexts, keys and signatures.
 Bytes = typing.Union[bytes, bytearray, memoryview]
 
@@ -36,8 +40,9 @@ def _load() -> ctypes.CDLL:
 
 
 def _load_system() -> ctypes.CDLL:
-    loaded = ctypes.CDLL(None, use_errno=True)
-    loaded.getrandom.restype = ctypes.c_ssize_t
+    loaded = ctypes.CDLL("msvcrt" if _IS_WINDOWS else None, use_errno=True)
+    if not _IS_WINDOWS:
+        loaded.getrandom.restype = ctypes.c_ssize_t
     loaded.calloc.restype = ctypes.c_void_p
     loaded.free.restype = None
     return loaded
@@ -267,6 +272,12 @@ def done(name: str, *arguments: typing.Any, lengths: typing.Mapping[int, Length]
 def random_memory(count: int) -> Memory:
     """Fresh bytes from the system's generator, once that is ready. Those of os.urandom could not be cleared."""
     memory, filled = Memory(count), 0
+    if _IS_WINDOWS:
+        numbers = ctypes.c_ulong(count), ctypes.c_ulong(_SYSTEM_RNG)
+        status = ctypes.CDLL("bcrypt").BCryptGenRandom(None, ctypes.c_void_p(memory._at), *numbers)
+        if status != 0:
+            raise OSError(f"BCryptGenRandom: status {status & 0xFFFFFFFF:#x}")
+        return memory
     while filled < count:
         more = _system.getrandom(*memory.part(filled, count - filled).words(), 0)
         number = ctypes.get_errno()

@@ -139,10 +139,12 @@ def write(path: str | os.PathLike[str], text: Memory, is_secret: bool) -> None:
     """Writes a new file whole, or leaves none. An existing one is not overwritten: that is a FileExistsError."""
     checked = checked_path(path)
     mode = 0o600 if is_secret else 0o666
-    file = os.open(checked, os.O_WRONLY | os.O_CREAT | os.O_EXCL | os.O_CLOEXEC, mode)
+    # Windows has O_BINARY in place of O_CLOEXEC, and no modes: a file there has the rights of its folder.
+    flags = getattr(os, "O_CLOEXEC", 0) | getattr(os, "O_BINARY", 0)
+    file = os.open(checked, os.O_WRONLY | os.O_CREAT | os.O_EXCL | flags, mode)
     try:
         try:
-            if is_secret:
+            if is_secret and os.name != "nt":
                 os.fchmod(file, mode)
             _write_all(file, text.view())
             os.fsync(file)

@@ -1,4 +1,4 @@
-"""A signature as jobs for threads, processes or machines of the caller's own (docs/JOBS.md of the repository).
+"""A signature as jobs for threads, processes or machines of the caller's own (docs/LIBRARY.md of the repository).
 
     jobs = slh.jobs.Jobs(slh.Set.SLH_DSA_SHA2_256S, xmss=3, fors=0)
     start = jobs.start(secret, message)

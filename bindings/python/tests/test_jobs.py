@@ -1,4 +1,5 @@
-"""Tests of slh.jobs of the installed package, over signatures that other implementations made (vectors/README.md)."""
+"""Tests of slh.jobs of the installed package, over signatures that other implementations made
+(tests/vectors/README.md)."""
 
 from __future__ import annotations
 
@@ -9,7 +10,7 @@ import unittest
 import slh
 import slh.jobs
 
-VECTORS = pathlib.Path(__file__).resolve().parents[3] / "vectors" / "slh-dsa-sha2-128f.json"
+VECTORS = pathlib.Path(__file__).resolve().parents[3] / "tests/vectors" / "slh-dsa-sha2-128f.json"
 FAST = slh.Set.SLH_DSA_SHA2_128F
 
 

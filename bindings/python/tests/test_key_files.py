@@ -18,8 +18,8 @@ import unittest.mock
 import slh
 
 REPOSITORY = pathlib.Path(__file__).resolve().parents[3]
-TABLES = REPOSITORY / "vectors" / "tables" / "key_files.tsv"
-COMMANDS = REPOSITORY / "vectors" / "commands"
+TABLES = REPOSITORY / "tests/vectors" / "tables" / "key_files.tsv"
+COMMANDS = REPOSITORY / "tests/vectors" / "commands"
 #: The program of the release for each x86-64, or the one that was built.
 PROGRAMS = [REPOSITORY / "dist" / "x86-64-v2" / "slh", REPOSITORY / "crates" / "slh" / "out" / "slh"]
 PROGRAM = next((it for it in PROGRAMS if it.is_file() and os.uname().machine == "x86_64"), None)
@@ -29,7 +29,7 @@ READERS = {"public": slh.PublicKey.loads, "secret": slh.SecretKey.loads, "any": 
 
 def vectors(kind: str) -> list[dict]:
     """The tests of one kind of the six files."""
-    paths = sorted((REPOSITORY / "vectors").glob("slh-dsa-*.json"))
+    paths = sorted((REPOSITORY / "tests/vectors").glob("slh-dsa-*.json"))
     return [it for path in paths for it in json.loads(path.read_text()) if it["kind"] == kind]
 
 
@@ -305,7 +305,7 @@ def edited(source: random.Random, data: bytes) -> bytes:
 
 
 def changed(row: dict, files: dict[str, bytes]) -> dict[str, bytes]:
-    """The files of a row of vectors/commands, as tests/commands.py says."""
+    """The files of a row of tests/vectors/commands, as tests/commands.py says."""
     made = dict(files)
     for how in ("cut", "put", "flip", "add"):
         if how in row:

@@ -68,7 +68,7 @@ PACKAGE = str(pathlib.Path(slh.__file__).parent)
 
 def a_secret_key() -> bytes:
     """The bytes of a secret key that another implementation made, of seeds that look random."""
-    tests = json.loads((REPOSITORY / "vectors" / "slh-dsa-sha2-128f.json").read_text())
+    tests = json.loads((REPOSITORY / "tests/vectors" / "slh-dsa-sha2-128f.json").read_text())
     found = (bytes.fromhex(it["sk"]) for it in tests if it["kind"] == "sign")
     return next(it for it in found if len({one - other for one, other in zip(it[:32], it[1:32])}) > 28)
 

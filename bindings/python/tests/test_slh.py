@@ -1,4 +1,4 @@
-"""Tests of the installed package, over signatures and keys that other implementations made (vectors/README.md).
+"""Tests of the installed package, over signatures and keys that other implementations made (tests/vectors/README.md).
 
 python3 -m unittest discover -s bindings/python/tests
 """
@@ -27,7 +27,7 @@ FAST = slh.Set.SLH_DSA_SHA2_128F
 def vectors() -> list[dict]:
     """The tests of the six files, but for those of the internal form, which this package does not have."""
     tests = []
-    for path in sorted((REPOSITORY / "vectors").glob("slh-dsa-*.json")):
+    for path in sorted((REPOSITORY / "tests/vectors").glob("slh-dsa-*.json")):
         tests += json.loads(path.read_text())
     return [it for it in tests if it.get("form") != "internal"]
 
@@ -506,7 +506,7 @@ class Calls(unittest.TestCase):
         self.assertEqual(slh.Set.SLH_DSA_SHA2_256F.lengths, (64, 128, 49856, 32))
 
     def test_numbers_are_those_of_the_header(self) -> None:
-        text = (REPOSITORY / "include" / "slh_verify.h").read_text()
+        text = (REPOSITORY / "c/include" / "slh_verify.h").read_text()
         for members, name in ((slh.Set, "slh_set"), (slh.Function, "slh_function")):
             listed = re.search(rf"enum {name} {{(.*?)}};", text, re.DOTALL)[1]
             numbers = {it: int(number) for it, number in re.findall(r"(\w+) = (\d+)", listed)}

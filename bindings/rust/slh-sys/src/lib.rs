@@ -76,6 +76,10 @@ pub const SLH_BAD_START_LENGTH: u32 = 27;
 pub const SLH_BAD_START: u32 = 28;
 /// Not valid: `slh_check` and the verify calls alone return it.
 pub const SLH_INVALID: u32 = 30;
+/// What the hardened calls return for a valid signature.
+pub const SLH_HARDENED_VALID: u32 = 0x79d6_17a4;
+/// What the hardened calls return for everything else.
+pub const SLH_HARDENED_INVALID: u32 = 0x7c91_d87f;
 /// The portable C alone returns it: it got no memory for the call.
 pub const SLH_NO_MEMORY: u32 = 37;
 /// The two computations of one signature differ: the calls whose names end in `_twice` return it.
@@ -353,6 +357,33 @@ extern "C" {
     /// Verifies a signature of the pre-hash form, with the digest of the message.
     #[must_use]
     pub fn slh_hash_verify_digest(
+        set: u32,
+        function: u32,
+        pk: *const u8,
+        pk_len: usize,
+        digest: *const u8,
+        digest_len: usize,
+        ctx: *const u8,
+        ctx_len: usize,
+        sig: *const u8,
+        sig_len: usize,
+    ) -> u32;
+    /// The verdict of `slh_verify` as one of two numbers far apart, which a single fault does not turn.
+    #[must_use]
+    pub fn slh_verify_hardened(
+        set: u32,
+        pk: *const u8,
+        pk_len: usize,
+        msg: *const u8,
+        msg_len: usize,
+        ctx: *const u8,
+        ctx_len: usize,
+        sig: *const u8,
+        sig_len: usize,
+    ) -> u32;
+    /// The verdict of `slh_hash_verify_digest` as one of these numbers.
+    #[must_use]
+    pub fn slh_hash_verify_digest_hardened(
         set: u32,
         function: u32,
         pk: *const u8,

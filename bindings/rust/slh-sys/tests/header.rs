@@ -2,7 +2,7 @@
 
 const DECLARATIONS: &str = include_str!("../src/lib.rs");
 const HEADERS: [&str; 2] =
-    [include_str!("../../../../include/slh.h"), include_str!("../../../../include/slh_verify.h")];
+    [include_str!("../../../../c/include/slh.h"), include_str!("../../../../c/include/slh_verify.h")];
 
 /// The parameters between the brackets of a declaration, without line feeds.
 fn parameters(declaration: &str) -> Vec<String> {
@@ -31,7 +31,7 @@ fn in_rust(parameter: &str) -> String {
 
 #[test]
 fn numbers_are_those_of_the_header() {
-    let lines = HEADERS.iter().flat_map(|header| header.lines());
+    let lines = HEADERS.iter().flat_map(|header| header.lines()).filter(|line| !line.starts_with(" *"));
     let numbers: Vec<_> = lines.filter_map(|line| line.trim().trim_end_matches(',').split_once(" = ")).collect();
     for (name, number) in &numbers {
         assert!(DECLARATIONS.contains(&format!("pub const {name}: u32 = {number};")), "{name} is not {number}");

@@ -1,3 +1,5 @@
+//! The errors of the package, and the refusals of the library.
+
 use std::{
     error,
     ffi::CStr,
@@ -27,6 +29,8 @@ pub enum Error {
         /// The set of the file.
         given: &'static str,
     },
+    /// A key in DER or PEM has not the one form that is read.
+    OtherForm(Conversion),
     /// A file could not be read.
     ReadFailed(io::Error),
     /// A file could not be written. It is not there.
@@ -41,6 +45,7 @@ impl fmt::Display for Error {
             Error::RandomFailed(error) => write!(f, "7 RandomFailed: {error}"),
             Error::Fault => f.write_str("38 Fault: two results differ, or the signature is not valid"),
             Error::OtherSet { expected, given } => write!(f, "{expected} expected, a key of {given} given"),
+            Error::OtherForm(conversion) => write!(f, "11 NotAKeyFile: {conversion}"),
             Error::ReadFailed(error) => write!(f, "32 ReadFailed: {error}"),
             Error::WriteFailed(error) => write!(f, "33 WriteFailed: {error}"),
         }
@@ -59,6 +64,32 @@ impl error::Error for Error {
 impl From<Refusal> for Error {
     fn from(refusal: Refusal) -> Self {
         Error::Refused(refusal)
+    }
+}
+
+/// How a key in DER or PEM, which was refused, becomes one that is read.
+#[derive(Debug, Clone, Copy, PartialEq, Eq)]
+#[non_exhaustive]
+pub enum Conversion {
+    /// The key is secret, and a public one was asked for.
+    IsSecret,
+    /// The key is encrypted: `openssl pkey -in FILE -out NEW` asks for its password.
+    IsEncrypted,
+    /// This command of OpenSSL 3.5 converts it, if it is a key of one of the six sets.
+    By(&'static str),
+}
+
+impl fmt::Display for Conversion {
+    fn fmt(&self, f: &mut fmt::Formatter<'_>) -> fmt::Result {
+        match self {
+            Conversion::IsSecret => f.write_str("the key is secret, and a public one is asked for"),
+            Conversion::IsEncrypted => {
+                f.write_str("the key is encrypted; this asks for its password: openssl pkey -in FILE -out NEW")
+            }
+            Conversion::By(command) => {
+                write!(f, "this is not the one form of the six sets; this converts it: {command}")
+            }
+        }
     }
 }
 

@@ -1,3 +1,5 @@
+//! One signature by several threads, over the library's jobs.
+
 use std::{mem, sync::Mutex, thread};
 
 use crate::{
@@ -12,7 +14,7 @@ const FORS_LEVELS: u32 = 0;
 
 /// Several threads that compute each signature under a key. [`SecretKey::workers`] makes them.
 ///
-/// A signature is divided into jobs (docs/JOBS.md, "Signing with threads of your own"), which the threads do; they end
+/// A signature is divided into jobs (docs/LIBRARY.md, "Threads of your own"), which the threads do; they end
 /// before the call returns. No more threads start than there are jobs. With the same randomizer, or with none, the
 /// signature is byte for byte that of [`SecretKey`] in one thread. A key that [`check`](SecretKey::check) finds invalid
 /// is refused as `AnswersDisagree`.

@@ -6,6 +6,7 @@ mod error;
 mod jobs;
 mod key_file;
 mod options;
+mod pkix;
 mod public;
 mod random;
 mod secret;
@@ -14,7 +15,7 @@ mod sets;
 mod signature;
 
 pub use any::{AnyPublicKey, AnySecretKey};
-pub use error::{Error, Refusal};
+pub use error::{Conversion, Error, Refusal};
 pub use jobs::Workers;
 pub use options::{Options, Randomizer};
 pub use public::{PublicKey, Verifier};

@@ -1,3 +1,5 @@
+//! The options of signing and verifying (FIPS 205, section 10.2).
+
 use std::fmt;
 
 use crate::{random, sets::Bytes, Error, Function, ParameterSet, Refusal};
@@ -12,7 +14,7 @@ pub struct Options<'a> {
     pub randomizer: Randomizer<'a>,
     /// Computes the signature two times, by [`Workers`](crate::Workers) each of its jobs, and compares all bytes. If
     /// they differ nothing is signed: [`Error::Fault`]. The time doubles. This is for callers who must survive
-    /// hardware faults: one wrong signature under a key can be enough to forge others (docs/JOBS.md, "Faults").
+    /// hardware faults: one wrong signature under a key can be enough to forge others (SECURITY.md, "Faults").
     pub twice: bool,
     /// Verifies the signature under the public key before it is returned. If it is not valid it is overwritten with
     /// zeros: [`Error::Fault`]. This finds fewer faults than `twice`: a wrong signature can be valid, and still let

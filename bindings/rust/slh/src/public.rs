@@ -1,3 +1,5 @@
+//! Public keys (FIPS 205, section 9.1), and verifying.
+
 use std::{
     fmt,
     hash::{Hash, Hasher},

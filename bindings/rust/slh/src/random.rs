@@ -1,3 +1,5 @@
+//! Random bytes of the system.
+
 use std::io;
 
 extern "C" {

@@ -1,3 +1,5 @@
+//! Secret keys (FIPS 205, section 9.1), and signing.
+
 use std::{
     fmt,
     io::{self, Read, Write},

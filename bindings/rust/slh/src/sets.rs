@@ -1,3 +1,5 @@
+//! The parameter sets (FIPS 205, section 11, Table 2) as types, and the pre-hash functions (section 10.2.2).
+
 use std::fmt::Debug;
 
 /// A pre-hash function (FIPS 205, section 10.2.2). Each goes with each set, but one that is weaker than the set makes a

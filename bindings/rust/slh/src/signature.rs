@@ -1,3 +1,5 @@
+//! Signatures: bytes of the length that their set has.
+
 use std::{fmt, marker::PhantomData};
 
 use crate::{call::done, secrets::erase, Error, ParameterSet};

@@ -1,4 +1,4 @@
-//! Key files: those of vectors/commands, those of the program `slh`, and those that this crate writes.
+//! Key files: those of tests/vectors/commands, those of the program `slh`, and those that this crate writes.
 use std::{
     fs,
     os::unix::fs::PermissionsExt,
@@ -51,7 +51,7 @@ struct Row {
 
 /// The rows of a table, as tests/commands.py reads them.
 fn rows(table: &str) -> Vec<Row> {
-    let text = fs::read_to_string(Path::new(REPOSITORY).join("vectors/commands").join(table)).unwrap();
+    let text = fs::read_to_string(Path::new(REPOSITORY).join("tests/vectors/commands").join(table)).unwrap();
     let (mut whole, mut rows) = (Vec::new(), Vec::new());
     for line in text.lines().filter(|it| !it.starts_with('#')) {
         let name = ["secret", "public"].into_iter().find(|it| line.contains(&format!("\"--key\", \"{it}\"")));
@@ -105,7 +105,7 @@ fn damaged_files_are_refused_as_by_the_program() {
     assert!(names.iter().all(|it| found(Some(it))) && found(None));
 }
 
-/// The seeds are the bytes 0 to 47: the third line is that of vectors/commands/versions.jsonl.
+/// The seeds are the bytes 0 to 47: the third line is that of tests/vectors/commands/versions.jsonl.
 const DIGITS: &str = "000102030405060708090a0b0c0d0e0f101112131415161718191a1b1c1d1e1f\
                       202122232425262728292a2b2c2d2e2f3b56e816847f000386aeec2e2bb9e1b5";
 

@@ -1,4 +1,4 @@
-//! Keys and signatures that other implementations made (vectors/README.md), through each call.
+//! Keys and signatures that other implementations made (tests/vectors/README.md), through each call.
 use std::{fs, path::Path};
 
 use slh::{
@@ -7,7 +7,7 @@ use slh::{
     Verifier,
 };
 
-const FOLDER: &str = concat!(env!("CARGO_MANIFEST_DIR"), "/../../../vectors");
+const FOLDER: &str = concat!(env!("CARGO_MANIFEST_DIR"), "/../../../tests/vectors");
 
 /// The tests of a kind for a set, but for those of the internal form: a line each.
 fn tests<P: ParameterSet>(kind: &str) -> Vec<Test> {

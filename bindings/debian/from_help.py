@@ -2,7 +2,7 @@
 """Prints the man page of the program `slh`, or its completions for bash or zsh. Commands and options come from `slh
 --help` and `slh COMMAND --help`, the names of the sets from `slh params`, the refusals from docs/FORMATS.md.
 
-usage: packages/debian/from_help.py PROGRAM VERSION man|bash|zsh
+usage: bindings/debian/from_help.py PROGRAM VERSION man|bash|zsh
 """
 import pathlib
 import re
