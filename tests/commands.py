@@ -2,11 +2,13 @@
 """Runs the program `slh` over tables of command lines, and compares what it writes.
 
 usage: tests/commands.py [--few] [--dist DIST] [TABLES [PROGRAM]]
+       tests/commands.py [--few] --python FOLDER
 
-TABLES is a folder of tables (default: vectors/commands), PROGRAM the program (default: crates/slh/out/slh, which `rt
-ci` leaves built); --dist takes the one of a release. With --few only tables of under 5,000 bytes are run. A row is a
-line, a JSON object; lines that begin with `#` are comments. The rows of a table run in order in a folder of their
-own, which is empty at first. Bytes that are no ASCII stand as the characters 80 to ff.
+TABLES is a folder of tables (default: tests/vectors/commands), PROGRAM the program (default: crates/slh/out/slh, which
+`rt ci` leaves built); --dist takes the one of a release. With --few only tables of under 5,000 bytes are run. With
+--python the program is `python -m slh` of the package in FOLDER, for its five commands, without rows of custom sets. A
+row is a line, a JSON object; lines that begin with `#` are comments. The rows of a table run in order in a folder of
+their own, which is empty at first. Bytes that are no ASCII stand as the characters 80 to ff.
 Members:
 
 - `words`: the arguments;
@@ -26,6 +28,7 @@ nothing failed.
 import collections
 import hashlib
 import json
+import os
 import pathlib
 import subprocess
 import sys
@@ -35,9 +38,16 @@ sys.dont_write_bytecode = True
 import counts
 
 here = counts.HERE
+PROGRAM = here / "crates" / "slh" / "out" / "slh"
+OF_PYTHON = {"keygen", "public", "sign", "verify", "check"}
 release, few, words = counts.take_options(sys.argv[1:])
-tables = pathlib.Path(words[0] if words else here / "vectors" / "commands")
-program = counts.choose_program(release, words[1] if len(words) > 1 else here / "crates" / "slh" / "out" / "slh")
+tables = pathlib.Path(words[0] if words else here / "tests/vectors" / "commands")
+package = pathlib.Path(words[1]).resolve() if words[:1] == ["--python"] and len(words) == 2 else None
+if package:
+    tables, program = here / "tests/vectors" / "commands", [sys.executable, "-m", "slh"]
+else:
+    program = [counts.choose_program(release, words[1] if len(words) > 1 else PROGRAM)]
+environment = {**os.environ, **({"PYTHONPATH": str(package), "PYTHONDONTWRITEBYTECODE": "1"} if package else {})}
 ANSWERS = ["output", "sha256", "contains"]
 MEMBERS = {"words", "status", "width", "errors", "input", "write", "keep", "cut", "put", "flip", "add", *ANSWERS}
 
@@ -69,16 +79,20 @@ def changed(row, folder):
     return None, b""
 
 
-def run(row, folder):
-    """Runs the program, and says what differs from the row, if anything does."""
+def write_files(row, folder):
     for name, text in row.get("write", {}).items():
         (folder / name).write_bytes(text.encode("latin-1"))
+
+
+def run(row, folder):
+    """Runs the program, and says what differs from the row, if anything does."""
+    write_files(row, folder)
     path, data = changed(row, folder)
     whole = path.read_bytes() if path else b""
     if path:
         path.write_bytes(data)
-    done = subprocess.run([program, *row["words"]], cwd=folder, input=row.get("input", "").encode("latin-1"),
-                          capture_output=True, timeout=120)
+    done = subprocess.run([*program, *row["words"]], cwd=folder, input=row.get("input", "").encode("latin-1"),
+                          capture_output=True, timeout=120, env=environment)
     if path:
         path.write_bytes(whole)
     if "keep" in row:
@@ -98,20 +112,37 @@ def run(row, folder):
     return f"output without {missing}" if missing else None
 
 
+def is_for_python(row, folder, lacking):
+    """Whether a row is for the five commands, and not of a custom set. What another row would keep is lacking, and a
+    row that needs it is left out."""
+    write_files(row, folder)
+    files = [folder / it for it in row["words"][1:] if 0 < len(it) < 256 and (folder / it).is_file()]
+    texts = [*(it.encode() for it in row["words"]), *(it.read_bytes()[:512] for it in files)]
+    is_so = row["words"][:1] and row["words"][0] in OF_PYTHON and not any(b"custom:" in it for it in texts)
+    is_so = is_so and not lacking & {*row["words"]}
+    lacking.update([row["keep"]] if "keep" in row and not is_so else [])
+    return is_so
+
+
 def tell(name, fault):
     """Counts a row, and prints what is wrong with it."""
     counts.count("passed" if fault is None else "failed", None if fault is None else f"{name}: {fault}")
 
 
+left_out = []
 found, run_tables = [], [it for it in sorted(tables.glob("*.jsonl")) if not few or it.stat().st_size < 5000]
 for table in run_tables:
-    rows = collections.Counter()
+    rows, lacking = collections.Counter(), set()
     with tempfile.TemporaryDirectory() as folder:
         for number, line in enumerate(table.read_text().splitlines(), 1):
             if line.startswith("#"):
                 continue
             try:
                 row = checked(json.loads(line))
+                if package and not is_for_python(row, pathlib.Path(folder), lacking):
+                    left_out += row["words"][:1]
+                    rows[row["words"][0] if row["words"] else "none"] += 1
+                    continue
                 fault = run(row, pathlib.Path(folder))
                 rows[row["words"][0] if row["words"] else "none"] += 1
             except (ValueError, LookupError, TypeError, AttributeError, OSError, subprocess.SubprocessError) as error:
@@ -119,6 +150,9 @@ for table in run_tables:
             tell(f"{table.stem} line {number}", fault)
     found += [f"{table.stem} {command} {count}" for command, count in sorted(rows.items())]
 print("\n".join(found))
+if package:
+    of_custom = sum(it in OF_PYTHON for it in left_out)
+    counts.skip(f"{of_custom} rows of the five commands", "they are of custom sets, or take files of other commands")
 listed = (tables / "rows.txt").read_text().splitlines() if (tables / "rows.txt").exists() else []
 if few:
     listed = [it for it in listed if it.split()[0] in {table.stem for table in run_tables}]

@@ -95,7 +95,7 @@ END
 has_the_vectors_values() {
     in_a_root <<END
 $install
-[ "\$(slh vectors --file /sources/vectors/smoke-128f.json | tail -n 1)" = "passed 6 failed 0" ]
+[ "\$(slh vectors --file /sources/tests/vectors/smoke-128f.json | tail -n 1)" = "passed 6 failed 0" ]
 END
 }
 

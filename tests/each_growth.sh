@@ -61,7 +61,7 @@ context=$(python3 -c 'print("00" * 255)')
 {
     echo '['
     for kind in keygen sign verify; do
-        grep -m1 "\"kind\":\"$kind\"" "$here/vectors/smoke-128f.json" | sed 's/,*$/,/'
+        grep -m1 "\"kind\":\"$kind\"" "$here/tests/vectors/smoke-128f.json" | sed 's/,*$/,/'
     done | sed '$s/,$//'
     echo ']'
 } >tests.json

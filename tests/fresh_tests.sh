@@ -18,58 +18,8 @@ take_options "$@"
 work=$(mktemp -d)
 trap 'rm -rf --one-file-system "$work"' EXIT
 source "$here/tests/library_parts.sh"
-cache=${XDG_CACHE_HOME:-${HOME:-/root}/.cache}/slh
+source "$here/tests/debian_roots.sh"
 export LC_ALL=C.UTF-8
-
-# ---- a root ----
-
-# The addresses and suites of this machine's apt, an entry a line, for a NAME of Debian in place of this machine's.
-suites_of() {
-    local own
-    own=$(. /etc/os-release && echo "$VERSION_CODENAME")
-    apt-get indextargets --format '$(REPO_URI) $(RELEASE)' 'Created-By: Packages' 'Origin: Debian' |
-        awk -v own="$own" -v name="$1" 'index($2, own) == 1 { print $1, name substr($2, length(own) + 1) }' | sort -u
-}
-
-is_on_mirror() { wget -q --spider --timeout=20 --tries=2 "${1%/}/dists/$2/Release" 2>/dev/null; }
-
-# The address of the mirror that has Debian NAME, or nothing.
-mirror_of() {
-    local address suite
-    suites_of "$1" | while read -r address suite; do
-        [ "$suite" != "$1" ] || ! is_on_mirror "$address" "$suite" || { echo "$address" && break; }
-    done
-}
-
-# Makes the root of Debian NAME, with openssl, which README's commands run, and the shells.
-make_root() {
-    local name=$1 address suite
-    mkdir -p "$cache/debs-$name/partial" "$root"
-    debootstrap --variant=minbase --include=openssl,zsh --cache-dir="$cache/debs-$name" "$name" "$root" \
-        "$(mirror_of "$name")" || return
-    suites_of "$name" | while read -r address suite; do
-        ! is_on_mirror "$address" "$suite" || echo "deb $address $suite main"
-    done >"$root/etc/apt/sources.list"
-    apt-config dump | grep -E '^Acquire::(http|https|ftp|Check|Retries)' >"$root/etc/apt/apt.conf.d/99machine"
-    echo force-unsafe-io >"$root/etc/dpkg/dpkg.cfg.d/unsafe-io"
-    cp -rL /etc/resolv.conf "$root/etc/"
-    [ ! -d /etc/apt/auth.conf.d ] || cp -r /etc/apt/auth.conf.d "$root/etc/apt/"
-}
-
-# Runs a command in the folder /slh of the root.
-in_root() {
-    local name=${root##*/} it words=(HOME=/root TERM=dumb LC_ALL=C.UTF-8)
-    words+=(PATH=/usr/local/sbin:/usr/local/bin:/usr/sbin:/usr/bin:/sbin:/bin)
-    for it in http_proxy https_proxy no_proxy; do [ -z "${!it-}" ] || words+=("$it=${!it}"); done
-    timeout 7200 unshare -mpf --kill-child bash -e -c '
-        mount -t proc proc "$0/proc"
-        mount --rbind /dev "$0/dev"
-        mount --rbind /sys "$0/sys"
-        mount --bind "$1" "$0/var/cache/apt/archives"
-        shift
-        exec chroot "$0" /usr/bin/env -i -C /slh "$@"
-    ' "$root" "$cache/debs-$name" "${words[@]}" "$@"
-}
 
 # The commit to test: the last one, with later changes of its files.
 commit() {
@@ -159,7 +109,7 @@ test_debian() {
         skip "Debian $number" "the mirror of this machine's apt does not have it"
         return
     fi
-    one "Debian $number: a minimal root is made" make_root "$name" || return
+    one "Debian $number: a minimal root is made" make_root "$name" openssl,zsh || return
     one "Debian $number: the repository is copied" copy_in "$name" || return
     for shell in "dash -i" "bash --norc -i" "zsh -f -i"; do
         one "Debian $number: README's commands by ${shell%% *}" pastes $shell
@@ -170,19 +120,6 @@ test_debian() {
     rm -rf --one-file-system "$root"
 }
 
-# Prints the reason why no root can be made, or nothing.
-obstacle() {
-    if [ "$(id -u)" != 0 ]; then
-        echo "this is not root"
-    elif ! (. /etc/os-release && [ "$ID" = debian ]) || ! command -v apt-get >/dev/null; then
-        echo "this is not Debian"
-    elif ! command -v debootstrap >/dev/null || ! command -v wget >/dev/null; then
-        echo "there is no debootstrap"
-    elif ! unshare -mpf true 2>/dev/null; then
-        echo "unshare is refused"
-    fi
-}
-
 one "README's test command is one command" names_one_command
 why=$(obstacle)
 if [ -n "$why" ]; then
@@ -191,8 +128,7 @@ if [ -n "$why" ]; then
     end_counts
     exit
 fi
-eval "$(apt-config shell proxy Acquire::http::Proxy)"
-[ -z "${proxy-}" ] || export http_proxy=$proxy
+use_proxy
 test_debian bookworm 12
 [ $few = yes ] || test_debian trixie 13
 end_counts

@@ -30,7 +30,7 @@ import counts
 
 here = counts.HERE
 release, few, words = counts.take_options(sys.argv[1:])
-vectors = pathlib.Path(words[0] if words else here / "vectors")
+vectors = pathlib.Path(words[0] if words else here / "tests/vectors")
 program = counts.choose_program(release, words[1] if len(words) > 1 else here / "slh")
 work = pathlib.Path(tempfile.mkdtemp())
 

@@ -1,7 +1,7 @@
 /*
- * Tries what the library chooses for a processor (exports/chosen.c): by tests/processors.h and by processors that lack
- * one thing; by 64 threads whose first calls come at once; and the time of a call. It is linked with a libslh.a whose
- * slh_ask_processor and slh_choice are to be seen, the first of them weak (tests/library_parts.sh makes it so).
+ * Tries what the library chooses for a processor (c/exports/chosen.c): by tests/processors.h and by processors that
+ * lack one thing; by 64 threads whose first calls come at once; and the time of a call. It is linked with a libslh.a
+ * whose slh_ask_processor and slh_choice are to be seen, the first of them weak (tests/library_parts.sh makes it so).
  *
  * usage: levels_tests LEVEL      LEVEL is the best that this processor runs: 2, 3 or 4
  *

@@ -1,7 +1,7 @@
 #!/usr/bin/env bash
 # Tests that the library for C of all levels of x86-64 runs the code for the best level that processor and system have:
-# what it chooses for a processor of a table, and for one that lacks one thing; vectors/ by each level; 64 threads whose
-# first calls come at once; what it does on a processor of a lesser level, under qemu-x86_64.
+# what it chooses for a processor of a table, and for one that lacks one thing; tests/vectors/ by each level; 64 threads
+# whose first calls come at once; what it does on a processor of a lesser level, under qemu-x86_64.
 #
 # usage: tests/levels_tests.sh PREFIX      what tools/library.sh has installed
 #

@@ -1,6 +1,6 @@
 /*
  * Measures how deep each call that takes secrets goes below its caller's stack pointer, and compares it with the depth
- * that exports/depths/ has for it and for the set: no call goes deeper, and each reaches the last 256 bytes.
+ * that c/exports/depths/ has for it and for the set: no call goes deeper, and each reaches the last 256 bytes.
  *
  * It is linked with a libslh.a whose slh_clear is weak (tests/library_parts.sh makes it so), and brings an slh_clear
  * that clears nothing, and keeps the depth that it is asked to clear and the stack pointer where that begins. The calls
@@ -10,8 +10,8 @@
  *
  * Code with vectors of more than 16 bytes aligns its stack, so what it takes depends on where the stack begins: SHIFTS
  * is 1, or 2 or 4 for vectors of 32 or 64 bytes. With `few` the sets whose names end in s sign by slh_sign alone: for
- * an emulator. With `write` it tries all pre-hash functions and prints the lines of a file of exports/depths/; else it
- * tries two, SHA2-256 and SHA2-512, and the last line is 'N passed, M failed'.
+ * an emulator. With `write` it tries all pre-hash functions under the sets whose names end in f, and prints the lines
+ * of a file of c/exports/depths/; else it tries two, SHA2-256 and SHA2-512, and the last line is 'N passed, M failed'.
  *
  * Jobs and joins are tried with the levels 0 and 1: a range of eight leaves or more goes another way.
  */
@@ -21,7 +21,9 @@
 #include <stdio.h>
 #include <stdlib.h>
 #include <string.h>
+#ifndef _WIN32
 #include <ucontext.h>
+#endif
 
 enum { STACK = 1 << 18, PAINT = 0x5c, SETS = 6, FUNCTIONS = 6, CUTTINGS = 2, SHIFT = 16, ROOM = 128, MOST_UNUSED = 256 };
 
@@ -40,7 +42,7 @@ uint32_t slh_clear(uint32_t result_, size_t depth, uint32_t vectors);
 uint32_t slh_clear(uint32_t result_, size_t depth, uint32_t vectors) {
     (void)vectors;
     begin = __builtin_dwarf_cfa();
-#ifdef __x86_64__
+#if defined(__x86_64__)
     begin -= 8;
 #endif
     asked = depth;
@@ -143,17 +145,28 @@ static const struct row {
 };
 enum { ROWS = sizeof rows / sizeof *rows };
 
-/* Runs a call on the painted stack, which begins up to `shifts` times 16 bytes lower, and returns how deep it went. */
-static size_t used(void (*call)(void), unsigned shift, unsigned shifts, uint32_t wanted) {
+/* Runs a call on a stack that ends at this address. */
+#ifdef _WIN32
+void run_on(void (*call)(void), uint8_t *top);
+__asm__(".text\n.globl run_on\nrun_on:\n"
+        "push %rbp\nmov %rsp,%rbp\nmov %rdx,%rsp\nsub $32,%rsp\ncall *%rcx\nmov %rbp,%rsp\npop %rbp\nret\n");
+#else
+static void run_on(void (*call)(void), uint8_t *top) {
     ucontext_t inner, outer;
-    memset(stack, PAINT, STACK);
-    begin = NULL;
     if (getcontext(&inner)) exit(2);
     inner.uc_stack.ss_sp = stack;
-    inner.uc_stack.ss_size = STACK - SHIFT * (shift % shifts);
+    inner.uc_stack.ss_size = (size_t)(top - stack);
     inner.uc_link = &outer;
     makecontext(&inner, call, 0);
     if (swapcontext(&outer, &inner)) exit(2);
+}
+#endif
+
+/* Runs a call on the painted stack, which begins up to `shifts` times 16 bytes lower, and returns how deep it went. */
+static size_t used(void (*call)(void), unsigned shift, unsigned shifts, uint32_t wanted) {
+    memset(stack, PAINT, STACK);
+    begin = NULL;
+    run_on(call, stack + STACK - SHIFT * (shift % shifts));
     size_t untouched = 0;
     while (untouched < STACK && stack[untouched] == PAINT) untouched++;
     if (result != wanted || begin == NULL || (size_t)(begin - stack) < untouched) {
@@ -196,9 +209,9 @@ int main(int argc, char **argv) {
     unsigned shifts = argc > 1 ? (unsigned)atoi(argv[1]) : 0, passed = 0, failed = 0;
     const char *how = argc > 2 ? argv[2] : "";
     if (shifts < 1 || shifts > 4) return 2;
-    functions = strcmp(how, "write") == 0 ? FUNCTIONS : 2;
     for (size_t i = 0; i < sizeof seeds; i++) seeds[i] = (uint8_t)i;
     for (set = 1; set <= SETS; set++) {
+        functions = strcmp(how, "write") == 0 && set % 2 == 0 ? FUNCTIONS : 2;
         for (levels = 0; levels < CUTTINGS; levels++) {
             if (!begin_set()) return 2;
             for (size_t i = 0; i < ROWS; i++) {

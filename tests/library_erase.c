@@ -11,7 +11,7 @@
  *
  * usage: library_erase [SET ..]      numbers of sets, without any all six
  *
- * For Linux on x86-64 and 64-bit ARM. A line tells of each call how deep it went on the stack, in bytes, and what was
+ * For Linux on x86-64, ARM and 64-bit RISC-V, and for Windows on x86-64. A line tells of each call how deep it went on the stack, in bytes, and what was
  * found. The last line has the counts, and the status is 0 where nothing was found.
  */
 #define _GNU_SOURCE
@@ -22,7 +22,9 @@
 #include <stdio.h>
 #include <stdlib.h>
 #include <string.h>
-#include <sys/mman.h>
+
+/* What an argument takes. */
+typedef uintptr_t word;
 
 enum { STACK = 1 << 20, PAINT = 0x5c, ARGS = 18, REGISTERS = 4096, MOST_FEW = 8, WOTS_HASH = 0, WOTS_PRF = 5,
        FORS_PRF = 6, MOST_JOB = 65536, HINTS = 1 << 24 };
@@ -41,37 +43,46 @@ static void must(int holds, const char *what) {
 
 /*
  * Calls a function on another stack, and writes all registers into `saved` right after it. The machine's width of
- * vectors is 16, 32 or 64 bytes. Arguments from the seventh (x86-64) or the ninth (ARM) on go onto that stack.
+ * vectors is 16, 32 or 64 bytes. The arguments that go into no register go onto that stack: ON_STACK bytes in all.
  */
-uint64_t on_stack(void (*call)(void), const uint64_t args[ARGS], uint8_t *top, uint64_t width);
-uint8_t saved[REGISTERS];
+uint32_t on_stack(void (*call)(void), const word args[ARGS], uint8_t *top, word width);
+_Alignas(64) uint8_t saved[REGISTERS];
 
-#if defined(__x86_64__)
-enum { IN_REGISTERS = 6, VECTORS = 128 };
+#define X86_REGISTERS                                                                                                  \
+    "mov %rbx,8(%rax)\nmov %rcx,16(%rax)\nmov %rdx,24(%rax)\nmov %rsi,32(%rax)\nmov %rdi,40(%rax)\n"                   \
+    "mov %r8,48(%rax)\nmov %r9,56(%rax)\nmov %r10,64(%rax)\nmov %r11,72(%rax)\nmov %r12,80(%rax)\n"                    \
+    "mov %r13,88(%rax)\nmov %r14,96(%rax)\nmov %r15,104(%rax)\nmov (%rsp),%rcx\nmov %rcx,(%rax)\n"                    \
+    "cmp $32,%r12\nje 2f\nja 3f\n"                                                                                     \
+    ".irp n,0,1,2,3,4,5,6,7,8,9,10,11,12,13,14,15\nmovdqu %xmm\\n,128+16*\\n(%rax)\n.endr\njmp 4f\n"                  \
+    "2:\n.irp n,0,1,2,3,4,5,6,7,8,9,10,11,12,13,14,15\nvmovdqu %ymm\\n,128+32*\\n(%rax)\n.endr\njmp 4f\n"             \
+    "3:\n.irp n,0,1,2,3,4,5,6,7,8,9,10,11,12,13,14,15,16,17,18,19,20,21,22,23,24,25,26,27,28,29,30,31\n"               \
+    "vmovdqu64 %zmm\\n,128+64*\\n(%rax)\n.endr\n"                                                                     \
+    ".irp n,0,1,2,3,4,5,6,7\nkmovw %k\\n,%ecx\nmov %rcx,2304+8*\\n(%rax)\n.endr\n4:\n"
+
+#if defined(_WIN32)
+enum { VECTORS = 128, ON_STACK = 144 };
+__asm__(".text\n.globl on_stack\non_stack:\n"
+        "push %rbp\npush %rbx\npush %rsi\npush %rdi\npush %r12\npush %r13\npush %r14\npush %r15\nsub $168,%rsp\n"
+        ".irp n,6,7,8,9,10,11,12,13,14,15\nmovdqu %xmm\\n,16*(\\n-6)(%rsp)\n.endr\n"
+        "mov %rsp,%rbp\nmov %r9,%r12\nmov %rcx,%rax\nmov %rdx,%r10\nmov %r8,%rsp\nsub $144,%rsp\n"
+        "lea 32(%r10),%rsi\nlea 32(%rsp),%rdi\nmov $14,%ecx\ncld\nrep movsq\n"
+        "mov (%r10),%rcx\nmov 8(%r10),%rdx\nmov 16(%r10),%r8\nmov 24(%r10),%r9\ncall *%rax\n"
+        "mov %rbp,%rsp\npush %rax\nlea saved(%rip),%rax\n" X86_REGISTERS "pop %rax\n"
+        ".irp n,6,7,8,9,10,11,12,13,14,15\nmovdqu 16*(\\n-6)(%rsp),%xmm\\n\n.endr\n"
+        "add $168,%rsp\npop %r15\npop %r14\npop %r13\npop %r12\npop %rdi\npop %rsi\npop %rbx\npop %rbp\nret\n");
+#elif defined(__x86_64__)
+enum { VECTORS = 128, ON_STACK = 96 };
 __asm__(".text\n.globl on_stack\n.type on_stack,@function\non_stack:\n"
         "push %rbp\npush %rbx\npush %r12\npush %r13\npush %r14\npush %r15\n"
         "mov %rsp,%rbp\nmov %rcx,%r12\nmov %rdi,%rax\nmov %rsi,%r10\nmov %rdx,%rsp\nsub $96,%rsp\n"
         "lea 48(%r10),%rsi\nmov %rsp,%rdi\nmov $12,%ecx\ncld\nrep movsq\n"
         "mov (%r10),%rdi\nmov 8(%r10),%rsi\nmov 16(%r10),%rdx\nmov 24(%r10),%rcx\nmov 32(%r10),%r8\n"
         "mov 40(%r10),%r9\ncall *%rax\n"
-        "mov %rbp,%rsp\npush %rax\nlea saved(%rip),%rax\n"
-        "mov %rbx,8(%rax)\nmov %rcx,16(%rax)\nmov %rdx,24(%rax)\nmov %rsi,32(%rax)\nmov %rdi,40(%rax)\n"
-        "mov %r8,48(%rax)\nmov %r9,56(%rax)\nmov %r10,64(%rax)\nmov %r11,72(%rax)\nmov %r12,80(%rax)\n"
-        "mov %r13,88(%rax)\nmov %r14,96(%rax)\nmov %r15,104(%rax)\nmov (%rsp),%rcx\nmov %rcx,(%rax)\n"
-        "cmp $32,%r12\nje 2f\nja 3f\n"
-        ".irp n,0,1,2,3,4,5,6,7,8,9,10,11,12,13,14,15\nmovdqu %xmm\\n,128+16*\\n(%rax)\n.endr\njmp 4f\n"
-        "2:\n.irp n,0,1,2,3,4,5,6,7,8,9,10,11,12,13,14,15\nvmovdqu %ymm\\n,128+32*\\n(%rax)\n.endr\njmp 4f\n"
-        "3:\n.irp n,0,1,2,3,4,5,6,7,8,9,10,11,12,13,14,15,16,17,18,19,20,21,22,23,24,25,26,27,28,29,30,31\n"
-        "vmovdqu64 %zmm\\n,128+64*\\n(%rax)\n.endr\n"
-        ".irp n,0,1,2,3,4,5,6,7\nkmovw %k\\n,%ecx\nmov %rcx,2304+8*\\n(%rax)\n.endr\n"
-        "4:\npop %rax\npop %r15\npop %r14\npop %r13\npop %r12\npop %rbx\npop %rbp\nret\n"
+        "mov %rbp,%rsp\npush %rax\nlea saved(%rip),%rax\n" X86_REGISTERS
+        "pop %rax\npop %r15\npop %r14\npop %r13\npop %r12\npop %rbx\npop %rbp\nret\n"
         ".size on_stack,.-on_stack\n");
-
-static uint64_t vector_width(void) {
-    return __builtin_cpu_supports("avx512f") ? 64 : __builtin_cpu_supports("avx2") ? 32 : 16;
-}
 #elif defined(__aarch64__)
-enum { IN_REGISTERS = 8, VECTORS = 256 };
+enum { VECTORS = 256, ON_STACK = 96 };
 __asm__(".text\n.globl on_stack\n.type on_stack,%function\non_stack:\n"
         "stp x29,x30,[sp,#-16]!\nstp x19,x20,[sp,#-16]!\nmov x19,sp\nmov x9,x0\nmov x10,x1\nmov sp,x2\n"
         "sub sp,sp,#96\nadd x11,x10,#64\nmov x12,sp\nmov x13,#10\n"
@@ -83,9 +94,36 @@ __asm__(".text\n.globl on_stack\n.type on_stack,%function\non_stack:\n"
         ".irp n,0,1,2,3,4,5,6,7,8,9,10,11,12,13,14,15,16,17,18,19,20,21,22,23,24,25,26,27,28,29,30,31\n"
         "str q\\n,[x0,#256+16*\\n]\n.endr\n"
         "ldr x0,[sp],#16\nldp x19,x20,[sp],#16\nldp x29,x30,[sp],#16\nret\n.size on_stack,.-on_stack\n");
-
-static uint64_t vector_width(void) { return 16; }
+#elif defined(__riscv)
+enum { VECTORS = 256, ON_STACK = 96 };
+__asm__(".text\n.globl on_stack\n.type on_stack,@function\non_stack:\n"
+        "addi sp,sp,-32\nsd ra,0(sp)\nsd s0,8(sp)\nsd s1,16(sp)\nmv s0,sp\nmv t0,a0\nmv t1,a1\naddi sp,a2,-96\n"
+        "addi t2,t1,64\nmv t3,sp\nli t4,10\n"
+        "1:\nld t5,0(t2)\nsd t5,0(t3)\naddi t2,t2,8\naddi t3,t3,8\naddi t4,t4,-1\nbnez t4,1b\n"
+        "ld a0,0(t1)\nld a2,16(t1)\nld a3,24(t1)\nld a4,32(t1)\nld a5,40(t1)\nld a6,48(t1)\nld a7,56(t1)\n"
+        "ld a1,8(t1)\njalr t0\nmv sp,s0\nmv s1,a0\nla a0,saved\n"
+        ".irp n,1,2,3,4,5,6,7,8,9,11,12,13,14,15,16,17,18,19,20,21,22,23,24,25,26,27,28,29,30,31\n"
+        "sd x\\n,8*\\n(a0)\n.endr\n"
+        ".irp n,0,1,2,3,4,5,6,7,8,9,10,11,12,13,14,15,16,17,18,19,20,21,22,23,24,25,26,27,28,29,30,31\n"
+        "fsd f\\n,256+8*\\n(a0)\n.endr\n"
+        "mv a0,s1\nld ra,0(sp)\nld s0,8(sp)\nld s1,16(sp)\naddi sp,sp,32\nret\n.size on_stack,.-on_stack\n");
+#elif defined(__arm__)
+enum { VECTORS = 64, ON_STACK = 64 };
+__asm__(".text\n.arm\n.fpu neon\n.p2align 2\n.globl on_stack\n.type on_stack,%function\non_stack:\n"
+        "push {r4-r11,lr}\nmov r4,sp\nmov r12,r0\nmov r5,r1\nsub sp,r2,#64\nadd r6,r5,#16\nmov r7,sp\nmov r8,#14\n"
+        "1:\nldr r9,[r6],#4\nstr r9,[r7],#4\nsubs r8,r8,#1\nbne 1b\n"
+        "ldm r5,{r0-r3}\nblx r12\nmov sp,r4\npush {r0}\nldr r0,3f\n"
+        "stm r0,{r0-r12}\nstr lr,[r0,#56]\nadd r0,r0,#64\nvstmia r0!,{d0-d15}\nvstmia r0!,{d16-d31}\n"
+        "pop {r0}\npop {r4-r11,pc}\n3:\n.word saved\n.size on_stack,.-on_stack\n");
 #endif
+
+static word vector_width(void) {
+#if defined(__x86_64__)
+    return __builtin_cpu_supports("avx512f") ? 64 : __builtin_cpu_supports("avx2") ? 32 : 16;
+#else
+    return 16;
+#endif
+}
 
 /* How a value may lie: words of so many bytes that stand `stride` apart, its first byte `shift` bytes into a word. */
 struct layout {
@@ -372,12 +410,10 @@ static void try_search(void) {
 }
 
 /* The stack of the calls, and from where on it is no longer painted. */
-static uint8_t *stack;
+static _Alignas(4096) uint8_t stack[STACK];
 static size_t low;
 
-static void run_painted(const char *name, void (*call)(void), const uint64_t *args) {
-    if (stack == NULL) stack = mmap(NULL, STACK, PROT_READ | PROT_WRITE, MAP_PRIVATE | MAP_ANONYMOUS, -1, 0);
-    must(stack != MAP_FAILED, "no stack");
+static void run_painted(const char *name, void (*call)(void), const word *args) {
     memset(stack, PAINT, STACK);
     memset(saved, 0, sizeof saved);
     must(on_stack(call, args, stack + STACK, vector_width()) == SLH_DONE, name);
@@ -391,7 +427,7 @@ static void report(const struct work *w, const char *name, uint32_t detail) {
     search(stack + aligned, STACK - aligned, on);
     search(saved, VECTORS, in);
     search(saved + VECTORS, REGISTERS - VECTORS, in);
-    printf("set %u, %s %u: %zu bytes deep", (unsigned)w->set, name, (unsigned)detail, STACK - 96 - low);
+    printf("set %u, %s %u: %zu bytes deep", (unsigned)w->set, name, (unsigned)detail, STACK - ON_STACK - low);
     for (int kind = 0; kind < KINDS; kind++) {
         if (on[kind] > 0) printf(", %s %ld", kinds[kind], on[kind]);
         if (in[kind] > 0) printf(", %s in registers %ld", kinds[kind], in[kind]);
@@ -401,14 +437,14 @@ static void report(const struct work *w, const char *name, uint32_t detail) {
     all == 0 ? passed++ : failed++;
 }
 
-static void look(const struct work *w, const char *name, uint32_t detail, void (*call)(void), const uint64_t *args) {
+static void look(const struct work *w, const char *name, uint32_t detail, void (*call)(void), const word *args) {
     run_painted(name, call, args);
     report(w, name, detail);
 }
 
-#define OF(bytes, len) (uint64_t)(uintptr_t)(bytes), (uint64_t)(len)
+#define OF(bytes, len) (word)(bytes), (word)(len)
 #define CALL(name, detail, ...) \
-    look(w, #name, detail, (void (*)(void))name, (const uint64_t[ARGS]){w->set, __VA_ARGS__})
+    look(w, #name, detail, (void (*)(void))name, (const word[ARGS]){w->set, __VA_ARGS__})
 #define KEY OF(w->sk, w->sk_len)
 #define SEEDS OF(w->seeds, w->n), OF(w->seeds + w->n, w->n), OF(w->seeds + 2 * w->n, w->n)
 
@@ -441,7 +477,7 @@ static void look_at_jobs(struct work *w) {
  * comes the key. For the first set it is the process's first call of this library: a loader may then save registers.
  */
 static void look_at_pure(struct work *w) {
-    const uint64_t args[ARGS] = {w->set, SEEDS, OF(w->sk, w->sk_len)};
+    const word args[ARGS] = {w->set, SEEDS, OF(w->sk, w->sk_len)};
     run_painted("keygen", (void (*)(void))slh_keygen, args);
     must(slh_sign(w->set, w->sk, w->sk_len, msg, sizeof msg, NULL, 0, NULL, 0, w->sig, w->sig_len) == SLH_DONE &&
          slh_sign_start(w->set, w->sk, w->sk_len, msg, sizeof msg, NULL, 0, NULL, 0, w->start, w->start_len) ==

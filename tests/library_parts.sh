@@ -94,9 +94,9 @@ has_symbols() {
 # The proved calls; the libraries, and not the module for wasm64, have three more.
 calls() {
     printf 'T slh_%s\n' answer_place check hash_sign hash_sign_digest hash_sign_digest_twice hash_sign_start \
-        hash_sign_twice hash_verify hash_verify_digest keygen keygen_job keygen_jobs keygen_join lengths public \
-        refusal_name sign sign_internal sign_job sign_jobs sign_join sign_start sign_twice verify verify_internal \
-        version
+        hash_sign_twice hash_verify hash_verify_digest hash_verify_digest_hardened keygen keygen_job keygen_jobs \
+        keygen_join lengths public refusal_name sign sign_internal sign_job sign_jobs sign_join sign_start sign_twice \
+        verify verify_hardened verify_internal version
 }
 
 library_calls() {
@@ -104,7 +104,7 @@ library_calls() {
 }
 
 verify_calls() {
-    printf 'T slh_%s\n' hash_verify hash_verify_digest verify version
+    printf 'T slh_%s\n' hash_verify hash_verify_digest hash_verify_digest_hardened verify verify_hardened version
 }
 
 of_c() {
@@ -118,11 +118,44 @@ of_binutils() {
     "$("${compiler:-${CC:-cc}}" -print-prog-name="$program")" "$@"
 }
 
+# Sets what programs for a TARGET are made and run by: `cc`, its `nm`, the words `linked` for it, and the command `run`.
+# Another processor's is that of qemu, and wine's that of Windows.
+tools_of() {
+    local triple emulator
+    case "$1" in
+    aarch64) triple=aarch64-linux-gnu emulator=qemu-aarch64 ;;
+    riscv64) triple=riscv64-linux-gnu emulator=qemu-riscv64 ;;
+    armv7) triple=arm-linux-gnueabihf emulator=qemu-arm ;;
+    windows-*) triple=x86_64-w64-mingw32 emulator=wine ;;
+    *) cc=${CC:-cc} nm=nm linked=(-static) run= && return ;;
+    esac
+    cc=$triple-gcc nm=$triple-nm linked=(-static)
+    [ "$1" != aarch64 ] || cc=${AARCH64_CC:-$cc} nm=${AARCH64_NM:-$nm}
+    # MinGW's C library prints sizes only if it is told to.
+    [ "$emulator" != wine ] || linked+=(-D__USE_MINGW_ANSI_STDIO=1)
+    run=$(command -v "$emulator" || command -v "$emulator-static" || echo "$emulator")
+}
+
+# Sets up a folder of wine's own in $work, where wine is there.
+begin_wine() {
+    export WINEPREFIX=$work/wine WINEDEBUG=-all WINEDLLOVERRIDES=mscoree,mshtml= XDG_RUNTIME_DIR=$work
+    wine cmd /c exit >/dev/null 2>&1
+    # Runs a program to its end: its lines end as they do here.
+    printf '#!/bin/bash\nset -o pipefail\nwine "$@" | tr -d "\\r"\n' >"$work/run_wine" && chmod +x "$work/run_wine"
+}
+
+# Ends what wine has left running.
+ends_wine() { [ -z "${WINEPREFIX-}" ] || wineserver -k 2>/dev/null; }
+
 # Writes an ARCHIVE to OTHER, in which names that nobody else sees are seen, and weak: a program that is linked with it
-# can bring its own. The result is looked at, since objcopy may change nothing and end with 0.
+# can bring its own. The result is looked at, since objcopy may change nothing and end with 0. An archive for Windows
+# has each such name in an object of its own, which is not linked where a program brings the name.
 with_weak() {
     local archive=$1 other=$2 name
     shift 2
+    if [ "$(of_binutils nm "$archive" 2>/dev/null | grep -cxE "[0-9a-f]+ [TB] ($(IFS='|' && echo "$*"))")" = $# ]; then
+        cp "$archive" "$other" && return
+    fi
     of_binutils objcopy "${@/#/--globalize-symbol=}" "$archive" "$other.seen" &&
         of_binutils objcopy "${@/#/--weaken-symbol=}" "$other.seen" "$other" || return
     for name in "$@"; do
@@ -130,12 +163,13 @@ with_weak() {
     done
 }
 
-# Makes PROGRAM of tests/library_depths.c and an ARCHIVE, by a compiler.
+# Makes PROGRAM of tests/library_depths.c, files of `brings` and an ARCHIVE, by a compiler.
 measures_depths() {
     local archive=$1 program=$2 compiler=$3
     shift 2
     with_weak "$archive" "$work/weak.a" slh_clear &&
-        "$@" -std=c11 "${strict[@]}" -O1 -static "$here/tests/library_depths.c" "$work/weak.a" -o "$program"
+        "$@" -std=c11 "${strict[@]}" -O1 -static "$here/tests/library_depths.c" ${brings[@]+"${brings[@]}"} \
+            "$work/weak.a" -o "$program"
 }
 
 # The best level of x86-64 that this processor and system have, in glibc's judgement: 2, 3 or 4.
@@ -160,17 +194,17 @@ finds_what_is_left() {
         printf '    (void)depth, (void)vectors;\n    return result;\n}\n'
     } >"$work/clears_nothing.c"
     with_weak "$archive" "$work/weak.a" slh_clear &&
-        "$@" -std=c11 "${strict[@]}" -O2 -static -o "$work/leaves" "$here/tests/library_erase.c" \
+        "$@" -std=c11 "${strict[@]}" -O2 -static -o "$work/leaves.exe" "$here/tests/library_erase.c" \
             "$work/clears_nothing.c" "$work/weak.a" || return
-    $run "$work/leaves" 2 >"$work/left"
+    $run "$work/leaves.exe" 2 >"$work/left"
     [ $? = 1 ] && grep -qx '0 passed, [1-9][0-9]* failed' "$work/left" || { cat "$work/left" && return 1; }
 }
 
 # Where the code of a TARGET aligns its stack to 32 or 64 bytes, a call is measured from 2 or 4 places.
 shifts_of() {
     case "$1" in
-    x86-64-v3) echo 2 ;;
-    x86-64-v4) echo 4 ;;
+    *x86-64-v3) echo 2 ;;
+    *x86-64-v4) echo 4 ;;
     *) echo 1 ;;
     esac
 }
@@ -178,7 +212,7 @@ shifts_of() {
 # Writes image, image.sig and public_key.h into $work: a message of the vectors that OpenSSL signed in the pre-hash form
 # with SHA2-256, under the empty context.
 make_image() {
-    python3 - "$here/vectors/slh-dsa-sha2-128f.json" "$work" <<'END'
+    python3 - "$here/tests/vectors/slh-dsa-sha2-128f.json" "$work" <<'END'
 import json, pathlib, sys
 wanted = dict(kind="sign", form="SHA2-256", context="")
 test = next(it for it in json.loads(pathlib.Path(sys.argv[1]).read_text()) if wanted.items() <= it.items())
@@ -189,9 +223,9 @@ work, pk = pathlib.Path(sys.argv[2]), bytes.fromhex(test["sk"])[32:]
 END
 }
 
-# Compiles the example that verifies over an ARCHIVE, and runs it by RUN: an image of the vectors is valid, a damaged one
-# invalid (1), and a signature that is too long, or a file that is missing, is refused (2). With a public key that has
-# another length, as the text of a key file, it does not compile.
+# Compiles the example that verifies over an ARCHIVE, and runs it by RUN: an image of the vectors is valid, a damaged
+# one invalid (1), and a signature that is too long, or a file that is missing, is refused (2). With a public key that
+# has another length, as the text of a key file, it does not compile.
 verify_example() {
     local of=$1 archive=$2 run=$3
     shift 3
@@ -219,6 +253,15 @@ judges_images() {
         says "" 2 "$@" "$work/image" "$work/long.sig" && says "" 2 "$@" "$work/none" "$work/image.sig" &&
         says "" 2 "$@" "$work/image" "$work/none" && says "" 2 "$@" &&
         "$@" "$work/image" "$work/none" 2>&1 | grep -qF "$work/none"
+}
+
+# The Nth block of lines under a heading of a page: PAGE HEADING N.
+lines_of() {
+    awk -v heading="## $2" -v wanted="$3" '
+        /^## / { is_here = $0 == heading; block = 0 }
+        is_here && /^    / && !was_block { block++ }
+        is_here && /^    / && block == wanted { print substr($0, 5) }
+        { was_block = /^    / || (was_block && /^$/) }' "$1"
 }
 
 # Whether a command prints just a LINE and ends with a STATUS.

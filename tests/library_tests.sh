@@ -38,8 +38,8 @@ tells_why() {
     [ $? = 2 ] && [ ! -s "$work/out" ] && grep -qF -- "$text" "$work/err"
 }
 
-# Whether an example has erased the secret key where it writes its signature, in what it has freed as well: NAME, and the
-# command but for the file. It must not be built with a sanitizer, whose memory is too large to read.
+# Whether an example has erased the secret key where it writes its signature, in what it has freed as well: NAME, and
+# the command but for the file. It must not be built with a sanitizer, whose memory is too large to read.
 erases_its_key() {
     local name=$1
     shift
@@ -60,7 +60,7 @@ count_erasing() {
     one "the C++ example as well" "$cxx" -O2 -I "$prefix/include" "$here/examples/sign_file.cpp" "$lib/libslh.a" \
         -o "$work/plain_cpp"
     python3 -c 'import json, sys; sys.stdout.buffer.write(bytes.fromhex(json.load(sys.stdin)[0]["sk"]))' \
-        <"$here/vectors/slh-dsa-sha2-128f.json" >"$work/key"
+        <"$here/tests/vectors/slh-dsa-sha2-128f.json" >"$work/key"
     erases_its_key "the C example" "$work/plain_c"
     erases_its_key "the C++ example" "$work/plain_cpp"
     [ $has_rust = no ] || erases_its_key "the Rust example" "$work/of_rust"
@@ -96,7 +96,7 @@ END
 # whose PK.root is not that of its seeds it must fail and write nothing, and without a randomizer sign otherwise.
 by_threads() {
     rm -f "$work"/letter*
-    python3 - "$1" "$here/vectors/slh-dsa-sha2-128f.json" "$work" <<'END' && verifies
+    python3 - "$1" "$here/tests/vectors/slh-dsa-sha2-128f.json" "$work" <<'END' && verifies
 import json, pathlib, subprocess, sys
 program, vectors, work = sys.argv[1], json.loads(pathlib.Path(sys.argv[2]).read_text()), pathlib.Path(sys.argv[3])
 key, random, letter, made, public = (work / it for it in ("key", "random", "letter", "letter.sig", "letter.pub"))
@@ -217,7 +217,7 @@ fi
 one "libslh.a defines the calls, and asks for three of C" has_symbols nm "$lib/libslh.a" < <(library_calls; of_c)
 one "libslh.so as well" has_symbols nm "$lib/libslh.so" -D < <(library_calls; of_c)
 one "a program that verifies alone has no code that signs" drops_signing
-one "libslh_verify.a defines four calls" has_symbols nm "$lib/libslh_verify.a" < <(verify_calls; of_c)
+one "libslh_verify.a defines six calls" has_symbols nm "$lib/libslh_verify.a" < <(verify_calls; of_c)
 
 one "all are of the version of the file VERSION" is_version
 one "libslh.so.0 has its name" has_soname

@@ -20,7 +20,8 @@ Of each test the calls must do what the file states:
   the output is as it was. With a pre-hash function both the call with the message and the one with its digest. In the
   pure and the pre-hash forms also the calls for jobs, the last job first, under two cuttings; the start and each answer
   have the tag that Python's hmac gives;
-- verify: the call of the test's form is done where `valid` is true, and else invalid. With a pre-hash function both;
+- verify: the call of the test's form is done where `valid` is true, and else invalid. With a pre-hash function both. In
+  the pure form, and by the digest, the hardened call has the same verdict; through a program under the s sets alone;
 - a row of more.tsv: the key has the row's PK.root. The signature, where there is one, has the row's SHA-256. It is
   valid, and with the row's bit flipped invalid.
 
@@ -42,6 +43,8 @@ import subprocess
 import sys
 import threading
 
+# What the hardened calls return, by whether the signature is valid.
+HARDENED = {True: 0x79D617A4, False: 0x7C91D87F}
 DONE, INVALID, CONTEXT_TOO_LONG, ANSWERS_DISAGREE, BAD_START = 0, 30, 2, 25, 28
 # The number of the encoding of starts and answers.
 ENCODING = 2
@@ -107,7 +110,7 @@ words = sys.argv[1:]
 few, verify_only = ("--few" in words[:1]), ("--verify-only" in words[:1])
 is_through = words[few or verify_only] == "--through"
 here = pathlib.Path(__file__).resolve().parent.parent
-library, vectors = (words[(few or verify_only) + is_through :] + [here / "vectors"])[:2]
+library, vectors = (words[(few or verify_only) + is_through :] + [here / "tests/vectors"])[:2]
 library = Through(library) if is_through else ctypes.CDLL(str(pathlib.Path(library).resolve()))
 vectors = pathlib.Path(vectors)
 
@@ -283,7 +286,12 @@ def other_encodings_are_refused(jobs):
 def verify_passes(test):
     wanted = DONE if test["valid"] else INVALID
     signature = bytes.fromhex(test["signature"])
-    return all(call(*it) == wanted for it in calls(test, "verify", bytes.fromhex(test["pk"]), signature))
+    made = calls(test, "verify", bytes.fromhex(test["pk"]), signature)
+    well = all(call(*it) == wanted for it in made)
+    name, *arguments = made[-1]
+    if test["form"] == "internal" or (is_through and not test["set"].endswith("s")):
+        return well
+    return well and call(f"{name}_hardened", *arguments) == HARDENED[test["valid"]]
 
 
 def row_passes(test):
@@ -326,7 +334,7 @@ def chosen(tests):
 def rows():
     """The rows of more.tsv as tests, where VECTORS has that file. With --few those that are soon done."""
     file, found = vectors / "more.tsv", []
-    lines = file.read_text().splitlines() if file.is_file() or vectors == here / "vectors" else []
+    lines = file.read_text().splitlines() if file.is_file() or vectors == here / "tests/vectors" else []
     for number, line in enumerate((it for it in lines if not it.startswith("#")), 1):
         kind, name, seeds, root, *rest = line.split("\t")
         n = len(root) // 2

@@ -1,7 +1,7 @@
 #!/usr/bin/env bash
 # Runs the program `slh` with little stack and little address space. Whatever the limit, a command gives the bytes that
 # it gives without one, or the refusal `1 NoMemory`; a limit under which the system does not start the program counts
-# for nothing.
+# for nothing. It also counts the threads that `sign` asks for where the context is too long: none.
 #
 # usage: tests/limits.sh [--few] [--dist DIST | PROGRAM]
 #
@@ -13,7 +13,7 @@ here=$(cd "$(dirname "${BASH_SOURCE[0]}")/.." && pwd)
 source "$here/tests/counts.sh"
 take_options "$@"
 choose_program "${words[0]-}" "$here/crates/slh/out/slh"
-vectors=$here/vectors
+vectors=$here/tests/vectors
 work=$(mktemp -d)
 trap 'rm -rf "$work"' EXIT
 "${CC:-cc}" -O2 -shared -fPIC -o "$work/refuse_threads.so" "$here/tests/refuse_threads.c" -ldl || exit 2
@@ -75,8 +75,8 @@ tell_least_stack() {
 
 # The same of a command with 64 workers where each of their 95 threads is refused, so that the first thread does all: 64
 # that work, and 31 that do no more than start others.
-# The calls that ask for threads nest 6 deep and take some 1,200 bytes of stack each. Nested 63 deep they would take some
-# 75,000, for which 192 KB has room as well; so the bytes between the requests are looked at, too.
+# The calls that ask for threads nest 6 deep and take some 1,200 bytes of stack each. Nested 63 deep they would take
+# some 75,000, for which 192 KB has room as well; so the bytes between the requests are looked at, too.
 tell_without_threads() {
     local came threads deepest answer=no
     : >refused
@@ -87,6 +87,20 @@ tell_without_threads() {
     tell "ulimit -s 192 and $threads threads refused, $deepest bytes apart at most: $*: $came" $answer
 }
 
+# A context of 256 bytes is refused before any thread is asked for. One of 255 bytes is signed by threads.
+tell_without_context() {
+    local bytes context answer=no
+    for bytes in 255 256; do
+        : >refused
+        context=$(printf '00%.0s' $(seq $bytes))
+        REFUSED=refused LD_PRELOAD=$work/refuse_threads.so "$program" "$@" --context "$context" >signed 2>errors
+        threads[bytes]=$(wc -l <refused)
+    done
+    [ "${threads[255]}" -gt 0 ] && [ "${threads[256]}" = 0 ] && [ ! -s signed ] &&
+        [ "$(cat errors)" = "slh: 2 ContextTooLong" ] && answer=yes
+    tell "a context that is too long starts ${threads[256]} threads, and one that is not ${threads[255]}: $*" $answer
+}
+
 set=SLH-DSA-SHA2-128f
 python3 -c 'print(bytes(range(48)).hex())' >seeds
 printf 'a message\n' >message
@@ -95,6 +109,10 @@ printf 'a message\n' >message
 "$program" sign --key key --message message >signature
 # Objects of objects, as deep as they may nest.
 python3 -c 'print("[" + "{\"a\":" * 126 + "1" + "}" * 126 + "]")' >deep.json
+
+threads=()
+tell_without_context sign --key key --message message --workers 2
+tell_without_context sign --key key --message message --workers 2 --prehash SHA2-256
 
 # Each command, with 64 workers where it takes workers, under the least limit of the stack; and those with 64 workers
 # again where no thread can be had. Other limits are gone over below, by `sign` and by two vector files.

@@ -1,10 +1,10 @@
 #!/usr/bin/env bash
 # Holds the program `slh` against the command `openssl` of version 3.5 or later, over keys that go from one to the other
-# by the lines of docs/OPENSSL.md, "Keys to and from OpenSSL". For each of the six sets: a key that OpenSSL made is
+# by the table of examples/README.md, "Keys as PEM files". For each of the six sets: a key that OpenSSL made is
 # consistent and has the public key that OpenSSL says, and comes back as the same PEM; a key that `slh` made is one to
 # OpenSSL, with the public key that `slh` says; in both directions a deterministic signature is the same bytes by both,
-# a randomized one is valid, and a signature of another message is not. It also runs the commands of docs/QUESTIONS.md
-# for CI and for PEM files, as they stand, in a folder that has a secret key already.
+# a randomized one is valid, and a signature of another message is not. It also runs the commands of
+# examples/README.md for CI and for PEM files, as they are there, in a folder that has a secret key already.
 #
 # usage: tests/openssl_keys.sh [--few] [--dist DIST | PROGRAM]
 #
@@ -23,10 +23,10 @@ cd "$work" || exit 2
 source "$here/tests/library_parts.sh"
 openssl=${OPENSSL:-$(PATH=$PATH:/usr/local/bin command -v openssl-3.5 || echo openssl)}
 
-# What stands in DER before the 4n bytes of a private key and before the 2n bytes of a public key, from the table of
-# docs/OPENSSL.md.
+# The DER before the 4n bytes of a private key and before the 2n bytes of a public key, from the table of
+# examples/README.md.
 prefixes() {
-    sed -n '/^## Keys to and from OpenSSL/,/^## /p' "$here/docs/OPENSSL.md" |
+    sed -n '/^## Keys as PEM files/,/^## /p' "$here/examples/README.md" |
         awk -F'[|` ]+' -v set="$1" '$2 == set { print $3, $4 }'
 }
 
@@ -77,22 +77,14 @@ signatures_agree() {
         says invalid 1 "$program" verify --key public.key --message other --signature theirs
 }
 
-# The Nth block of commands that stands under a heading of docs/QUESTIONS.md.
-commands_of() {
-    awk -v heading="## $1" -v wanted="$2" '
-        /^## / { is_here = $0 == heading; block = 0 }
-        is_here && /^    / && !was_block { block++ }
-        is_here && /^    / && block == wanted { print substr($0, 5) }
-        { was_block = /^    / }' "$here/docs/QUESTIONS.md"
-}
-
-# Runs such a block in the folder `questions`, where `slh` is on the path. What it prints is its own.
+# Runs the Nth block of commands under a heading of examples/README.md in the folder `questions`, with `slh` on the
+# path.
 run_commands() {
-    (cd questions && PATH=$PWD/bin:$PATH bash -c "$(commands_of "$@")")
+    (cd questions && PATH=$PWD/bin:$PATH bash -c "$(lines_of "$here/examples/README.md" "$@")")
 }
 
-ci=$(grep -m 1 '^## .* CI?$' "$here/docs/QUESTIONS.md" | cut -c 4-)
-pem=$(grep -m 1 '^## .* OpenSSL?$' "$here/docs/QUESTIONS.md" | cut -c 4-)
+ci="Sign a release in CI"
+pem="Keys as PEM files"
 
 signs_in_ci() {
     mkdir -p questions/bin && ln -sf "$program" questions/bin/slh && echo release >questions/release.tar.gz &&
@@ -112,9 +104,16 @@ other_secrets_are_not_published() {
         ! SLH_SECRET_KEY= run_commands "$ci" 2 && is_kept
 }
 
+# The lines for OpenSSL take the last bytes of a key, and make the same PEM of them.
+goes_by_last_bytes() {
+    ln -sf "$(command -v "$openssl")" questions/bin/openssl &&
+        "$openssl" genpkey -algorithm SLH-DSA-SHA2-128f -out questions/key.pem && run_commands "$pem" 1 &&
+        [ "$(stat -c %s questions/secret)" = 64 ] && cmp questions/key.pem questions/copy.pem
+}
+
 goes_to_pem_and_back() {
-    run_commands "$pem" 1 && says "Key is valid" 0 "$openssl" pkey -in questions/secret.pem -noout -check &&
-        says consistent 0 run_commands "$pem" 2 && cmp kept.key questions/from_pem.key && is_kept
+    run_commands "$pem" 2 && says "Key is valid" 0 "$openssl" pkey -in questions/secret.pem -noout -check &&
+        says consistent 0 run_commands "$pem" 3 && cmp kept.key questions/from_pem.key && is_kept
 }
 
 other_prefixes_are_seen_by_openssl() {
@@ -123,8 +122,8 @@ other_prefixes_are_seen_by_openssl() {
 }
 
 bad_pem_changes_no_key() {
-    sed -i 's/$/\r/' questions/secret.pem && ! run_commands "$pem" 2 && is_kept && rm questions/secret.pem &&
-        ! run_commands "$pem" 2 && is_kept
+    sed -i 's/$/\r/' questions/secret.pem && ! run_commands "$pem" 3 && is_kept && rm questions/secret.pem &&
+        ! run_commands "$pem" 3 && is_kept
 }
 
 if ! "$openssl" list -signature-algorithms 2>/dev/null | grep -q SLH-DSA-SHA2-128f; then
@@ -148,9 +147,10 @@ done <<END_OF_SETS
 256s 32
 256f 32
 END_OF_SETS
-one "QUESTIONS signs a release in CI" signs_in_ci
-one "QUESTIONS publishes nothing under another secret, or none" other_secrets_are_not_published
-one "QUESTIONS takes a key to PEM and back" goes_to_pem_and_back
-one "QUESTIONS tells how another prefix is seen" other_prefixes_are_seen_by_openssl
-one "QUESTIONS changes no key by a bad PEM file" bad_pem_changes_no_key
+one "the page of examples signs a release in CI" signs_in_ci
+one "the page of examples publishes nothing under another secret, or none" other_secrets_are_not_published
+one "the page of examples takes a key from OpenSSL and back" goes_by_last_bytes
+one "the page of examples takes a key to PEM and back" goes_to_pem_and_back
+one "the page of examples names the command that sees another prefix" other_prefixes_are_seen_by_openssl
+one "the page of examples changes no key by a bad PEM file" bad_pem_changes_no_key
 end_counts

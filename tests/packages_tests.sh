@@ -5,11 +5,11 @@
 #
 # usage: tests/packages_tests.sh [--few] [--dist DIST | --prefix PREFIX --wasm PREFIX2]
 #
-# PREFIX is a folder that tools/library.sh has installed into, PREFIX2 one that it has installed wasm64 into. Without
+# PREFIX is a folder that tools/library.sh has installed into, PREFIX2 one that it has installed wasm32 into. Without
 # them both are built first, over what `rt ci`, or `rt check` in crates/slh_c, has built, or taken from the release with
 # --dist. With --few the packages for Python and JavaScript alone are tested. tools/setup.sh installs what it needs, but
-# for Rust and CMake: where a tool is missing, it says which, and what that tool is for is skipped. The last line has
-# the counts, and the status is 0 where nothing failed.
+# for Rust, CMake and Java: where a tool is missing, it says which, and what that tool is for is skipped. The last line
+# has the counts, and the status is 0 where nothing failed.
 set -u
 here=$(cd "$(dirname "${BASH_SOURCE[0]}")/.." && pwd)
 work=$(mktemp -d)
@@ -18,25 +18,26 @@ source "$here/tests/counts.sh"
 source "$here/tests/library_parts.sh"
 take_options "$@"
 set -- ${words[@]+"${words[@]}"}
-prefix=$work/prefix wasm=$work/wasm64 from=(--after-ci)
+prefix=$work/prefix wasm=$work/wasm32 from=(--after-ci)
 if [ -n "$release" ]; then from=(--dist "$release"); fi
 if [ $# = 4 ] && [ "$1" = --prefix ] && [ "$3" = --wasm ]; then
     prefix=$(realpath "$2") wasm=$(realpath "$4")
 elif [ $# = 0 ]; then
     one "the library is installed" "$here/tools/library.sh" "${from[@]}" "$prefix"
-    one "the module is installed" "$here/tools/library.sh" "${from[@]}" --target wasm64 "$wasm"
+    one "the module is installed" "$here/tools/library.sh" "${from[@]}" --target wasm32 "$wasm"
 else
     echo "usage: tests/packages_tests.sh [--few] [--dist DIST | --prefix PREFIX --wasm PREFIX2]" >&2
     exit 2
 fi
+openssl=${OPENSSL:-$(PATH=$PATH:/usr/local/bin command -v openssl-3.5 || echo openssl)}
 [ -f "$prefix/lib/libslh.a" ] && [ -f "$wasm/lib/slh.wasm" ] || nothing_to_test "there is no library"
 export PYTHONDONTWRITEBYTECODE=1 PYTHONNOUSERSITE=1
 
 with_cmake() {
     local built=$work/cmake name
     make_image
-    one "cmake: docs/PACKAGES.md asks for this version" \
-        grep -q "find_package(slh $(cut -d. -f1,2 "$here/VERSION") REQUIRED)" "$here/docs/PACKAGES.md"
+    one "cmake: bindings/README.md asks for this version" \
+        grep -q "find_package(slh $(cut -d. -f1,2 "$here/VERSION") REQUIRED)" "$here/bindings/README.md"
     one "cmake: programs find the library" cmake -S "$here/bindings/cmake/tests" -B "$built" \
         -DCMAKE_PREFIX_PATH="$prefix" -DKEY="$work"
     one "cmake: programs are built" cmake --build "$built"
@@ -125,9 +126,61 @@ with_python() {
     one "python: the wheel is installed" "$venv/bin/pip" install --no-index "$work/wheels/$name"
     one "python: the installed package passes its tests, and its README runs" "$venv/bin/python" -m unittest discover \
         -s "$here/bindings/python/tests"
+    count "python: the commands of python -m slh" "$here/tests/commands.py" --few --python \
+        "$("$venv/bin/python" -c 'import pathlib, slh; print(pathlib.Path(slh.__file__).parent.parent)')"
     erases python "$venv/bin/python" "$here/bindings/tests/erased.py"
     runs_best python "$venv/bin/python" -c 'import slh; print(slh._library.slh_level())'
 }
+
+# The example in C that converts keys, with OpenSSL 3.5.
+with_keys_in_c() {
+    local program=$work/convert_key set
+    one "C: the example that converts keys is built" cc -std=c99 -O1 -Wall -Wextra -Werror -pedantic \
+        -fsanitize=address,undefined -fno-sanitize-recover "$here/examples/convert_key.c" -I "$prefix/include" \
+        "$prefix/lib/libslh.a" -o "$program"
+    if ! "$openssl" list -signature-algorithms 2>/dev/null | grep -q SLH-DSA-SHA2-128f; then
+        skip "C: keys to and from OpenSSL" "there is no OpenSSL 3.5"
+        return
+    fi
+    for set in 128s 128f 192s 192f 256s 256f; do
+        one "C: keys of $set to and from OpenSSL" converts_keys "SLH-DSA-SHA2-$set"
+    done
+    one "C: what is not of the one form is refused" refuses_keys
+}
+
+# Makes keys of a SET by OpenSSL, has them converted from PEM and DER, and back.
+converts_keys() (
+    mkdir -p "$work/keys_in_c" && cd "$work/keys_in_c" && "$openssl" genpkey -algorithm "$1" -out secret.pem &&
+        "$openssl" pkey -in secret.pem -outform DER -out secret.der &&
+        "$openssl" pkey -in secret.pem -pubout -out public.pem &&
+        "$openssl" pkey -in secret.pem -pubout -outform DER -out public.der &&
+        converts_kind secret && converts_kind public && [[ $(sed -n 3p secret.key) == *"$(sed -n 3p public.key)" ]]
+)
+
+converts_kind() {
+    "$work/convert_key" "$1.pem" >"$1.key" && "$work/convert_key" "$1.der" | cmp - "$1.key" &&
+        "$work/convert_key" --pem "$1.key" | cmp - "$1.pem" && grep -q "^slh-dsa-$1 2$" "$1.key"
+}
+
+# Each byte of a prefix changed, each character of PEM changed to one that is no digit, files that are longer, shorter
+# or encrypted: the status is 2, and the message has the command that converts.
+refuses_keys() (
+    cd "$work/keys_in_c" && "$openssl" pkey -in secret.pem -aes256 -passout pass:word -out encrypted.pem &&
+        python3 - "$work/convert_key" <<'END'
+import pathlib, subprocess, sys
+der, pem, encrypted = (pathlib.Path(it).read_bytes() for it in ("public.der", "secret.pem", "encrypted.pem"))
+others = [encrypted, b"", der[:-1], der + b"\0", pem[:-2], pem + b"\n", pem[1:], 600 * b"a"]
+others.append(pem.replace(b"\n", b"\r\n"))
+others += [der[:at] + bytes([der[at] ^ 0x80]) + der[at + 1 :] for at in range(len(der) - 64)]
+others += [pem[:at] + b"-" + pem[at + 1 :] for at in range(0, len(pem), 3) if pem[at : at + 1] != b"-"]
+for it in others:
+    pathlib.Path("other").write_bytes(it)
+    run = subprocess.run([sys.argv[1], "other"], capture_output=True, text=True)
+    if run.returncode != 2 or run.stdout or "openssl pkey" not in run.stderr:
+        sys.exit(f"{it[:40]}: {run}")
+print(len(others), "refused")
+END
+)
 
 # Whether RECORD of a wheel lists each of its files, with its SHA-256 and length.
 lists_all() {
@@ -242,7 +295,7 @@ in_go() {
 }
 
 with_javascript() {
-    local node=(node --experimental-wasm-memory64) package=$here/bindings/javascript
+    local node=(node) package=$here/bindings/javascript
     one "javascript: the package passes its tests, and the calls of its README run" \
         env SLH_WASM="$wasm/lib/slh.wasm" "${node[@]}" --test "$package/tests"
     mkdir -p "$work/node_modules/slh"
@@ -258,6 +311,7 @@ END
     one "javascript: the package finds its module" says valid 0 "${node[@]}" --no-warnings "$work/lines.mjs"
     one "javascript: the types name what is exported" types_name_all slh slh.d.ts
     one "javascript: the types of key files do" types_name_all slh/files files.d.ts
+    one "javascript: the types of keys for other programs do" types_name_all slh/pkix pkix.d.ts
     cp "$here/bindings/tests/erased.mjs" "$work/"
     erases javascript "${node[@]}" --no-warnings "$work/erased.mjs"
 }
@@ -271,10 +325,12 @@ types_name_all() {
 }
 
 if can_run python python3 && can_build_wheels python; then with_python; fi
-if can_run javascript node && has_memory64 javascript "$wasm/lib/slh.wasm"; then with_javascript; fi
+if can_run javascript node; then with_javascript; fi
 if [ $few = no ]; then
     if can_run cmake cmake cc python3 readelf; then with_cmake; fi
     if can_run rust cargo cc pkg-config; then with_rust; fi
     if can_run go go gofmt gcc; then with_go; fi
+    if can_run "C: keys" cc python3; then with_keys_in_c; fi
+    count "java" "$here/tests/java_tests.sh" "$prefix"
 fi
 end_counts

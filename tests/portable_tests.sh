@@ -1,10 +1,11 @@
 #!/usr/bin/env bash
 # Tests the library for C as portable C, slh.c and slh_verify.c, on machines of many kinds, as tools/library.sh installs
-# it: vectors/ through the calls by GCC and clang on x86-64; on 32-bit ARM, on 64-bit RISC-V and on s390x, whose numbers
-# have their highest byte first, under qemu; on Windows under wine, as an object and as a DLL; under the sanitizers of
-# GCC, with each load and store looked at. What else there is to see: that it compiles without a warning, which symbols
-# it asks for, that memory is erased, what is answered where it is refused, and that a trap says why. And on an emulated
-# Cortex-M4 without a system the verify tests, and a program (examples/board.c) with its size, stack and memory.
+# it: tests/vectors/ through the calls by GCC and clang on x86-64; on 32-bit ARM, on 64-bit RISC-V and on s390x, whose
+# numbers have their highest byte first, under qemu; on Windows under wine, as an object and as a DLL; under the
+# sanitizers of GCC, with each load and store looked at. What else there is to see: that it compiles without a warning,
+# which symbols it asks for, that memory is erased, what is answered where it is refused, and that a trap says why. And
+# on an emulated Cortex-M4 without a system the verify tests, and a program (examples/board.c) with its size, stack and
+# memory.
 #
 # usage: tests/portable_tests.sh [--few] [--dist DIST] [--all]
 #
@@ -24,7 +25,7 @@ work=$(mktemp -d)
 trap 'rm -rf "$work"' EXIT
 prefix=$work/prefix src=$work/prefix/src
 wanted=(-std=c11 "${strict[@]}" -I "$prefix/include")
-# What slh_verify.c takes for each test of vectors/.
+# What slh_verify.c takes for each test of tests/vectors/.
 enough="-DSLH_VERIFY_MEMORY=SLH_VERIFY_MEMORY_FOR(SLH_DSA_SHA2_256F_SIGNATURE, 1 << 20)"
 export WINEPREFIX=$work/wine WINEDEBUG=-all WINEDLLOVERRIDES=mscoree,mshtml= XDG_RUNTIME_DIR=$work
 export PYTHONDONTWRITEBYTECODE=1
@@ -68,7 +69,7 @@ sanitizers() {
     local cc=(gcc -O1 -g0 -fsanitize=address,undefined -fno-sanitize-recover=all -DSLH_CHECK_MEMORY)
     can_run sanitizers gcc && object sanitizers "${cc[@]}" -Dmalloc=tried_malloc -Dfree=tried_free -DSLH_TRAP=trapped &&
         vectors_on sanitizers "" "${cc[@]}" "$work/sanitizers.o" "$here/tests/portable_memory.c" || return
-    one "where memory is refused, each call returns 37 and writes nothing" refuses_memory "$work/sanitizers.exe"
+    one "where memory is refused, each call says so and writes nothing" refuses_memory "$work/sanitizers.exe"
 }
 
 # One line for each call, with arguments that else it would take.
@@ -79,6 +80,7 @@ all_calls() {
         "check n2 $sk" "sign n2 $sk b00 b b $sig" "verify n2 $pk b00 b $sig" "hash_sign n2 n2 $sk b00 b b $sig" \
         "hash_verify n2 n2 $pk b00 b $sig" "hash_sign_digest n2 n2 $sk $pk b b $sig" \
         "hash_verify_digest n2 n2 $pk $pk b $sig" "sign_twice n2 $sk b00 b b $sig $sig" \
+        "verify_hardened n2 $pk b00 b $sig" "hash_verify_digest_hardened n2 n2 $pk $pk b $sig" \
         "hash_sign_twice n2 n2 $sk b00 b b $sig $sig" "hash_sign_digest_twice n2 n2 $sk $pk b b $sig $sig" \
         "sign_internal n2 $sk b00 b $sig" "verify_internal n2 $pk b00 $sig" \
         "sign_jobs n2 n1 n1 p00 p01 p02" "answer_place n2 n1 n1 n0 p00 p01" "sign_start n2 $sk b00 b b $out" \
@@ -88,10 +90,11 @@ all_calls() {
         "refusal_name n2 $name"
 }
 
-# Whether a program that is refused all memory answers so each call of `calls`, but for slh_version.
+# Whether a program that is refused all memory answers so each call of `calls`, but for slh_version. The hardened calls
+# answer SLH_HARDENED_INVALID.
 refuses_memory() {
     all_calls >"$work/calls" && [ "$(wc -l <"$work/calls")" = $(($(calls | wc -l) - 1)) ] || return
-    sed -E 's/^[^ ]*/37/; s/ n[0-9]+//g; s/ p/ b/g' <"$work/calls" >"$work/answers"
+    sed -E 's/^slh_[a-z_]*_hardened/2089932927/; s/^slh_[^ ]*/37/; s/ n[0-9]+//g; s/ p/ b/g' <"$work/calls" >"$work/answers"
     SLH_REFUSE=1 "$1" <"$work/calls" | diff - "$work/answers"
 }
 
@@ -102,13 +105,14 @@ here_too() {
     one "slh.c defines the calls, and asks for six of C" has_symbols nm "$work/x86-64.o" \
         < <(library_calls; printf 'U %s\n' abort free malloc; of_c)
     one "slh_verify.c compiles" gcc "${wanted[@]}" -O2 -c "$src/slh_verify.c" -o "$work/slh_verify.o"
-    one "slh_verify.c defines four calls, and asks for three of C" has_symbols nm "$work/slh_verify.o" \
+    one "slh_verify.c defines six calls, and asks for three of C" has_symbols nm "$work/slh_verify.o" \
         < <(verify_calls; of_c)
     verify_example "portable C" "$work/slh_verify.o" env gcc -I "$prefix/include"
     one "the test program compiles" gcc -std=c99 "${strict[@]}" -I "$prefix/include" -DSLH_PORTABLE -o "$work/tests" \
         "$here/tests/library_tests.c" "$work/x86-64.o" -pthread
     count "valid and invalid calls" "$work/tests"
     one "a message that does not fit is answered by 37" too_long_is_refused
+    one "a call that comes in while another is under way is answered by 37" busy_is_refused
     verify_vectors
 }
 
@@ -117,6 +121,9 @@ verify_vectors() {
     local vectors=("$here/tests/library_vectors.py" --verify-only)
     one "slh_verify.c is linked" links_verify "$work/slh_verify.so"
     count "vectors through slh_verify.c" "${vectors[@]}" "$work/slh_verify.so"
+    one "slh_verify.c is linked with its memory looked at" links_verify "$work/slh_verify_checked.so" -DSLH_CHECK_MEMORY \
+        -DSLH_TRAP=trapped "$here/tests/portable_memory.c"
+    count "vectors through slh_verify.c with its memory looked at" "${vectors[@]}" "$work/slh_verify_checked.so"
     one "slh_verify.c is linked without SHA-512" links_verify "$work/slh_verify_128.so" -DSLH_VERIFY_128
     short_vectors
     count "vectors through slh_verify.c without SHA-512" "${vectors[@]}" "$work/slh_verify_128.so" "$work/short"
@@ -127,9 +134,9 @@ links_verify() {
     gcc -O1 -shared -fPIC "${wanted[@]}" "$enough" "${@:2}" "$src/slh_verify.c" -o "$1"
 }
 
-# Writes to $work/short the tests of vectors/ under 128s and 128f, but for those of a function made of SHA-512.
+# Writes to $work/short the tests of tests/vectors/ under 128s and 128f, but for those of a function made of SHA-512.
 short_vectors() {
-    mkdir -p "$work/short" && python3 - "$here/vectors" "$work/short" <<'END'
+    mkdir -p "$work/short" && python3 - "$here/tests/vectors" "$work/short" <<'END'
 import json, pathlib, sys
 folder, short = map(pathlib.Path, sys.argv[1:])
 for name in ("slh-dsa-sha2-128s.json", "slh-dsa-sha2-128f.json"):
@@ -175,6 +182,16 @@ int main(void) {
     return !well;
 }
 FILE
+}
+
+# Whether slh_verify.c refuses a call that comes in from within another one, or in another thread.
+busy_is_refused() {
+    local cc=(gcc -O1 "${wanted[@]}" -I "$work")
+    make_image && python3 -c "import hashlib, sys
+sys.stdout.buffer.write(hashlib.sha256(open(sys.argv[1], 'rb').read()).digest())" "$work/image" >"$work/image.digest" &&
+        "${cc[@]}" -Dmemcpy=coming_in -fno-builtin -DSLH_TRAP=trapped -c "$src/slh_verify.c" -o "$work/busy.o" &&
+        "${cc[@]}" "$here/tests/portable_busy.c" "$work/busy.o" -pthread -o "$work/busy" &&
+        timeout 60 "$work/busy" "$work/image.sig" "$work/image.digest"
 }
 
 # Whether CMake's target slh::portable makes a program that signs.

@@ -1,7 +1,7 @@
 /*
  * What CPUID and XGETBV tell on some processors, for tests that stand in for the library's own question
- * (exports/processor.c): each with the best level that it can run, and its vectors (0 SSE, 1 AVX, 2 AVX-512). The bits
- * are those of Intel's Nehalem, Haswell and Skylake for servers, under Linux.
+ * (c/exports/processor.c): each with the best level that it can run, and its vectors (0 SSE, 1 AVX, 2 AVX-512). The
+ * bits are those of Intel's Nehalem, Haswell and Skylake for servers, under Linux.
  */
 #ifndef PROCESSORS_H
 #define PROCESSORS_H

@@ -2,8 +2,10 @@
 # Tests the provider `slh` for OpenSSL (bindings/openssl, docs/OPENSSL.md) beside OpenSSL's default provider. For each
 # of the six sets one of them makes keys, requests, certificates, revocations, CMS and PKCS #12 by the program `openssl`
 # and the other judges them. The vectors of other implementations and all refusals go through EVP. Each parameter is
-# handed junk, beside the default provider (tests/provider_junk.c). Damaged files are tried, the lines of
-# docs/OPENSSL.md as they stand, 1,000 loads under valgrind, and what the module exports.
+# handed junk, beside the default provider (tests/provider_junk.c), and messages come in pieces
+# (tests/provider_pieces.c). TLS 1.3 is spoken by `openssl s_server` and `s_client`. Installations are broken in seven
+# ways. Damaged files are tried, the lines of docs/OPENSSL.md as they stand, 1,000 loads under valgrind, and what the
+# module exports. Other programs are tried by tests/openssl_programs.sh.
 #
 # usage: tests/provider_tests.sh [--few] [--dist DIST | PREFIX]
 #
@@ -62,14 +64,17 @@ compiles_without_warnings() {
     done
 }
 
-# What the module has for others: OSSL_provider_init alone.
-exports_one() {
-    [ "$(nm -D --defined-only "$modules/slh.so" | awk '{ print $2, $3 }')" = "T OSSL_provider_init" ]
+# What the module has for others: what OpenSSL calls for a provider, and for a section of a configuration.
+exports_two() {
+    [ "$(nm -D --defined-only "$modules/slh.so" | awk '{ print $3 }' | sort | xargs)" = \
+        "OPENSSL_init OSSL_provider_init" ]
 }
 
-# The provider has at most 750 lines of C.
+# The provider has less than 750 lines of C, with comments and blank lines, and the page says how many.
 is_small() {
-    [ "$(cat "$here"/bindings/openssl/*.[ch] | wc -l)" -le 750 ]
+    local lines
+    lines=$(cat "$here"/bindings/openssl/*.[ch] | wc -l)
+    [ "$lines" -lt 750 ] && grep -q "have $lines lines of C" "$here/docs/OPENSSL.md"
 }
 
 # Nothing can be written but contexts: what a compiler adds to each module has 8 bytes in .data, and in .bss.
@@ -80,10 +85,12 @@ has_no_state() {
 builds_programs() {
     cc -std=gnu11 -Wall -Wextra -Werror -O2 -shared -fPIC -pthread -I "$prefix/include" "$here/tests/provider_calls.c" \
         -o "$work/calls.so" && cc -std=c11 "${strict[@]}" -O2 -pthread "${headers[@]}" "$here/tests/provider_tests.c" \
-        "$work/calls.so" "${with_openssl[@]}" -o "$work/tests"
+        "$work/calls.so" "${with_openssl[@]}" -o "$work/tests" &&
+        cc -std=c11 "${strict[@]}" -O2 "${headers[@]}" "$here/tests/provider_pieces.c" "${with_openssl[@]}" \
+            -o "$work/pieces"
 }
 
-# The provider and two programs under sanitizers, which see these, and not libslh.
+# The provider and three programs under sanitizers, which see these, and not libslh.
 builds_under_sanitizers() {
     local flags="-g -fsanitize=address,undefined -fno-sanitize-recover=undefined"
     mkdir -p "$sane" && cp -a "$prefix"/{include,lib} "$sane/" &&
@@ -91,7 +98,9 @@ builds_under_sanitizers() {
         cc $flags -std=c11 -O1 -pthread "${headers[@]}" "$here/tests/provider_tests.c" "$work/calls.so" \
             "${with_openssl[@]}" -o "$work/sane_tests" &&
         cc $flags -std=c11 "${strict[@]}" -O1 "${headers[@]}" "$here/tests/provider_junk.c" "${with_openssl[@]}" \
-            -o "$work/sane_junk"
+            -o "$work/sane_junk" &&
+        cc $flags -std=c11 "${strict[@]}" -O1 "${headers[@]}" "$here/tests/provider_pieces.c" "${with_openssl[@]}" \
+            -o "$work/sane_pieces"
 }
 
 count_under_sanitizers() {
@@ -100,11 +109,13 @@ count_under_sanitizers() {
     one "through EVP, under sanitizers" "${run[@]}" "$work/sane_tests" calls "$sane/lib/ossl-modules"
     count "junk beside the default provider" env ASAN_OPTIONS=symbolize=0 "${run[@]}" "$work/sane_junk" \
         "$sane/lib/ossl-modules"
+    count "messages in pieces, under sanitizers" env ASAN_OPTIONS=symbolize=0 "${run[@]}" "$work/sane_pieces" \
+        "$sane/lib/ossl-modules" 1000
 }
 
 # The vectors as lines for the program. Pre-hash forms go as the internal form: M' is made here (FIPS 205, 10.2.2).
 vector_lines() {
-    python3 - "$here"/vectors/s*.json <<'END'
+    python3 - "$here"/tests/vectors/s*.json <<'END'
 import hashlib, json, sys
 OIDS = {"224": 4, "256": 1, "384": 2, "512": 3, "512/224": 5, "512/256": 6}
 def encoded(it):
@@ -280,14 +291,8 @@ signs_known() {
         cmp "$fast/letter.sig" "$work/known.sig" && [ "$(counted signatures)" = "$count" ]
 }
 
-# The Nth block of lines that stands under a heading of docs/OPENSSL.md, for this prefix.
-block_of() {
-    awk -v heading="## $1" -v wanted="$2" '
-        /^## / { is_here = $0 == heading; block = 0 }
-        is_here && /^    / && !was_block { block++ }
-        is_here && /^    / && block == wanted { print substr($0, 5) }
-        { was_block = /^    / || (was_block && /^$/) }' "$here/docs/OPENSSL.md" | sed "s|/home/me/slh|$prefix|g"
-}
+# The Nth block of lines under a heading of docs/OPENSSL.md, for this prefix.
+block_of() { lines_of "$here/docs/OPENSSL.md" "$@" | sed "s|/home/me/slh|$prefix|g"; }
 
 # Runs lines of bash in the folder `page`, where `openssl` is the command, under the configuration of the page.
 run_lines() {
@@ -300,45 +305,71 @@ is_chosen_by_query() {
     signs_known 1 "$openssl"
 }
 
-is_chosen_by_configuration() {
-    local added=()
-    block_of "Three ways to choose it" 2 >"$work/slh.cnf" && signs_known 1 env OPENSSL_CONF="$work/slh.cnf" "$openssl"
+# The configuration of the installation, with lines of it replaced: FILE SED..
+write_slh_cnf() {
+    local file=$1
+    shift
+    sed "${@/#/-e}" "$prefix/etc/slh.cnf" >"$file"
 }
 
-# Named first, it needs no query. Named behind the default provider, and without one, it is never called.
+is_chosen_by_configuration() {
+    local added=()
+    signs_known 1 env OPENSSL_CONF="$prefix/etc/slh.cnf" "$openssl"
+}
+
+# A configuration that puts it behind the default provider needs a query, as the command line does.
 is_chosen_by_order() {
     local added=()
-    block_of "Three ways to choose it" 2 | sed '/alg_section/d; /^\[algorithms/d; /^default_properties/d; /^default = /d
-        s/^slh = .*/&\ndefault = default_section/' >"$work/order.cnf" &&
-        signs_known 1 env OPENSSL_CONF="$work/order.cnf" "$openssl" || return
+    printf '%s\n' "openssl_conf = main" "[main]" "providers = all" "alg_section = query" "[all]" "default = default" \
+        "slh = slh" "[default]" "activate = 1" "[slh]" "activate = 1" "module = $modules/slh.so" "[query]" \
+        "default_properties = ?provider=slh" | sed 's/\[default\]/[the_default]/; s/= default$/= the_default/' \
+        >"$work/query.cnf" && signs_known 1 env OPENSSL_CONF="$work/query.cnf" "$openssl" || return
+    sed '/^alg_section/d' "$work/query.cnf" >"$work/order.cnf" &&
+        signs_known 0 env OPENSSL_CONF="$work/order.cnf" "$openssl" || return
     added=(-provider-path "$modules" -provider slh -provider default)
     signs_known 1 "$openssl" || return
     added=(-provider-path "$modules" -provider default -provider slh)
     signs_known 0 "$openssl"
 }
 
+# A program that asks OpenSSL for any other provider has them sorted by name, so that the default one is first. The last
+# section of slh.cnf has slh sign for it, too.
+is_chosen_beside_others() {
+    local added=(-provider base)
+    signs_known 1 env OPENSSL_CONF="$prefix/etc/slh.cnf" "$openssl" || return
+    write_slh_cnf "$work/sorted.cnf" '/^alg_section/d' &&
+        signs_known 0 env OPENSSL_CONF="$work/sorted.cnf" "$openssl" || return
+    added=(-provider base -propquery 'provider!=fips')
+    signs_known 1 env OPENSSL_CONF="$prefix/etc/slh.cnf" "$openssl"
+}
+
 # The page's first block is a command.
 is_chosen_as_the_page_says() {
-    run_lines "$(block_of "Three ways to choose it" 1)" && theirs pkey -in "$work/page/key.pem" -noout -check
+    run_lines "$(block_of "Choose it" 1)" && theirs pkey -in "$work/page/key.pem" -noout -check
 }
 
-# The section of the configuration sets workers and twice: by `twice` each job is done two times.
+# The section of the configuration sets workers and twice: by `twice` each job is done two times. The words that the
+# configuration requires follow.
 configuration_counts() {
     local added=() line
-    for line in "workers = 4" "twice = 1" "workers = 64"; do
-        sed "s/^workers = .*/$line/" "$work/slh.cnf" >"$work/set.cnf"
-        signs_known 1 env OPENSSL_CONF="$work/set.cnf" "$openssl" && [ "$(counted jobs)" -ge 50 ] || return
+    for line in "workers=4 twice=0" "workers=1 twice=1" "workers=64 twice=0"; do
+        write_slh_cnf "$work/set.cnf" "s/^workers = .*/${line% *}/" "s/^twice = .*/${line#* }/" \
+            "s/^settings = .*/settings = $line/" &&
+            signs_known 1 env OPENSSL_CONF="$work/set.cnf" "$openssl" && [ "$(counted jobs)" -ge 50 ] &&
+            OPENSSL_CONF=$work/set.cnf "$openssl" list -providers -verbose | grep "build info: $line tls=none" || return
     done
-    sed "s/^workers = .*/workers = 1/" "$work/slh.cnf" >"$work/set.cnf"
-    signs_known 1 env OPENSSL_CONF="$work/set.cnf" "$openssl" && [ "$(counted jobs)" = 0 ]
+    signs_known 1 env OPENSSL_CONF="$prefix/etc/slh.cnf" "$openssl" && [ "$(counted jobs)" = 0 ]
 }
 
-# With a number of another kind nothing is signed, by the default provider neither; verifying goes on.
+# With a value of another kind nothing is signed, by the default provider neither; verifying goes on. This is so where
+# no settings are required.
 configuration_is_checked() {
     local added=() line
     for line in "workers = 0" "workers = 65" "workers = -1" "workers = 4x" "workers = four" "workers = +1" \
-        "workers = 99999999999999999999" "twice = 2" "twice = yes"; do
-        sed "s/^workers = .*/$line/" "$work/slh.cnf" >"$work/set.cnf"
+        "workers = 99999999999999999999" "twice = 2" "twice = yes" "tls = yes" "tls = 1" "tls = drafts" \
+        "max_message = 1099511627777" "max_message = 64M" "max_message = -1"; do
+        write_slh_cnf "$work/set.cnf" "/^slh_required = /d" "/^${line%% *} = /d" \
+            "/^module = /s/.*/&\\n$line/"
         rm -f "$work/known.sig"
         ! signs_known 1 env OPENSSL_CONF="$work/set.cnf" "$openssl" 2>"$work/err" && [ ! -s "$work/known.sig" ] &&
             [ "$(counted signatures)" = 0 ] && grep -q "slh: in the configuration workers is" "$work/err" &&
@@ -347,16 +378,202 @@ configuration_is_checked() {
     done
 }
 
-# The lines of the issuing CA as they stand; what they made is judged by an unchanged OpenSSL.
+# The configuration sets the limit of messages in pieces. tests/provider_pieces.c tries what it does.
+limit_is_set() {
+    write_slh_cnf "$work/set.cnf" "s/^# max_message = .*/max_message = 0/" &&
+        OPENSSL_CONF=$work/set.cnf "$openssl" list -providers -verbose | grep "build info: .* max_message=0\$"
+}
+
+# ---- installations that are broken ----
+
+# An installation in $work/broken, which can be broken, and two configurations of it: slh.cnf, and one that only
+# activates it, as OpenSSL's own pages say.
+install_to_break() {
+    rm -rf "$work/broken" && mkdir -p "$work/broken/lib" &&
+        cp -a "$modules" "$prefix"/lib/libslh.so* "$work/broken/lib/" &&
+        write_slh_cnf "$work/closed.cnf" "s|$modules|$work/broken/lib/ossl-modules|" &&
+        write_slh_cnf "$work/open.cnf" "s|$modules|$work/broken/lib/ossl-modules|" "/^slh_required = /d" \
+            "/^config_diagnostics/d"
+}
+
+without_the_module() { rm "$work/broken/lib/ossl-modules/slh.so"; }
+with_an_empty_module() { : >"$work/broken/lib/ossl-modules/slh.so"; }
+with_another_module() { cp "$work/calls.so" "$work/broken/lib/ossl-modules/slh.so"; }
+without_the_library() { rm "$work"/broken/lib/libslh.so*; }
+
+# A library of version 0.9.0, or one in which a call is missing.
+with_a_library_of() {
+    nm -D --undefined-only "$modules/slh.so" | awk '$2 ~ /^slh_/ { print $2 }' | grep -vx "${1:-}" |
+        sed 's/.*/unsigned &(void) { return 9000; }/' |
+        cc -shared -fPIC -Wl,-soname,libslh.so.0 -x c - -o "$work/broken/lib/libslh.so.0"
+}
+with_an_older_library() { with_a_library_of; }
+with_a_lesser_library() { with_a_library_of slh_sign_join; }
+
+# Settings that the CA asks for, and that its provider does not get: each job two times, by a misspelt name.
+with_lost_settings() {
+    sed -i 's/^twice = 0/twise = 1/; s/^settings = .*/settings = workers=1 twice=1/' "$work"/{closed,open}.cnf
+}
+
+signs_under() {
+    rm -f "$work/new.sig"
+    OPENSSL_CONF=$1 "$openssl" pkeyutl -sign -rawin -inkey "$fast/leaf.key" -in "$fast/letter" -out "$work/new.sig"
+}
+
+issues_under() {
+    rm -f "$work/new.pem" && : >"$fast/index.txt"
+    (cd "$fast" && OPENSSL_CONF=$1 "$openssl" ca -config "$work/ca.cnf" -batch -cert root.pem -keyfile root.key \
+        -in leaf.csr -out "$work/new.pem" -notext "${@:2}")
+}
+
+make_fast() { mkdir -p "$fast" && echo "Dear reader," >"$fast/letter" && theirs genpkey -algorithm SLH-DSA-SHA2-128f \
+    -out "$fast/leaf.key"; }
+
+# A way to BREAK the installation: it signs before under both configurations. After it programs go on under the open
+# one, which shows that there is something to close, and under slh.cnf none starts.
+is_closed() {
+    local config
+    install_to_break || return
+    for config in open closed; do signs_under "$work/$config.cnf" && [ -s "$work/new.sig" ] || return; done
+    "$1" && signs_under "$work/open.cnf" && [ -s "$work/new.sig" ] || return
+    ! signs_under "$work/closed.cnf" && [ ! -s "$work/new.sig" ] || return
+    [ $few = yes ] || { issues_under "$work/open.cnf" && [ -s "$work/new.pem" ] &&
+        ! issues_under "$work/closed.cnf" && [ ! -s "$work/new.pem" ] &&
+        ! OPENSSL_CONF=$work/closed.cnf "$openssl" list -providers; }
+}
+
+# Where the file itself can't be read OpenSSL goes on. The page's line for scripts tells, and a parameter that the
+# default provider does not know has its commands refused.
+lost_configurations_are_told() {
+    local test lost=$work/none.cnf
+    test=$(block_of "Be sure that it signs" 1 | head -n 1) && [ -n "$test" ] || return
+    OPENSSL_CONF=$prefix/etc/slh.cnf run_lines "$test" && ! OPENSSL_CONF=$lost run_lines "$test" || return
+    issues_under "$lost" && ! issues_under "$lost" -sigopt workers:1 && [ ! -s "$work/new.pem" ] &&
+        issues_under "$prefix/etc/slh.cnf" -sigopt workers:1 || return
+    cd "$fast" || return
+    for test in "req -config $work/ca.cnf -x509 -new -key leaf.key -subj /CN=x -sigopt" "dgst -sign leaf.key -sigopt" \
+        "x509 -req -in leaf.csr -CA root.pem -CAkey root.key -sigopt" \
+        "pkeyutl -sign -rawin -inkey leaf.key -in letter -pkeyopt"; do
+        OPENSSL_CONF=$prefix/etc/slh.cnf "$openssl" $test workers:1 <letter >new.out && [ -s new.out ] &&
+            ! OPENSSL_CONF=$lost "$openssl" $test workers:1 <letter >new.out && [ ! -s new.out ] || return
+    done
+}
+
+# An openssl.cnf as it is installed, with slh.cnf behind it by the page's line, is as closed.
+appended_it_is_closed() {
+    install_to_break && printf '%s\n' "openssl_conf = openssl_init" "[openssl_init]" "providers = provider_sect" \
+        "[provider_sect]" "default = default_sect" "[default_sect]" "activate = 1" "[req]" \
+        >"$work/openssl.cnf" || return
+    eval "$(block_of "Be sure that it signs" 1 | tail -n 1 | sed "s|/etc/ssl/slh.cnf|$work/closed.cnf|
+        s|/etc/ssl/openssl.cnf|$work/openssl.cnf|")" && signs_under "$work/openssl.cnf" &&
+        OPENSSL_CONF=$work/openssl.cnf run_lines "$(block_of "Be sure that it signs" 1 | head -n 1)" &&
+        without_the_library || return
+    ! signs_under "$work/openssl.cnf" && ! issues_under "$work/openssl.cnf" && [ ! -s "$work/new.sig" ]
+}
+
+# ---- TLS 1.3 ----
+
+# A key and its certificate in FOLDER, as a server's and a client's.
+make_end() {
+    mkdir -p "$1" && OPENSSL_CONF=$work/tls.cnf "$openssl" req -config "$work/ca.cnf" -x509 -newkey "$2" -nodes \
+        -keyout "$1/key.pem" -out "$1/cert.pem" -subj /CN=localhost
+}
+
+# A server that takes one client, by a socket in the folder `tls`, and answers with what it saw: CONFIGURATION WORD.. It
+# is there once the socket is.
+serve() {
+    local turn
+    rm -f "$work/tls/socket"
+    OPENSSL_CONF=$1 timeout 120 "$openssl" s_server -unix "$work/tls/socket" -naccept 1 -www \
+        -cert "$work/tls/server/cert.pem" -key "$work/tls/server/key.pem" "${@:2}" >"$work/tls/server.out" 2>&1 &
+    server=$!
+    for turn in {1..300}; do
+        [ ! -S "$work/tls/socket" ] || return 0
+        kill -0 $server 2>/dev/null || return 1
+        sleep 0.1
+    done
+    return 1
+}
+
+# What is left of its answer are lines with words.
+connect() {
+    local status
+    printf 'GET / HTTP/1.0\r\n\r\n' | OPENSSL_CONF=$1 timeout 60 "$openssl" s_client -unix "$work/tls/socket" -ign_eof \
+        -CAfile "$work/tls/server/cert.pem" -verify_return_error -brief "${@:2}" >"$work/tls/answer" 2>&1
+    status=$?
+    wait $server
+    grep -a ' ' "$work/tls/answer" | grep -av '..:..:..:' >"$work/tls/client.out"
+    cat "$work"/tls/{client,server}.out
+    return $status
+}
+
+# Both ends sign, and each verifies the other: the client has a certificate of the same SET.
+shakes_hands() {
+    local name
+    name=slhdsa_sha2_${1##*-}
+    mkdir -p "$work/tls" && write_slh_cnf "$work/tls.cnf" "s/^# tls = draft/tls = draft/" &&
+        make_end "$work/tls/server" "$1" && make_end "$work/tls/client" "$1" &&
+        serve "$work/tls.cnf" -Verify 2 -verify_return_error -CAfile "$work/tls/client/cert.pem" &&
+        connect "$work/tls.cnf" -cert "$work/tls/client/cert.pem" -key "$work/tls/client/key.pem" &&
+        grep "^Signature type: $name\$" "$work/tls/client.out" && grep '^Verification: OK' "$work/tls/client.out" &&
+        grep "^Peer signature type: $name\$" "$work/tls/client.out" &&
+        grep '^New, TLSv1.3' "$work/tls/client.out"
+}
+
+# Who does not know the code points is refused, and so is a signature algorithm that the server lacks. Neither hangs.
+refuses_a_client() {
+    local config=$1
+    shift
+    serve "$@" || return
+    ! connect "$config" && grep -q 'handshake failure' "$work/tls/client.out" &&
+        grep -Eq 'no (shared|suitable) signature algorithm|unknown certificate type' "$work/tls/server.out"
+}
+
+clients_without_it_are_refused() {
+    printf 'nothing = 1\n' >"$work/plain.cnf" && make_end "$work/tls/server" SLH-DSA-SHA2-128f &&
+        refuses_a_client "$work/plain.cnf" "$work/tls.cnf" && refuses_a_client "$prefix/etc/slh.cnf" "$work/tls.cnf"
+}
+
+# Without the word of the configuration no program is told of it.
+tls_needs_the_word() {
+    OPENSSL_CONF=$work/tls.cnf "$openssl" list -tls-signature-algorithms | grep -q slhdsa_sha2_128f &&
+        ! OPENSSL_CONF=$prefix/etc/slh.cnf "$openssl" list -tls-signature-algorithms | grep slhdsa &&
+        ! serve "$prefix/etc/slh.cnf"
+    cat "$work/tls/server.out"
+    grep -q 'unknown certificate type' "$work/tls/server.out"
+}
+
+# Below TLS 1.3 there is no code point.
+tls_1_2_is_refused() {
+    serve "$work/tls.cnf" || return
+    ! connect "$work/tls.cnf" -tls1_2 && grep -q 'handshake failure' "$work/tls/client.out"
+}
+
+# ---- the page's CA ----
+
+# The lines of the CA of two levels as they stand; what they made is judged by an unchanged OpenSSL.
 issues_as_the_page_says() {
-    block_of "Three ways to choose it" 2 >"$work/slh.cnf" && rm -rf "$work/page" && mkdir "$work/page" &&
-        cp "$here/examples/ca.cnf" "$work/page/ca.cnf" && : >"$work/calls" &&
-        echo "Dear reader," >"$work/page/letter.txt" &&
-        LD_PRELOAD="$work/calls.so" SLH_CALLS="$work/calls" run_lines "$(block_of "An issuing CA in ten lines" 1)" &&
-        [ "$(counted keys) $(counted signatures)" = "2 5" ] || return
+    rm -rf "$work/page" && mkdir "$work/page" && cp "$here/examples/ca.cnf" "$work/page/ca.cnf" && : >"$work/calls" &&
+        echo "Dear reader," >"$work/page/letter.txt" || return
+    OPENSSL_CONF=$prefix/etc/slh.cnf LD_PRELOAD="$work/calls.so" SLH_CALLS="$work/calls" \
+        run_lines "set -x
+$(block_of "A CA of two levels" 1 | sed '/^export OPENSSL_CONF/d')" || return
+    [ "$(counted keys) $(counted signatures)" = "5 14" ] || { counted keys; counted signatures; return 1; }
     : >"$work/calls"
-    LD_PRELOAD="$work/calls.so" SLH_CALLS="$work/calls" run_lines "$(block_of "An issuing CA in ten lines" 2)" &&
+    LD_PRELOAD="$work/calls.so" SLH_CALLS="$work/calls" run_lines "$(block_of "A CA of two levels" 2)" &&
         [ "$(counted verdicts)" = 0 ] && cmp "$work/page/letter.txt" "$work/page/read.txt"
+}
+
+# The certificates and lists of these lines are what a CA's readers look for.
+certificates_are_complete() {
+    cd "$work/page" || return
+    theirs crl -in issuing.crl -noout -text >crl.text && grep 'Version 2' crl.text &&
+        grep -A 1 'X509v3 CRL Number' crl.text && grep 'X509v3 Authority Key Identifier' crl.text &&
+        grep -A 1 'Reason Code' crl.text | grep 'Key Compromise' || return
+    theirs x509 -in www.pem -noout -text >leaf.text && grep -A 1 'Key Usage: critical' leaf.text | grep 'Digital Sig' &&
+        grep -A 1 'Alternative Name' leaf.text | grep 'DNS:localhost' && grep 'Subject Key Identifier' leaf.text &&
+        grep 'Authority Key Identifier' leaf.text && grep 'OCSP - URI' leaf.text || return
+    theirs x509 -in issuing.pem -noout -text | grep 'CA:TRUE, pathlen:0' && grep revoked status
 }
 
 # A copy of a file with a byte changed: AT from the end, FILE.
@@ -471,10 +688,11 @@ count_module() {
         has_tool "warnings of $compiler" $compiler || continue
         one "no warning by $compiler" compiles_without_warnings $compiler
     done
-    one "it exports OSSL_provider_init alone" exports_one
+    one "it exports two functions" exports_two
     one "it keeps nothing outside of its contexts" has_no_state
-    one "it has at most 750 lines" is_small
+    one "it has less than 750 lines" is_small
     count "through EVP" "${run[@]}" "$work/tests" calls "$modules"
+    count "messages in pieces" "${run[@]}" "$work/pieces" "$modules" 3000
     count_under_sanitizers
     one "the vectors of other implementations" has_the_vectors_values
     ! has_tool "1,000 loads" valgrind || one "1,000 loads leave nothing allocated" loads_1000_times
@@ -489,15 +707,28 @@ count_commands() {
     one "it is chosen by a query" is_chosen_by_query
     one "it is chosen by a configuration" is_chosen_by_configuration
     one "it is chosen by its place, and else not called" is_chosen_by_order
+    one "it is chosen where a program asks for other providers" is_chosen_beside_others
     one "the configuration sets workers and twice" configuration_counts
     one "a configuration with another number is refused" configuration_is_checked
-    one "the issuing CA of the page" issues_as_the_page_says
+    one "the limit of messages in pieces is set" limit_is_set
+    one "the CA of the page" issues_as_the_page_says
+    one "its certificates and lists are complete" certificates_are_complete
     one "damaged certificates are refused" damaged_certificates_are_refused
     one "damaged messages and signatures are refused" damaged_messages_are_refused
     one "damaged keys are refused" damaged_keys_are_refused
     one "a revoked certificate is refused" revoked_is_refused
     one "no digest is signed as a message" no_digest_is_signed
     one "speed runs" speeds
+    for set in with{out_the_module,_an_empty_module,_another_module,out_the_library,_an_older_library} \
+        with{_a_lesser_library,_lost_settings}; do
+        one "nothing starts ${set//_/ }" is_closed $set
+    done
+    one "a lost configuration is told" lost_configurations_are_told
+    one "appended to openssl.cnf it is closed" appended_it_is_closed
+    for set in SLH-DSA-SHA2-{128s,128f,192s,192f,256s,256f}; do one "TLS 1.3 by $set" shakes_hands $set; done
+    one "clients without it are refused" clients_without_it_are_refused
+    one "TLS needs the word of the configuration" tls_needs_the_word
+    one "TLS 1.2 is refused" tls_1_2_is_refused
     if openssl version 2>/dev/null | grep -Eq '^OpenSSL 3\.[0-4]\.'; then
         one "an earlier OpenSSL refuses it" earlier_is_refused openssl
     else
@@ -510,8 +741,12 @@ write_config
 one "the module is built" "$here/bindings/openssl/build.sh" "$prefix"
 one "programs are built" builds_programs
 if [ "$failed" = 0 ] && [ $few = yes ]; then
-    one "it exports OSSL_provider_init alone" exports_one
+    one "it exports two functions" exports_two
     count "through EVP" "${run[@]}" "$work/tests" calls "$modules"
+    count "messages in pieces" "${run[@]}" "$work/pieces" "$modules" 200
+    one "a key is made" make_fast
+    one "TLS 1.3 by 128f" shakes_hands SLH-DSA-SHA2-128f
+    one "without its library nothing is signed" is_closed without_the_library
 elif [ "$failed" = 0 ]; then
     count_module
     count_commands

@@ -2,7 +2,7 @@
 # Tries a release as somebody has it who has no kit: ./slh and tools/library.sh over a copy of this repository, with a
 # dist/ that tools/release.sh makes for this. README's commands sign and verify, LIBRARY's two link a C program, also in
 # a root in which there is no kit; damaged and missing files are neither run nor installed; other sources are told. The
-# builds for all levels of processors give the values of vectors/. What is made of a release is tried over it: the
+# builds for all levels of processors give the values of tests/vectors/. What is made of a release is tried over it: the
 # packages of bindings/, Debian packages, the page that verifies, the examples for much work, keys to and from OpenSSL,
 # and the provider for it. Before all that it looks whether dist/ is what the sources give, as tools/release.sh --check
 # does.
@@ -43,7 +43,7 @@ stubbed() {
     without_rt=$stub:/usr/bin:/bin bare "$@"
 }
 
-# README's commands as they stand there, and those of LIBRARY and FIRMWARE, whose C programs then sign a file and
+# README's commands as they stand there, and those of LIBRARY and MACHINES, whose C programs then sign a file and
 # verify an image.
 signs_and_links() {
     cat <<'END'
@@ -108,9 +108,9 @@ signs_in_another_root() {
 }
 
 # The scripts that the test command runs over a release.
-scripts=(commands.py library_tests.sh faults_tests.sh compare_tests.sh targets_tests.sh portable_tests.sh
-    packages_tests.sh release_tests.sh provider_tests.sh vectors.sh interchange.py streams.sh each_growth.sh limits.sh
-    debian_tests.sh web_tests.py archive_tests.py openssl_keys.sh)
+scripts=(commands.py library_tests.sh faults_tests.sh compare_tests.sh instructions.sh targets_tests.sh boards_tests.sh
+    portable_tests.sh packages_tests.sh release_tests.sh provider_tests.sh vectors.sh interchange.py streams.sh
+    each_growth.sh limits.sh debian_tests.sh web_tests.py archive_tests.py queue_tests.py openssl_keys.sh)
 
 # The test command, briefly, in a folder without .git, as an unpacked tarball: nothing fails, and each script is run.
 tests_in_another_root() {
@@ -128,17 +128,20 @@ tests_in_another_root() {
 stub_scripts() {
     local it status=$1
     shift
-    for it in "${scripts[@]/#/tests/}" tools/contracts.py; do
+    for it in "${scripts[@]/#/tests/}" tools/contracts.py tests/pages_tests.py; do
         { printf '#!/bin/sh\necho "${0##*/} $*" >>called\n'; printf 'echo "%s"\n' "$@" && echo "exit $status"; } \
             >"$copy/$it" || return
     done
     rm -f "$copy/called"
 }
 
+# How many scripts the test command called in the copy, beside a check of its own.
+scripts_called() { grep -vc '^contracts.py ' "$copy/called"; }
+
 # Runs the test command of the copy without installing anything.
 test_command() { bare tools/test.sh --no-setup "$@"; }
 
-# Without rt the test command runs each script over dist/ and adds up the counts. The four parts that need rt count as
+# Without rt the test command runs each script over dist/ and adds up the counts. The five parts that need rt count as
 # skipped; what is skipped is named.
 test_command_needs_no_rt() {
     local others
@@ -146,11 +149,11 @@ test_command_needs_no_rt() {
     others=$(($(ls -d "$copy"/dist/x86-64-v*/slh | wc -l) - 1))
     diff <(printf '%s --dist dist\n' "${scripts[@]}" | sort) <(grep -e --dist "$copy/called" | sort) || return
     [ "$(grep -c '^vectors.sh vectors dist/' "$copy/called")" -le $others ] || return
-    counts_are "$((4 * $(grep -vc contracts.py "$copy/called") + 4)) passed, 0 failed, 4 skipped" || return
+    counts_are "$((4 * $(scripts_called) + 4)) passed, 0 failed, 5 skipped" || return
     diff <(named skipped) <(printf '%s: SKIPPED, since it needs rt\n' "rt ci" "tests/wrong_bodies.py --gate" \
-        tests/{tables,widths_tests}.sh) || return
+        "tests/tested_bodies.py --few" tests/{tables,widths_tests}.sh) || return
     stub_scripts 0 "it: SKIPPED, since not" "4 passed, 0 failed, 1 skipped" && test_command || return
-    [ "$(named skipped | grep -c '^it: SKIPPED, since not$')" = "$(grep -vc contracts.py "$copy/called")" ] || return
+    [ "$(named skipped | grep -c '^it: SKIPPED, since not$')" = "$(scripts_called)" ] || return
     rm -r "$copy/dist"
     test_command
     [ $? = 2 ] && grep "there is no release in dist/" "$work/err"
@@ -169,7 +172,7 @@ test_command_names_failures() {
         copy_anew && stub_scripts 0 "4 passed, 0 failed" && break_script "$status" "$line" || return
         ! test_command --release || return
         diff <(named failed) <(printf '%s\n' "tests/limits.sh: $it" "    alone: tests/limits.sh --dist dist") || return
-        tail -n 1 "$work/out" | grep -E '^[0-9]+ passed, 1 failed, 4 skipped$' || return
+        tail -n 1 "$work/out" | grep -E '^[0-9]+ passed, 1 failed, 5 skipped$' || return
         grep -E '^tests/limits.sh --dist dist +[0-9]+ +1 +0 ' "$work/out" || return
     done <<'END'
 1|4 passed, 1 failed|it is right: no, it is not
@@ -197,7 +200,7 @@ test_command_can_be_watched() {
     copy_anew && stub_scripts 0 "4 passed, 0 failed" || return
     printf '#!/bin/sh\nsleep 3\ni=0\nwhile [ $i -lt 300000 ]; do i=$((i + 1)); done\necho "4 passed, 0 failed"\n' \
         >"$copy/tests/limits.sh"
-    sed -i 's/^| `tests\/limits.sh` | .*/| `tests\/limits.sh` | 0.0001 |/' "$copy/docs/CONTRIBUTING.md"
+    sed -i 's/^| `tests\/limits.sh` | .*/| `tests\/limits.sh` | 0.0001 |/' "$copy/tests/README.md"
     bare env SLH_DOTS_AFTER=1 tools/test.sh --no-setup || return
     grep -E '^\[[0-9]+/[0-9]+\] limits: .* \(about [0-9]+ min\): tests/limits.sh --dist dist$' "$work/out" &&
         [ "$(grep -cE '^\[[0-9]+/' "$work/out")" = "$(sed -nE 's|^\[1/([0-9]+)\].*|\1|p' "$work/out")" ] &&
@@ -210,11 +213,12 @@ test_command_can_be_watched() {
 test_command_names_what_is_skipped() {
     copy_anew && stub_scripts 0 "4 passed, 0 failed" && echo '// changed' >>"$copy/crates/slh_core/src/lib.rt" || return
     test_command && head -n 1 "$work/out" | grep 'the sources are NOT those that it was built of' || return
-    tail -n 1 "$work/out" | grep '^[1-9][0-9]* passed, 0 failed, 13 skipped$' || return
-    diff <(named skipped | tail -n 9) \
+    tail -n 1 "$work/out" | grep '^[1-9][0-9]* passed, 0 failed, 16 skipped$' || return
+    diff <(named skipped | tail -n 11) \
         <(printf 'tests/%s --dist dist: SKIPPED, since the sources are not those of dist/\n' \
-        commands.py {library,faults,compare,targets,portable,packages,release,provider}_tests.sh) || return
-    [ "$(grep -c -e --dist "$copy/called")" = 9 ] && ! grep -e commands -e library -e packages "$copy/called"
+        commands.py {library,faults,compare}_tests.sh instructions.sh \
+        {targets,boards,portable,packages,release,provider}_tests.sh) || return
+    [ "$(grep -c -e --dist "$copy/called")" = 10 ] && ! grep -e commands -e library -e packages "$copy/called"
 }
 
 # The test command goes on whether tools can be installed or not, and installs them if it can and may. CI runs it.
@@ -282,8 +286,8 @@ nothing_is_no_test() {
     for it in "${scripts[@]}" tables.sh; do
         for given in "$work/empty" "$work/none" "$work/no_such_file"; do
             case $it in
-            commands.py | tables.sh) bare "tests/$it" vectors/commands "$given" ;;
-            vectors.sh | interchange.py) bare "tests/$it" vectors "$given" ;;
+            commands.py | tables.sh) bare "tests/$it" tests/vectors/commands "$given" ;;
+            vectors.sh | interchange.py) bare "tests/$it" tests/vectors "$given" ;;
             streams.sh | each_growth.sh | limits.sh | openssl_keys.sh) bare "tests/$it" "$given" ;;
             *) bare "tests/$it" --dist "$given" ;;
             esac
@@ -343,7 +347,11 @@ other_targets_are_installed() {
     copy_anew
     bare tools/library.sh --target aarch64 arm && cmp "$copy/arm/lib/libslh.a" "$work/made/aarch64/libslh.a" &&
         bare tools/library.sh --target wasm64 wasm && cmp "$copy/wasm/lib/slh.wasm" "$work/made/wasm64/slh.wasm" &&
-        bare tools/library.sh --target portable c && cmp "$copy/c/src/slh.c" "$work/made/portable/slh.c" &&
+        bare tools/library.sh --target wasm32 other && cmp "$copy/other/lib/slh.wasm" "$work/made/wasm32/slh.wasm" &&
+        bare tools/library.sh --target thumbv6m board &&
+        cmp "$copy/board/lib/libslh_verify_128.a" "$work/made/thumbv6m/libslh_verify_128.a" &&
+        bare tools/library.sh --target portable portable_c &&
+        cmp "$copy/portable_c/src/slh.c" "$work/made/portable/slh.c" &&
         refuses "library.sh: no target mips" tools/library.sh --target mips it
 }
 
@@ -447,7 +455,7 @@ sources_are_looked_at() {
 changes_are_seen_over_notes() {
     local it
     copy_anew || return
-    for it in HANDLES VERSION crates.txt include/slh.h tools/kit.py tools/program.sh tools/target.sh \
+    for it in HANDLES VERSION crates.txt c/include/slh.h tools/kit.py tools/program.sh tools/target.sh \
         crates/slh/src/main.rt crates/slh_params/specs/Lib.antt crates/slh_params/proofs/Bounds.antt; do
         cp -a "$copy/$it" "$work/was" && note_now same && says_same && change_unseen "$it" && says_other || return
         cat "$work/was" >"$copy/$it" && says_same || return
@@ -569,7 +577,7 @@ is_installed() {
     mv "$prefix" "$copy/moved #here" && ln -s "$copy/moved #here/bin/slh" "$work/linked" &&
         ln -s "moved #here" "$copy/folder" || return
     for it in "$copy/moved #here/bin/slh" "$work/linked" "$copy/folder/bin/slh"; do
-        bare "$it" vectors --file vectors/smoke-128f.json &&
+        bare "$it" vectors --file tests/vectors/smoke-128f.json &&
             [ "$(tail -n 1 "$work/out")" = "passed 6 failed 0" ] || return
     done
     bare env PATH="$copy/folder/bin:$without_rt" slh params && [ "$(wc -l <"$work/out")" = 6 ] &&
@@ -628,7 +636,7 @@ level_of_each_processor_is_chosen() {
     install_stand_ins || return
     for it in 0:2 1:3 2:4 3:3 4:2 5:2; do
         (cd "$copy" && cc -std=c11 "${strict[@]}" -O2 -ffreestanding -fno-stack-protector -nostdlib -static \
-            -DPROCESSOR="${it%:*}" packages/slh.c exports/chosen.c tests/forced_level.c -o prefix/bin/slh) &&
+            -DPROCESSOR="${it%:*}" c/starter.c c/exports/chosen.c tests/forced_level.c -o prefix/bin/slh) &&
             installed_runs "${it#*:}" || return
     done
 }
@@ -709,9 +717,11 @@ count_what_is_made() {
     count "packages" "$here/tests/packages_tests.sh" --dist "$made"
     count "one flipped bit in the course of a call" "$here/tests/faults_tests.sh" --dist "$made" "" libslh.a
     count "comparisons of tags" "$here/tests/compare_tests.sh" --dist "$made"
+    count "instructions of calls" "$here/tests/instructions.sh" --dist "$made"
     count "Debian packages" "$here/tests/debian_tests.sh" --dist "$made"
     count "the page that verifies" "$here/tests/web_tests.py" --dist "$made"
     count "the examples for much work" "$here/tests/archive_tests.py" --dist "$made"
+    count "the examples that sign a queue" "$here/tests/queue_tests.py" --dist "$made"
     count "keys to and from OpenSSL" "$here/tests/openssl_keys.sh" --dist "$made"
     count "the provider for OpenSSL" "$here/tests/provider_tests.sh" --dist "$made"
 }

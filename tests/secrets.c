@@ -13,7 +13,7 @@
  * usage: valgrind secrets [SET]      the number of a set, without it 128f, 192f and 256f
  *
  * It prints a line for each call, with how many branches and addresses memcheck told of, and how many verdicts there
- * are by docs/DUTIES.md, which are all that it may tell of. The last line has the counts.
+ * are by SECURITY.md, which are all that it may tell of. The last line has the counts.
  */
 #include <slh_internal.h>
 

@@ -1,6 +1,6 @@
 #!/usr/bin/env bash
 # Runs calls of an installed library under valgrind, with SK.seed and SK.prf marked as undefined: no branch and no
-# address may depend on them, but the verdicts that docs/DUTIES.md lists. tests/secrets.c says how, and what is public.
+# address may depend on them, but the verdicts that SECURITY.md lists. tests/secrets.c says how, and what is public.
 # Two builds whose memcpy has a leak put in must be told of.
 #
 # usage: tests/secrets_tests.sh PREFIX      where tools/library.sh has installed

@@ -3,14 +3,14 @@
 #
 # usage: tests/tables.sh [TABLES [PROGRAM]]
 #
-# TABLES is a folder of tables (default: vectors/tables), PROGRAM the program (default:
+# TABLES is a folder of tables (default: tests/vectors/tables), PROGRAM the program (default:
 # crates/slh_conformance/out/slh_conformance, which `rt ci` leaves built). Each row must be right, and none may be
 # malformed or of an unknown function. A table must have just the rows of each function that the file rows.txt of its
 # folder says, so that none is lost, and each function of the program must have some. Of each table it prints how many
 # rows of each function were right. The last line has the counts, and the status is 0 where nothing failed.
 set -u
 here=$(cd "$(dirname "${BASH_SOURCE[0]}")/.." && pwd)
-tables=${1:-$here/vectors/tables}
+tables=${1:-$here/tests/vectors/tables}
 program=${2:-$here/crates/slh_conformance/out/slh_conformance}
 source "$here/tests/counts.sh"
 [ -f "$program" ] && "$program" </dev/null >/dev/null 2>&1 ||

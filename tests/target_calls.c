@@ -6,7 +6,8 @@
  * just these bytes, and their number; `pHEX` such a pointer alone, to a number that is written with its lowest byte
  * first. For each line it writes one: the number that is returned, and what the bytes of each b and p are then.
  * tests/target_calls.mjs does the same over WebAssembly. It takes C99 alone, 32 bits or 64, in any order of bytes.
- * With -DVERIFY_ONLY it has the calls of slh_verify.h alone.
+ * With -DVERIFY_ONLY it has the calls of slh_verify.h alone, and with -DBARE it takes no C library (bare.h). With
+ * -DHOOKED, too, `hooked` tells how often slh_between_layers was called.
  */
 #ifdef VERIFY_ONLY
 #include <slh_verify.h>
@@ -14,9 +15,13 @@
 #include <slh_internal.h>
 #endif
 
+#ifdef BARE
+#include "bare.h"
+#else
 #include <stdio.h>
 #include <stdlib.h>
 #include <string.h>
+#endif
 
 enum { MOST = 16 };
 
@@ -52,9 +57,23 @@ static size_t *take(int i, int is_size) {
 /* Puts what a call wrote into a number back into its bytes. */
 static void put_back(int i) {
     uint64_t number = given[i].kind == 's' ? sizes[i] : words[i];
-    if (given[i].kind == 'b') return;
+    if (given[i].kind != 's' && given[i].kind != 'w') return;
     for (size_t at = 0; at < given[i].len; at++) given[i].at[at] = (uint8_t)(number >> 8 * at);
 }
+
+#ifdef HOOKED
+/* How often the archive of a board called its hook since the last such call. */
+static uint32_t layers;
+
+void slh_between_layers(void);
+void slh_between_layers(void) { layers++; }
+
+static uint32_t hooked(void) {
+    uint32_t found = layers;
+    layers = 0;
+    return found;
+}
+#endif
 
 #define CALL(name, ...)                                                                                                \
     if (strcmp(call, #name) == 0) return name(__VA_ARGS__)
@@ -63,8 +82,13 @@ static uint32_t run(const char *call) {
     CALL(slh_verify, N(0), B(1), B(2), B(3), B(4));
     CALL(slh_hash_verify, N(0), N(1), B(2), B(3), B(4), B(5));
     CALL(slh_hash_verify_digest, N(0), N(1), B(2), B(3), B(4), B(5));
+    CALL(slh_verify_hardened, N(0), B(1), B(2), B(3), B(4));
+    CALL(slh_hash_verify_digest_hardened, N(0), N(1), B(2), B(3), B(4), B(5));
 #ifdef VERIFY_ONLY
     (void)take;
+#ifdef HOOKED
+    if (strcmp(call, "hooked") == 0) return hooked();
+#endif
 #else
     CALL(slh_lengths, N(0), S(1), S(2), S(3), S(4));
     CALL(slh_keygen, N(0), B(1), B(2), B(3), B(4));
@@ -93,16 +117,53 @@ static uint32_t run(const char *call) {
     exit(2);
 }
 
-/* The bytes of hexadecimal digits, in a block of just their number. Null for none. */
-static void read_bytes(const char *digits, int i) {
-    given[i].len = strlen(digits) / 2;
-    given[i].kind = 'b';
-    given[i].at = given[i].len == 0 ? NULL : malloc(given[i].len);
-    if (given[i].len > 0 && given[i].at == NULL) exit(2);
-    for (size_t at = 0; at < given[i].len; at++) {
-        const char pair[3] = {digits[2 * at], digits[2 * at + 1], 0};
-        given[i].at[at] = (uint8_t)strtoul(pair, NULL, 16);
+/* The next character of a line: 0 at its end, and at the end of all. */
+static int next(void) {
+    int it;
+    do it = getchar();
+    while (it == '\r');
+    return it == EOF || it == '\n' ? 0 : it;
+}
+
+/* The value of a hexadecimal digit. */
+static unsigned digit(int it) { return (unsigned)(it <= '9' ? it - '0' : it - 'a' + 10); }
+
+/* Bytes to the end of a word, in a block of just their number, or null for none. A board has little memory: no more of
+   the line is there at once than its bytes. What ended the word is returned. */
+static int read_bytes(int i) {
+    size_t room = 0;
+    int it;
+    given[i].len = 0;
+    given[i].at = NULL;
+    while ((it = next()) != 0 && it != ' ') {
+        if (given[i].len == room) given[i].at = realloc(given[i].at, room += 1024);
+        if (given[i].at == NULL) exit(2);
+        given[i].at[given[i].len++] = (uint8_t)(digit(it) << 4 | digit(next()));
     }
+    if (given[i].len > 0) given[i].at = realloc(given[i].at, given[i].len);
+    return it;
+}
+
+static int read_number(int i) {
+    int it;
+    given[i].number = 0;
+    while ((it = next()) != 0 && it != ' ') given[i].number = 10 * given[i].number + digit(it);
+    return it;
+}
+
+/* Reads a line: the name of a call to CALL, and its arguments. How many these are, or -1 at the end of all. */
+static int read_line(char *call, size_t room) {
+    size_t len = 0;
+    int it, count = 0;
+    while ((it = next()) != 0 && it != ' ' && len + 1 < room) call[len++] = (char)it;
+    call[len] = 0;
+    if (len == 0) return -1;
+    while (it != 0 && count < MOST) {
+        given[count].kind = (char)next();
+        it = given[count].kind == 'n' ? read_number(count) : read_bytes(count);
+        count++;
+    }
+    return count;
 }
 
 static void write_bytes(int i) {
@@ -110,43 +171,20 @@ static void write_bytes(int i) {
     for (size_t at = 0; at < given[i].len; at++) printf("%02x", given[i].at[at]);
 }
 
-/* A line without its end, or null at the end of all. */
-static char *read_line(void) {
-    static char *line;
-    static size_t room;
-    size_t len = 0;
-    int it;
-    while ((it = getchar()) != EOF && it != '\n') {
-        if (len + 1 >= room) line = realloc(line, room = 2 * room + 4096);
-        if (line == NULL) exit(2);
-        line[len++] = (char)it;
-    }
-    if (len == 0) return NULL;
-    line[len] = 0;
-    return line;
-}
-
 int main(void) {
-    char *line;
-    while ((line = read_line()) != NULL) {
-        int count = 0, is_bytes[MOST] = {0};
-        char *call = strtok(line, " \r"), *word;
-        while ((word = strtok(NULL, " \r")) != NULL && count < MOST) {
-            is_bytes[count] = *word != 'n';
-            if (is_bytes[count]) read_bytes(word + 1, count);
-            else given[count].number = (uint32_t)strtoul(word + 1, NULL, 10);
-            count++;
-        }
+    char call[64];
+    int count;
+    while ((count = read_line(call, sizeof call)) >= 0) {
         printf("%u", (unsigned)run(call));
         for (int i = 0; i < count; i++) {
-            if (!is_bytes[i]) continue;
+            if (given[i].kind == 'n') continue;
             put_back(i);
             write_bytes(i);
         }
         puts("");
         fflush(stdout);
         for (int i = 0; i < count; i++)
-            if (is_bytes[i]) free(given[i].at);
+            if (given[i].kind != 'n') free(given[i].at);
     }
     return 0;
 }

@@ -1,13 +1,15 @@
 // Makes calls of slh.wasm that it is told on standard input, for tests/library_vectors.py --through: what
 // tests/target_calls.c does, in Node. It is also an example of calling the module.
 //
-// usage: node --experimental-wasm-memory64 tests/target_calls.mjs slh.wasm
+// usage: node tests/target_calls.mjs slh.wasm     with --experimental-wasm-memory64 for a 64-bit memory
 //
-// Bytes are put behind the module's own data, from __heap_base on, and pointers and lengths are 64-bit numbers.
+// Bytes are put behind the module's own data, from __heap_base on. Lengths are 64-bit numbers, and pointers as wide as
+// the memory.
 import fs from "node:fs";
 import readline from "node:readline";
 
 const wasm = new WebAssembly.Instance(new WebAssembly.Module(fs.readFileSync(process.argv[2])), {}).exports;
+const pointer = typeof wasm.__heap_base.value === "bigint" ? BigInt : Number;
 const first = Math.ceil(Number(wasm.__heap_base.value) / 16) * 16;
 
 // Makes the memory at least so many bytes long. `grow` counts pages of 65536 bytes, which are a BigInt to newer engines.
@@ -36,7 +38,7 @@ for await (const line of readline.createInterface({ input: process.stdin })) {
         reserve(at + bytes.length);
         new Uint8Array(wasm.memory.buffer).set(bytes, at);
         placed.push([at, bytes.length]);
-        given.push(BigInt(bytes.length === 0 ? 0 : at));
+        given.push(pointer(bytes.length === 0 ? 0 : at));
         if (word[0] === "b") given.push(BigInt(bytes.length));
         at = Math.ceil((at + bytes.length) / 16) * 16;
     }

@@ -12,7 +12,7 @@ set -u
 here=$(cd "$(dirname "${BASH_SOURCE[0]}")/.." && pwd)
 source "$here/tests/counts.sh"
 take_options "$@"
-vectors=${words[0]:-$here/vectors}
+vectors=${words[0]:-$here/tests/vectors}
 choose_program "${words[1]-}" "$here/slh"
 work=$(mktemp -d)
 trap 'rm -rf "$work"' EXIT

@@ -2,13 +2,14 @@
 """Tries the page that verifies, as tools/web_page.sh writes it, in Chromium without a window, opened from a folder:
 over signatures of vectors/, damaged ones, drops, a large file, the keyboard, and what a screen reader is told; that
 secret keys and PEM files are named; that it can't send anything; and that a page without its module judges nothing.
-Then the package for JavaScript is tried there, in a page and in a worker.
+Then the package for JavaScript is tried there, in a page and in a worker. Signatures of vectors/ and damaged ones are
+also tried in Firefox, as it comes.
 
 usage: tests/web_tests.py [--few] [--dist DIST] [--screenshot FILE]
 
-DIST is a folder as tools/release.sh writes it (default: dist). With --few one set is tried. It needs Chromium, which
-tools/setup.sh installs. Where it is missing, or has no WebAssembly with 64-bit memory, all is skipped. The last line
-has the counts, and the status is 0 where nothing failed.
+DIST is a folder as tools/release.sh writes it (default: dist). With --few one set is tried. It needs Chromium and
+Firefox, which tools/setup.sh installs. What one is for is skipped where it is missing, and all where the release has no
+module with a 32-bit memory. The last line has the counts, and the status is 0 where nothing failed.
 """
 import argparse
 import base64
@@ -18,6 +19,7 @@ import json
 import os
 import pathlib
 import shutil
+import socket
 import subprocess
 import sys
 import tempfile
@@ -124,6 +126,11 @@ class Browser:
         self.tell("Page.navigate", url=url)
         self.wait_for("!window.isLeft && document.readyState === 'complete' && !!document.querySelector('#verdict')")
 
+    def choose(self, name, path):
+        """Chooses a file in the field of this name."""
+        node = self.tell("Runtime.evaluate", expression=f"document.getElementById('{name}')")["result"]
+        self.tell("DOM.setFileInputFiles", files=[str(path)], objectId=node["objectId"])
+
     def wait_for(self, expression):
         end = time.monotonic() + 60
         while not self.value(expression):
@@ -141,6 +148,55 @@ class Browser:
         self.process.wait()
 
 
+class Firefox(Browser):
+    """Firefox with one page, told by its protocol for tests (Marionette) what to do."""
+
+    def __init__(self, path, folder):
+        folder.mkdir()
+        with socket.create_server(("127.0.0.1", 0)) as it:
+            place = it.getsockname()
+        (folder / "user.js").write_text(f'user_pref("marionette.port", {place[1]});\n')
+        words = [path, "--headless", "--no-remote", "--marionette", "--profile", str(folder)]
+        quiet = dict(stdout=subprocess.DEVNULL, stderr=subprocess.DEVNULL)
+        self.process = subprocess.Popen(words, env={**os.environ, "HOME": str(folder)}, **quiet)
+        self.number, self.socket, end = 0, None, time.monotonic() + 90
+        while self.socket is None:
+            try:
+                self.socket = socket.create_connection(place, 90)
+            except OSError:
+                expect(time.monotonic() < end and self.process.poll() is None, "Firefox does not answer")
+                time.sleep(0.1)
+        self.read()
+        self.tell("WebDriver:NewSession")
+
+    def read(self):
+        text = b""
+        while not text.endswith(b":"):
+            text += self.socket.recv(1) or b"the browser ended:"
+        length, text = int(text[:-1]), b""
+        while len(text) < length:
+            text += self.socket.recv(length - len(text)) or b"the browser ended" * length
+        return json.loads(text)
+
+    def tell(self, method, **parameters):
+        self.number += 1
+        text = json.dumps([0, self.number, method, parameters]).encode()
+        self.socket.sendall(b"%d:%s" % (len(text), text))
+        _, _, fault, result = self.read()
+        expect(fault is None, f"{method}: {fault}")
+        return result
+
+    def value(self, expression):
+        return self.tell("WebDriver:ExecuteScript", script="return eval(arguments[0])", args=[expression])["value"]
+
+    def go(self, url):
+        self.tell("WebDriver:Navigate", url=url)
+
+    def choose(self, name, path):
+        found = self.tell("WebDriver:FindElement", using="css selector", value=f"#{name}")["value"]
+        self.tell("WebDriver:ElementSendKeys", id=[*found.values()][0], text=str(path))
+
+
 class Tests:
     """A folder with the page, and files to choose."""
 
@@ -152,7 +208,7 @@ class Tests:
 
     @staticmethod
     def vectors(label, kind="verify"):
-        tests = json.loads((here / "vectors" / f"slh-dsa-sha2-{label}.json").read_text())
+        tests = json.loads((here / "tests/vectors" / f"slh-dsa-sha2-{label}.json").read_text())
         return [it for it in tests if it["kind"] == kind and it["form"] != "internal"]
 
     def files(self, test, **other):
@@ -167,8 +223,7 @@ class Tests:
 
     def choose(self, paths):
         for name, path in zip(("message", "signature", "key"), paths):
-            node = self.browser.tell("Runtime.evaluate", expression=f"document.getElementById('{name}')")["result"]
-            self.browser.tell("DOM.setFileInputFiles", files=[str(path)], objectId=node["objectId"])
+            self.browser.choose(name, path)
 
     def judged(self):
         """What the page says in the end, of which it is one of three things."""
@@ -244,7 +299,7 @@ class Tests:
 
     def other_browsers(self):
         """The page says which browsers work, also if this one does not, and tells that from a damaged module."""
-        known = ["Chrome", "Edge", "Firefox", "64-bit"]
+        known = ["WebAssembly", "SIMD", "Chromium"]
         self.browser.open(self.page)
         expect(all(it in self.browser.value("document.querySelector('main').innerText") for it in known), "the note")
         without = "WebAssembly.validate = () => false"
@@ -373,7 +428,7 @@ class Tests:
         at = page.index('id="module">') + 5000
         cut.write_text(page[:at] + page[at + 4 :])
         bare = self.page.with_name("bare.html")
-        shutil.copy(here / "web" / "verify.html", bare)
+        shutil.copy(here / "bindings/web" / "verify.html", bare)
         for path, word in (bare, "no module"), (cut, "damaged"):
             self.browser.open(path)
             self.choose(paths)
@@ -408,10 +463,6 @@ class Tests:
         path.write_bytes(base64.b64decode(self.browser.tell("Page.captureScreenshot")["data"]))
 
 
-# The shortest module with a memory whose addresses have 64 bits
-HAS_MEMORY64 = "WebAssembly.validate(new Uint8Array([0, 97, 115, 109, 1, 0, 0, 0, 5, 3, 1, 4, 1]))"
-
-
 def main():
     parser = argparse.ArgumentParser()
     parser.add_argument("--screenshot", type=pathlib.Path)
@@ -419,28 +470,44 @@ def main():
     words = parser.parse_args(words)
     if not release and not (here / "dist" / "BUILD").is_file():
         counts.nothing_to_test("there is no release in dist/")
-    chromium = shutil.which("chromium")
+    module = (release or here / "dist") / "wasm32" / "slh.wasm"
+    if not module.is_file():
+        counts.skip("the page", "the release has no module with a 32-bit memory")
+        return
     work = pathlib.Path(tempfile.mkdtemp()).resolve()
-    browser = None
+    page = work / "page" / "verify.html"
+    page.parent.mkdir()
+    subprocess.run([here / "tools" / "web_page.sh", release or here / "dist", page], check=True)
     try:
-        if not chromium:
-            counts.skip("the page", "there is no chromium")
-            return
-        page = work / "page" / "verify.html"
-        page.parent.mkdir()
-        subprocess.run([here / "tools" / "web_page.sh", release or here / "dist", page], check=True)
-        browser = Browser(chromium, work / "profile")
-        if not browser.value(HAS_MEMORY64):
-            counts.skip("the page", "this chromium has no WebAssembly with 64-bit memory")
-            return
-        tests = Tests(browser, page, work)
-        tests.run(few, (release or here / "dist") / "wasm64" / "slh.wasm")
-        if words.screenshot:
-            tests.screenshot(words.screenshot)
+        with_browser("chromium", Browser, page, work, lambda tests: in_chromium(tests, few, module, words.screenshot))
+        with_browser("firefox-esr", Firefox, page, work, lambda tests: in_firefox(tests, few))
     finally:
-        if browser:
-            browser.end()
         shutil.rmtree(work, ignore_errors=True)
+
+
+def with_browser(command, kind, page, work, run):
+    """Runs tests in a browser, if it is there."""
+    path = shutil.which(command)
+    if not path:
+        counts.skip(f"the page in {command}", f"there is no {command}")
+        return
+    browser = kind(path, work / f"profile-{command}")
+    try:
+        run(Tests(browser, page, work))
+    finally:
+        browser.end()
+
+
+def in_chromium(tests, few, module, screenshot):
+    tests.run(few, module)
+    if screenshot:
+        tests.screenshot(screenshot)
+
+
+def in_firefox(tests, few):
+    for label in ["128f"] if few else LABELS:
+        tell(f"Firefox: verdicts of {label}", tests.of_vectors, label)
+    tell("Firefox: damaged", tests.damaged)
 
 
 main()

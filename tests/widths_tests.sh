@@ -5,14 +5,25 @@
 # is proved with these numbers; that it changes nothing where these are the numbers that are there; and that it refuses
 # a module that it does not know.
 #
-# usage: tests/widths_tests.sh
+# usage: tests/widths_tests.sh [--all | LANES..]
 #
-# It stands on what `rt ci` has built. The last line has the counts, and the status is 0 where nothing failed.
+# The tables are run with vectors of LANES lanes, each 1, 4 or 16. Without them one of the three is drawn at random, and
+# named; --all runs them with each. It stands on what `rt ci` has built. The last line has the counts, and the status is
+# 0 if nothing failed.
 set -u
 here=$(cd "$(dirname "${BASH_SOURCE[0]}")/.." && pwd)
 source "$here/tests/counts.sh"
 source "$here/tests/library_parts.sh"
 command -v rt >/dev/null || nothing_to_test "there is no rt"
+widths=(1 4 16)
+case "$*" in
+'') widths=("${widths[RANDOM % 3]}") && echo "with vectors of $widths lanes: tests/widths_tests.sh $widths" ;;
+--all) ;;
+*) widths=("$@") ;;
+esac
+for width in "${widths[@]}"; do
+    [[ $width =~ ^(1|4|16)$ ]] || nothing_to_test "no build has vectors of $width lanes"
+done
 work=$(mktemp -d)
 trap 'rm -rf "$work"' EXIT
 answers='/^define .*@"slh_width::build_widths"() /,/^}/p'
@@ -29,7 +40,7 @@ fn main() {
 lanes() {
     one "slh_conformance is built with vectors of $1 lanes" \
         "$here/tools/program.sh" x86-64-v2 "$work/lanes-$1" slh_conformance "$1" || return
-    count "tables with vectors of $1 lanes" "$here/tests/tables.sh" "$here/vectors/tables" "$work/lanes-$1"
+    count "tables with vectors of $1 lanes" "$here/tests/tables.sh" "$here/tests/vectors/tables" "$work/lanes-$1"
 }
 
 # Builds a program that asks for the widths over the slh_width.rlib of FOLDER, by TOOLCHAIN.
@@ -79,5 +90,5 @@ refuses_another_module() {
 for width in 1 4 16; do one "what is written for $width lanes is proved" writes_what_is_proved "$width"; done
 one "nothing else is written" changes_nothing_else
 one "a module with other answers is refused" refuses_another_module
-for width in 1 4 16; do lanes "$width"; done
+for width in "${widths[@]}"; do lanes "$width"; done
 end_counts

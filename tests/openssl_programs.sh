@@ -1,0 +1,606 @@
+#!/usr/bin/env bash
+# Tries the packages libslh0 and slh-openssl with programs that nobody here wrote, in a new Debian 13. The CA of two
+# levels of docs/OPENSSL.md issues the certificates. Each row of that page's table of programs is tried, and the page
+# has to have the table that this makes. nginx, Apache, HAProxy, lighttpd, stunnel, Python, Node and `openssl s_server`
+# speak TLS 1.3 with curl, Python, Node and `openssl s_client`. Installations are broken under nginx, `openssl ca` and
+# Python.
+#
+# usage: tests/openssl_programs.sh [--few] [--dist DIST]
+#        tests/openssl_programs.sh --table [--dist DIST]      prints the table for the page, and compares nothing
+#        tests/openssl_programs.sh --inside [--table]         in that Debian: what the other two run there
+#
+# It is run before a release: it takes 1.3 GB of the folder for temporary files and some minutes, and downloads 220 MB
+# the first time (~/.cache/slh has them for the next). --few leaves out all but the table. It needs root on Debian,
+# debootstrap and a mirror of Debian 13, a C compiler and OpenSSL 3.5: otherwise all is skipped. The last line has the
+# counts, and the status is 0 if nothing failed.
+set -u
+here=$(cd "$(dirname "${BASH_SOURCE[0]}")/.." && pwd)
+source "$here/tests/counts.sh"
+inside=no table=no
+if [ "${1-}" = --inside ]; then inside=yes && shift; fi
+if [ "${1-}" = --table ]; then table=yes && shift; fi
+take_options "$@"
+[ ${#words[@]} = 0 ] || nothing_to_test "unknown word: ${words[0]}"
+work=$(mktemp -d)
+chmod 755 "$work"
+source "$here/tests/library_parts.sh"
+export LC_ALL=C.UTF-8
+
+# ---- a Debian 13 with these programs ----
+
+programs=(openssl nginx-light apache2 haproxy lighttpd lighttpd-mod-openssl stunnel4 curl wget python3
+    python3-cryptography nodejs php-cli ruby osslsigncode sbsigntool systemd-boot-efi ima-evm-utils valgrind tshark
+    xxd procps)
+
+# A libslh.so.0 of an earlier version, and one in which a call is missing.
+make_wrong_libraries() {
+    local name
+    dpkg -x "$work"/debs/slh-openssl_*.deb "$work/unpacked" &&
+        nm -D --undefined-only "$work"/unpacked/usr/lib/*/ossl-modules/slh.so | awk '$2 ~ /^slh_/ { print $2 }' \
+            >"$work/calls" || return
+    for name in older lesser; do
+        mkdir -p "$root/slh/$name" && sed 's/.*/unsigned &(void) { return 9000; }/' "$work/calls" |
+            cc -shared -fPIC -Wl,-soname,libslh.so.0 -x c - -o "$root/slh/$name/libslh.so.0" || return
+        sed -i '/slh_sign_join/d' "$work/calls"
+    done
+}
+
+installs_programs() {
+    local kbuild
+    in_root apt-get -q update &&
+        kbuild=$(in_root apt-cache search --names-only '^linux-kbuild-6' | awk '{ print $1 }' | sort -V | tail -n 1) &&
+        installs_in_root "${programs[@]}" "$kbuild" \
+            $(cd "$root/slh" && printf '/slh/%s ' debs/libslh0_*.deb debs/slh-openssl_*.deb)
+}
+
+outside() {
+    local options=() name="programs of Debian 13"
+    source "$here/tests/debian_roots.sh"
+    trap 'rm -rf --one-file-system "$work"' EXIT
+    has_trixie "$name" && one "packages are made" "$here/tools/debian.sh" ${release:+"$release"} "$work/debs" ||
+        { end_counts; return; }
+    if ! ls "$work"/debs/slh-openssl_*.deb >"$work/said" 2>&1; then
+        skip "$name" "there is no OpenSSL 3.5 here"
+    elif one "a Debian 13 is made" makes_trixie tests examples docs VERSION "$work/debs" &&
+        one "it has the programs" installs_programs && one "wrong libraries are made" make_wrong_libraries; then
+        [ $few = no ] || options=(--few)
+        if [ $table = yes ]; then
+            in_root tests/openssl_programs.sh --inside --table
+        else
+            runs_inside "$name" ${options[@]+"${options[@]}"}
+        fi
+    fi
+    end_counts
+}
+
+# ---- in it: certificates ----
+
+block_of() { lines_of "$here/docs/OPENSSL.md" "$@"; }
+
+# The page's CA, with all that it issues, in the folder of this test. slh.cnf is as it is installed; tls.cnf has the
+# word for TLS, open.cnf activates the provider and requires nothing, and by mute.cnf the provider signs nothing.
+makes_certificates() {
+    cp "$here/examples/ca.cnf" . && echo "Dear reader," >letter.txt && cp /etc/ssl/slh.cnf . &&
+        sed 's/^# tls = draft/tls = draft/' slh.cnf >tls.cnf &&
+        sed '/^slh_required = /d; /^config_diagnostics/d' tls.cnf >open.cnf &&
+        sed 's/^workers = .*/workers = 0/' open.cnf >mute.cnf || return
+    bash -e -c "$(block_of "A CA of two levels" 1 && block_of "A CA of two levels" 2)" &&
+        cat www.pem issuing.pem >chain.pem && make_self_signed self && make_self_signed next &&
+        openssl req -config ca.cnf -x509 -newkey EC -pkeyopt ec_paramgen_curve:P-256 -nodes -keyout ec.key \
+            -subj /CN=ec -addext subjectAltName=DNS:localhost -out ec.pem && chmod 644 ./*.key ./*.pem
+}
+
+make_self_signed() {
+    OPENSSL_CONF=slh.cnf openssl req -config ca.cnf -x509 -newkey SLH-DSA-SHA2-128f -nodes -keyout "$1.key" \
+        -subj "/CN=$1" -addext subjectAltName=DNS:localhost -out "$1.pem"
+}
+
+# ---- in it: the table ----
+
+unchanged() (unset OPENSSL_CONF && "$@")
+
+# What a program wrote is a signature of letter.txt that an unchanged OpenSSL takes: FILE.
+is_signature() { unchanged openssl pkeyutl -verify -rawin -certin -inkey self.pem -in letter.txt -sigfile "$1"; }
+
+by_openssl() { openssl "$1" -sign "${@:2}" -inkey self.key -in letter.txt -out made && is_signature made; }
+by_dgst() { openssl dgst "$@" -sign self.key -out made letter.txt && is_signature made; }
+by_cms() {
+    openssl cms -sign -binary -nodetach "$@" -in letter.txt -signer self.pem -inkey self.key -outform DER -out made &&
+        unchanged openssl cms -verify -binary -inform DER -in made -CAfile self.pem -out read && cmp read letter.txt
+}
+by_smime() { openssl smime -sign -md sha256 -in letter.txt -signer self.pem -inkey self.key -out made; }
+by_pkcs12() {
+    openssl pkcs12 -export -inkey self.key -in self.pem -passout pass:x -out made &&
+        unchanged openssl pkcs12 -in made -passin pass:x -nodes -nocerts | openssl pkey | cmp - self.key
+}
+by_ca() {
+    unchanged openssl verify -CAfile root.pem -untrusted issuing.pem -crl_check_all -CRLfile all.crl signer.pem
+}
+by_ocsp() { grep revoked status; }
+by_ts() {
+    sed 's/^signer_cert.*/signer_cert = stamp.pem/; s/^signer_key.*/signer_key = self.key/; /^certs/d' ca.cnf >ts.cnf &&
+        openssl req -config ca.cnf -x509 -new -key self.key -subj /CN=ts \
+            -addext extendedKeyUsage=critical,timeStamping -out stamp.pem &&
+        openssl ts -reply -config ts.cnf -queryfile letter.tsq -out made &&
+        unchanged openssl ts -verify -data letter.txt -in made -CAfile stamp.pem
+}
+by_php() {
+    php -r '$key = openssl_pkey_get_private(file_get_contents("self.key"));
+        if (!openssl_sign(file_get_contents("letter.txt"), $made, $key, $argv[1] ?: 0)) exit(1);
+        file_put_contents("made", $made);' -- "$@" && is_signature made
+}
+by_ruby() {
+    ruby -ropenssl -e 'key = OpenSSL::PKey.read(File.read("self.key"))
+        File.binwrite("made", key.sign(nil, File.binread("letter.txt")))
+        exit key.verify(nil, File.binread("made"), File.binread("letter.txt"))' && is_signature made
+}
+by_node() {
+    node -e 'const {createPrivateKey, createPublicKey, sign, verify} = require("crypto"), fs = require("fs");
+        const key = createPrivateKey(fs.readFileSync("self.key")), text = fs.readFileSync("letter.txt");
+        fs.writeFileSync("made", sign(null, text, key));
+        if (!verify(null, text, createPublicKey(key), fs.readFileSync("made"))) process.exit(1);' && is_signature made
+}
+by_cryptography() {
+    python3 -c 'from cryptography.hazmat.primitives.serialization import load_pem_private_key
+key = load_pem_private_key(open("self.key", "rb").read(), None)
+open("made", "wb").write(key.sign(open("letter.txt", "rb").read()))'
+}
+by_sign_file() { /usr/lib/linux-kbuild-*/scripts/sign-file sha256 self.key self.pem letter.txt made; }
+by_evmctl() {
+    cp /usr/bin/true elf && evmctl ima_sign --key self.key --hashalgo sha256 --sigfile elf &&
+        [ "$(stat -c %s elf.sig)" -gt 17088 ]
+}
+by_osslsigncode() { osslsigncode sign -certs self.pem -key self.key -in "$efi" -out made; }
+by_sbsign() { sbsign --key self.key --cert self.pem --output made "$efi"; }
+efi=/usr/lib/systemd/boot/efi/systemd-bootx64.efi
+
+# A row: PROGRAM, whether it signs under a CONFIGURATION, why not, what to do instead, COMMAND. It is `no` if the
+# command fails, or if the signature that it says it wrote is none; and the default provider then fails, too. A `yes`
+# has to become `no` if the provider signs nothing: so it is this provider that signs.
+row() {
+    local program=$1 wanted=$2 config=$3 why=$4 instead=$5 seen=no
+    shift 5
+    rm -f made
+    OPENSSL_CONF=$config "$@" >said 2>&1 && seen=yes
+    printf '%s\t%s\t%s\t%s\n' "$program" $seen "$why" "$instead" >>rows
+    [ $seen = "$wanted" ] || { tail -n 5 said && return 1; }
+    if [ $seen = no ]; then
+        ! unchanged "$@"
+    elif [[ " by_ca by_ocsp by_pkcs12 " != *" $1 "* ]]; then
+        rm -f made
+        ! OPENSSL_CONF=$PWD/mute.cnf "$@"
+    fi
+}
+
+# The rows; each is one test, by its group and its program's name.
+try_rows() {
+    local name config=$PWD/slh.cnf whole="SLH-DSA hashes the message itself" pkcs7="PKCS #7 has no SLH-DSA"
+    local use_cms='`openssl cms -sign -md sha256`' package='[our package](../bindings/README.md)'
+    yes_row() { one "$1" row "$1" yes "$config" "" "" "${@:2}"; }
+    no_row() { one "$1" row "$1" no "$config" "${@:2}"; }
+    name_row() { yes_row "TLS 1.3 $1: $2" "$3" "$(echo "${2##* }" | tr A-Z a-z | tr -d '`')"; }
+    : >rows
+    yes_row '`openssl`: `genpkey`, `req`, `x509`, `ca`, `crl`, `verify`' by_ca
+    yes_row '`openssl`: `ocsp`' by_ocsp
+    yes_row '`openssl`: `pkcs12 -export`' by_pkcs12
+    yes_row '`openssl`: `pkeyutl -sign -rawin`' by_openssl pkeyutl -rawin
+    yes_row '`openssl`: `dgst -sign`' by_dgst
+    yes_row '`openssl`: `cms -sign -md sha256`' by_cms -md sha256
+    no_row '`openssl`: `dgst -sha256 -sign`' "$whole" "leave out \`-sha256\`" by_dgst -sha256
+    no_row '`openssl`: `cms -sign` without `-md`' "it finds no digest for the key" "\`-md sha256\`" by_cms
+    no_row '`openssl`: `cms -sign -noattr`' "it would sign a digest" "leave out \`-noattr\`" by_cms -noattr -md sha256
+    no_row '`openssl`: `smime -sign`' "$pkcs7" "$use_cms" by_smime
+    no_row '`openssl`: `ts -reply` with an SLH-DSA key' "$pkcs7; status 0" "an ECDSA key" by_ts
+    yes_row 'languages: Node `crypto.sign(null, ..)`' by_node
+    yes_row 'languages: Ruby `OpenSSL::PKey#sign(nil, ..)`' by_ruby
+    yes_row 'languages: PHP `openssl_sign` with algorithm 0' by_php 0
+    no_row 'languages: PHP `openssl_sign` with a digest' "$whole" "algorithm 0" by_php sha256
+    no_row 'languages: Python `cryptography` 43' "it has no SLH-DSA keys" "$package" by_cryptography
+    no_row '`sign-file` of Linux 6.12' "it signs CMS without attributes" "an ECDSA key" by_sign_file
+    no_row '`evmctl ima_sign`' "its format has room for 1 KB; status 0" "an ECDSA key" by_evmctl
+    no_row 'PE files: `osslsigncode`' "$pkcs7" "$use_cms, a separate file" by_osslsigncode
+    no_row 'PE files: `sbsign`' "$pkcs7" "$use_cms, a separate file" by_sbsign
+    config=$PWD/tls.cnf
+    for name in nginx Apache HAProxy lighttpd stunnel Python Node '`openssl s_server`'; do
+        name_row servers "$name" by_server
+    done
+    for name in curl Python Node '`openssl s_client`'; do name_row clients "$name" by_client; done
+    no_row 'TLS 1.3 clients: wget' "it has GnuTLS" "curl" by_client wget
+}
+
+# Programs of a group that differ in nothing else share a row.
+print_table() {
+    printf '| program | signs by `slh` | why not | instead |\n|---|---|---|---|\n'
+    awk -F '\t' '{
+        at = index($1, ": ")
+        rest = $2 " | " $3 " | " $4
+        row = substr($1, 1, at) (at ? "" : NR) rest
+        if (row in programs) { programs[row] = programs[row] ", " substr($1, at + 2); next }
+        order[++count] = row; programs[row] = $1; rests[row] = rest
+    } END { for (at = 1; at <= count; at++) print "| " programs[order[at]] " | " rests[order[at]] " |" }' rows
+}
+
+# The page has this table.
+page_has_the_table() {
+    diff <(awk '/^## / { here = $0 == "## Programs" } here && /^\|/' "$here/docs/OPENSSL.md") <(print_table)
+}
+
+# ---- in it: TLS ----
+
+ports=8443
+folder_of() { echo "$PWD/servers/$1"; }
+
+# Each of these writes a server's configuration and starts it, in the background: NAME CERTIFICATE KEY.
+write_nginx() {
+    cat >"$folder/conf" <<ENDS
+pid $folder/pid; error_log $folder/log; worker_processes 2;
+events {}
+http {
+    access_log off;
+    client_body_temp_path $folder/a; proxy_temp_path $folder/b; fastcgi_temp_path $folder/c;
+    uwsgi_temp_path $folder/d; scgi_temp_path $folder/e;
+    server {
+        listen 127.0.0.1:$port ssl;
+        ssl_certificate $2; ssl_certificate_key $3;
+        ${4-}
+        location / { return 200 "hello \$ssl_client_verify\n"; }
+    }
+}
+ENDS
+}
+start_nginx() { write_nginx "$@" && nginx -c "$folder/conf"; }
+start_apache() {
+    cat >"$folder/conf" <<ENDS
+ServerRoot $folder
+ServerName localhost
+PidFile $folder/pid
+ErrorLog $folder/log
+Listen 127.0.0.1:$port
+LoadModule mpm_event_module /usr/lib/apache2/modules/mod_mpm_event.so
+LoadModule ssl_module /usr/lib/apache2/modules/mod_ssl.so
+LoadModule authz_core_module /usr/lib/apache2/modules/mod_authz_core.so
+User www-data
+Group www-data
+DocumentRoot $PWD
+<VirtualHost 127.0.0.1:$port>
+SSLEngine on
+SSLCertificateFile $2
+SSLCertificateKeyFile $3
+</VirtualHost>
+ENDS
+    apache2 -f "$folder/conf"
+}
+start_haproxy() {
+    cat "$2" "$3" >"$folder/both.pem"
+    printf '%s\n' "defaults" "mode http" "timeout client 9s" "timeout server 9s" "timeout connect 9s" "frontend it" \
+        "bind 127.0.0.1:$port ssl crt $folder/both.pem" \
+        'http-request return status 200 content-type text/plain string hello' >"$folder/conf"
+    haproxy -D -f "$folder/conf" -p "$folder/pid"
+}
+start_lighttpd() {
+    printf '%s\n' 'server.modules = ("mod_openssl")' "server.document-root = \"$PWD\"" "server.port = $port" \
+        'server.bind = "127.0.0.1"' "server.pid-file = \"$folder/pid\"" 'ssl.engine = "enable"' "ssl.pemfile = \"$2\"" \
+        "ssl.privkey = \"$3\"" >"$folder/conf"
+    lighttpd -f "$folder/conf"
+}
+start_stunnel() {
+    printf '%s\n' '#!/bin/sh' 'while read -r line && [ ${#line} -gt 1 ]; do :; done' \
+        'printf "HTTP/1.0 200 OK\r\n\r\nhello\n"' >"$folder/run"
+    chmod +x "$folder/run"
+    printf '%s\n' "pid =" "foreground = yes" "output = $folder/log" "[it]" "accept = 127.0.0.1:$port" \
+        "exec = $folder/run" "cert = $2" "key = $3" >"$folder/conf"
+    stunnel4 "$folder/conf" </dev/null &
+    echo $! >"$folder/pid"
+}
+start_python() {
+    python3 -c 'import http.server, ssl, sys
+context = ssl.SSLContext(ssl.PROTOCOL_TLS_SERVER)
+context.load_cert_chain(*sys.argv[2:])
+server = http.server.HTTPServer(("127.0.0.1", int(sys.argv[1])), http.server.SimpleHTTPRequestHandler)
+server.socket = context.wrap_socket(server.socket, server_side=True)
+server.serve_forever()' "$port" "$2" "$3" >"$folder/log" 2>&1 &
+    echo $! >"$folder/pid"
+}
+start_node() {
+    node -e 'const [port, cert, key] = process.argv.slice(1), {readFileSync} = require("fs");
+        require("https").createServer({cert: readFileSync(cert), key: readFileSync(key)}, (asked, answer) =>
+            answer.end("hello")).listen(+port, "127.0.0.1")' "$port" "$2" "$3" >"$folder/log" 2>&1 &
+    echo $! >"$folder/pid"
+}
+start_s_server() {
+    openssl s_server -accept "127.0.0.1:$port" -cert "$2" -cert_chain issuing.pem -key "$3" -www >"$folder/log" 2>&1 &
+    echo $! >"$folder/pid"
+}
+
+# Starts a server by NAME with CERTIFICATE and KEY, at a port of its own, and waits until it listens.
+start() {
+    local turn
+    folder=$(folder_of "$1") port=$((ports += 1))
+    rm -rf "$folder" && mkdir -p "$folder" && chmod 777 "$folder" && "start_$1" "$@" || return
+    for turn in {1..100}; do
+        ! (: <>"/dev/tcp/127.0.0.1/$port") 2>/dev/null || return 0
+        [ ! -s "$folder/pid" ] || kill -0 "$(cat "$folder/pid")" || break
+        sleep 0.1
+    done
+    cat "$folder/log"
+    return 1
+}
+
+stop() {
+    local turn
+    [ ! -s "$folder/pid" ] || kill "$(cat "$folder/pid")" 2>/dev/null
+    for turn in {1..50}; do (: <>"/dev/tcp/127.0.0.1/$port") 2>/dev/null || return 0; sleep 0.1; done
+}
+
+# Asks the server for its page, as NAME, trusting a CA; with a client certificate where one is given.
+ask_curl() { curl -s --max-time 20 --cacert "$1" ${2:+--cert "$2" --key "$3"} "https://localhost:$port/letter.txt"; }
+ask_wget() { wget -q -T 20 -O - --ca-certificate "$1" "https://localhost:$port/letter.txt"; }
+ask_python() {
+    python3 -c 'import ssl, sys, urllib.request
+context = ssl.create_default_context(cafile=sys.argv[2])
+if sys.argv[3:]: context.load_cert_chain(*sys.argv[3:])
+print(urllib.request.urlopen(f"https://localhost:{sys.argv[1]}/letter.txt", context=context).read())' "$port" "$@"
+}
+ask_node() {
+    node -e 'const [port, ca, cert, key] = process.argv.slice(1), {readFileSync} = require("fs");
+        require("https").get({host: "localhost", port, path: "/letter.txt", ca: readFileSync(ca),
+            ...(cert && {cert: readFileSync(cert), key: readFileSync(key)})},
+            (answer) => answer.on("data", (it) => console.log("" + it)))
+            .on("error", (it) => { console.log(it.message); process.exit(1) })' "$port" "$@"
+}
+ask_s_client() {
+    printf 'GET /letter.txt HTTP/1.0\r\n\r\n' | timeout 20 openssl s_client -connect "localhost:$port" -CAfile "$1" \
+        -verify_return_error -quiet ${2:+-cert "$2" -cert_chain issuing.pem -key "$3"}
+}
+
+# What is seen of a handshake by a client that knows the code points: TYPE of the server's signature, more words.
+signature_is() {
+    echo Q | OPENSSL_CONF=tls.cnf timeout 20 openssl s_client -connect "localhost:$port" -brief -verify_return_error \
+        "${@:2}" >seen 2>&1
+    grep -qx "Signature type: $1" seen && grep -q '^Verification: OK' seen || { cat seen && return 1; }
+}
+
+# A server has a chain of two certificates of the page's CA.
+by_server() {
+    start "$1" "$PWD/$([ "$1" = s_server ] && echo www.pem || echo chain.pem)" "$PWD/www.key" &&
+        signature_is slhdsa_sha2_128f -CAfile root.pem && ask_curl root.pem >answer && [ -s answer ]
+    local status=$?
+    stop
+    return $status
+}
+
+# A client asks nginx, with a certificate of its own, which nginx judges.
+by_client() {
+    local status
+    OPENSSL_CONF=tls.cnf start nginx "$PWD/chain.pem" "$PWD/www.key" "ssl_client_certificate $PWD/root.pem;
+        ssl_verify_client optional; ssl_verify_depth 3;" || return
+    cat signer.pem issuing.pem >signer_chain.pem
+    "ask_$1" root.pem signer_chain.pem signer.key >answer 2>&1
+    status=$?
+    stop
+    cat answer
+    [ $status = 0 ] && grep -q 'hello SUCCESS' answer
+}
+
+# The numbers of the six sets in what a client sends are those that Wireshark knows.
+code_points_are_wiresharks() {
+    local set number status=1
+    tshark -G values 2>/dev/null >values
+    OPENSSL_CONF=tls.cnf start nginx "$PWD/self.pem" "$PWD/self.key" || return
+    for set in 128s 128f 192s 192f 256s 256f; do
+        number=$(awk -v name=slhdsa_sha2_$set '$2 == "tls.handshake.sig_hash_alg" && $4 == name { print $3 }' values)
+        echo | OPENSSL_CONF=tls.cnf openssl s_client -connect "localhost:$port" -msg -sigalgs slhdsa_sha2_$set 2>&1 |
+            tr -d ' \n' | grep -qi "000d00040002$(printf '%04x' "$number")"
+        status=$?
+        [ $status = 0 ] || break
+    done
+    stop
+    return $status
+}
+
+# nginx takes other certificates on reload, while it runs.
+nginx_reloads() {
+    local status turn name
+    cp self.pem reload.pem && cp self.key reload.key &&
+        OPENSSL_CONF=tls.cnf start nginx "$PWD/reload.pem" "$PWD/reload.key" || return
+    for name in self next self next; do
+        cp $name.pem reload.pem && cp $name.key reload.key && OPENSSL_CONF=tls.cnf nginx -c "$folder/conf" -s reload
+        for turn in {1..50}; do ! signature_is slhdsa_sha2_128f -CAfile $name.pem || break; sleep 0.1; done
+        status=$? && signature_is slhdsa_sha2_128f -CAfile $name.pem || { stop; return 1; }
+    done
+    stop
+}
+
+# With two certificates a client that lacks the code points is given the ECDSA one. By the page's lines SLH-DSA goes
+# first for one that has them.
+two_certificates() {
+    local status
+    OPENSSL_CONF=tls.cnf start nginx "$PWD/self.pem" "$PWD/self.key" "ssl_certificate $PWD/ec.pem;
+        ssl_certificate_key $PWD/ec.key; $(block_of "TLS 1.3" 1 | tail -n 2)" &&
+        signature_is slhdsa_sha2_128f -CAfile self.pem && signature_is ecdsa_secp256r1_sha256 -CAfile ec.pem \
+            -sigalgs ECDSA+SHA256 && unchanged ask_curl ec.pem && ! unchanged ask_curl self.pem
+    status=$?
+    stop
+    return $status
+}
+
+# A client without the provider gets an alert from a server that has nothing else, and the server goes on.
+others_are_refused() {
+    local status
+    OPENSSL_CONF=tls.cnf start nginx "$PWD/self.pem" "$PWD/self.key" || return
+    ! unchanged curl -sS --max-time 20 --cacert self.pem "https://localhost:$port/" 2>said && cat said &&
+        grep -q 'handshake failure' said && signature_is slhdsa_sha2_128f -CAfile self.pem
+    status=$?
+    stop
+    return $status
+}
+
+# Each set, as the page says which chains fit.
+each_set_serves() {
+    local set type status
+    for set in 128s 128f 192s 192f 256s 256f; do
+        OPENSSL_CONF=tls.cnf openssl req -config ca.cnf -x509 -newkey SLH-DSA-SHA2-$set -nodes -keyout set.key \
+            -subj /CN=set -addext subjectAltName=DNS:localhost -out set.pem &&
+            OPENSSL_CONF=tls.cnf start nginx "$PWD/set.pem" "$PWD/set.key" || return
+        signature_is slhdsa_sha2_$set -CAfile set.pem && OPENSSL_CONF=tls.cnf ask_curl set.pem | grep hello
+        status=$?
+        stop
+        [ $status = 0 ] || return
+    done
+}
+
+# A chain of two certificates of 256f is within OpenSSL's limit for chains, and with the root it is not: the client says
+# so.
+chains_of_256f() (
+    mkdir -p chains && cd chains && cp ../ca.cnf ../letter.txt ../tls.cnf . && export OPENSSL_CONF=$PWD/tls.cnf || exit
+    bash -e -c "$(block_of "A CA of two levels" 1 | sed '/OPENSSL_CONF/d; s/SHA2-128[sf]/SHA2-256f/')" || exit
+    for name in two three; do
+        cat www.pem issuing.pem >$name.pem
+        [ $name = two ] || cat root.pem >>$name.pem
+        start nginx "$PWD/$name.pem" "$PWD/www.key" || exit
+        signature_is slhdsa_sha2_256f -CAfile root.pem
+        status=$?
+        cat seen
+        stop
+        [ $name = three ] || [ $status = 0 ] || exit
+    done
+    [ $status != 0 ] && grep 'excessive message size' seen
+)
+
+# Both ends of a handshake under valgrind: no error, and nothing is lost.
+valgrind_sees_nothing() {
+    local under=(valgrind -q --error-exitcode=9 --leak-check=full --errors-for-leak-kinds=definite) server status turn
+    OPENSSL_CONF=tls.cnf timeout 1200 "${under[@]}" openssl s_server -unix valgrind.socket -naccept 1 -www \
+        -cert self.pem -key self.key -CAfile self.pem -Verify 2 >server.out 2>&1 &
+    server=$!
+    for turn in {1..1000}; do [ ! -S valgrind.socket ] || break; sleep 0.2; done
+    printf 'GET / HTTP/1.0\r\n\r\n' | OPENSSL_CONF=tls.cnf timeout 600 "${under[@]}" openssl s_client \
+        -unix valgrind.socket -CAfile self.pem -cert self.pem -key self.key -brief -ign_eof >client.out 2>&1
+    status=$?
+    grep -a ' ' client.out | grep -av '..:..:..:' | cat - server.out
+    wait $server && [ $status = 0 ] && grep -aq '^Signature type: slhdsa_sha2_128f' client.out &&
+        grep -aq '^Peer signature type: slhdsa_sha2_128f' client.out && ! grep -a '^==' server.out client.out
+}
+
+# ---- in it: broken installations ----
+
+module=/usr/lib/x86_64-linux-gnu/ossl-modules/slh.so library=/usr/lib/x86_64-linux-gnu/libslh.so.0
+
+at_a_wrong_path() { sed -i "s|$module|/nowhere/slh.so|" broken-*.cnf; }
+without_the_library() { mv $library $library.away; }
+with_an_older_library() { mv $library $library.away && cp "$here/older/libslh.so.0" $library; }
+with_a_lesser_library() { mv $library $library.away && cp "$here/lesser/libslh.so.0" $library; }
+with_an_unreadable_module() { chmod 600 $module; }
+with_lost_settings() { sed -i 's/^twice = 0/twise = 1/; s/^\(settings = .*\)twice=0/\1twice=1/' broken-*.cnf; }
+restore() {
+    [ ! -e $library.away ] || mv $library.away $library
+    chmod 644 $module
+}
+
+# As a user without rights, since root may read everything.
+as_user() { setpriv --reuid=65534 --regid=65534 --clear-groups "$@"; }
+
+runs_nginx() {
+    folder=$(folder_of broken) port=$((ports += 1))
+    rm -rf "$folder" && mkdir -p "$folder" && chmod 777 "$folder" || return
+    write_nginx nginx "$PWD/ec.pem" "$PWD/ec.key"
+    as_user nginx -c "$folder/conf" && { stop || true; }
+}
+runs_ca() {
+    rm -rf user && mkdir user && cp ca.cnf root.pem root.key issuing.csr user/ && touch user/root.txt &&
+        echo 01 >user/root.number && chmod -R a+rwX user &&
+        (cd user && as_user openssl ca -config ca.cnf -name root -batch -notext -in issuing.csr -out issuing.pem) &&
+        [ -s user/issuing.pem ]
+}
+runs_python() {
+    as_user python3 -c 'import ssl, sys
+ssl.SSLContext(ssl.PROTOCOL_TLS_SERVER).load_cert_chain(*sys.argv[1:])' ec.pem ec.key
+}
+
+# A server with an ECDSA certificate, and curl under the configuration of OPENSSL_CONF.
+runs_server() {
+    local status
+    start "$1" "$PWD/ec.pem" "$PWD/ec.key" && unchanged ask_curl ec.pem >answer && [ -s answer ]
+    status=$?
+    stop
+    return $status
+}
+runs_curl() {
+    local status
+    OPENSSL_CONF=/dev/null start nginx "$PWD/ec.pem" "$PWD/ec.key" || return
+    ask_curl ec.pem | grep hello
+    status=$?
+    stop
+    return $status
+}
+
+# One way to break it, for one command: it runs before. After it, it goes on under a configuration that only activates
+# the provider, and stops under slh.cnf.
+stops() {
+    local way=$1 status
+    shift
+    under() { rm -f made && OPENSSL_CONF=$PWD/broken-$1.cnf "${@:2}"; }
+    cp slh.cnf broken-closed.cnf && cp open.cnf broken-open.cnf && sed -i '/^tls = /d' broken-open.cnf &&
+        under closed "$@" && under open "$@" || return
+    "$way" && under open "$@" && ! under closed "$@"
+    status=$?
+    restore
+    return $status
+}
+
+# By the page's line OpenSSL's own configuration needs the provider, for programs that are told of no other.
+stops_by_openssl_cnf() {
+    local status
+    cp /etc/ssl/openssl.cnf kept.cnf && eval "$(block_of "Be sure that it signs" 1 | tail -n 1)" &&
+        unchanged "runs_$1" && without_the_library && ! unchanged "runs_$1"
+    status=$?
+    restore
+    cp kept.cnf /etc/ssl/openssl.cnf
+    return $status
+}
+
+# ---- all of it ----
+
+inside() {
+    local way program
+    cd "$work" || return
+    umask 022
+    one "the page's CA issues" makes_certificates || { end_counts; return 1; }
+    if [ $table = yes ]; then
+        try_rows >"$work/rows.log" 2>&1
+        print_table
+        return
+    fi
+    try_rows
+    one "the page has the table of programs" page_has_the_table
+    if [ $few = no ]; then
+        one "the code points are Wireshark's" code_points_are_wiresharks
+        one "nginx serves each set" each_set_serves
+        one "a chain of 256f is of two certificates" chains_of_256f
+        one "nginx reloads other certificates" nginx_reloads
+        one "nginx has two certificates" two_certificates
+        one "clients without the provider are refused" others_are_refused
+        one "valgrind sees no error in a handshake" valgrind_sees_nothing
+        for way in at_a_wrong_path without_the_library with_an_older_library with_a_lesser_library \
+            with_an_unreadable_module with_lost_settings; do
+            for program in nginx ca python; do one "$program ${way//_/ } stops" stops $way runs_$program; done
+        done
+        for way in without_the_library with_lost_settings; do
+            for program in apache haproxy lighttpd stunnel node s_server; do
+                one "$program ${way//_/ } stops" stops $way runs_server $program
+            done
+            one "curl ${way//_/ } stops" stops $way runs_curl
+            one "PHP signs nothing ${way//_/ }" stops $way by_php 0
+            one "Ruby signs nothing ${way//_/ }" stops $way by_ruby
+        done
+        for program in nginx ca python; do one "$program by openssl.cnf stops" stops_by_openssl_cnf $program; done
+    fi
+    end_counts
+}
+
+if [ $inside = yes ]; then
+    trap 'rm -rf "$work"' EXIT
+    inside
+else
+    outside
+fi
