@@ -1,8 +1,8 @@
-//! Verdicts that one fault of the machine does not turn, for boot loaders: a register that loses a bit, an instruction
-//! that is skipped.
+//! Verdicts for boot loaders that a fault in one comparison does not turn (ours).
 //!
-//! A verdict is the sum of two halves, and each half comes from a comparison of its own with PK.root. One comparison that
-//! is turned gives a sum that is no verdict. `tests/glitches.py` tries the faults (ours).
+//! A verdict is the sum of two halves, and each half comes from a comparison of its own with PK.root. If one comparison
+//! is turned, then the sum is neither verdict. `tests/glitches.py` skips instructions and clears registers; no other
+//! fault is claimed to be harmless.
 ghost use Rattle.std.specs.Prelude.{◌≡◌, ◌≢◌, ◌↔◌, ◌≤◌, IsTrue, length};
 ghost use Rattle.slh_params.specs.Params.{sig_len};
 ghost use Rattle.slh_params.specs.ParamSet.{params};

@@ -5,7 +5,7 @@ use Rattle.slh_params.specs.Address.{Address, WOTS_HASH}
 use Rattle.slh_params.specs.Params.{Params, w}
 use Rattle.slh_hash.specs.Hash.{F}
 use Rattle.slh_lanes.specs.Steps.{steps}
-use Rattle.slh_few.specs.Parts.{part}
+use Rattle.slh_few.specs.Chunks.{chunk}
 use Rattle.slh_few.specs.Wots.{chain, wots_address, digit, finished_chain}
 use Rattle.slh_few.specs.declared.place.Place.{Place}
 
@@ -52,8 +52,8 @@ chain-rest p pk at c x d last le =
 
 -- the chain that a program runs on from a signature's value
 pub finished_as : (p : Params) (pk : List ℕ) (at : Place) (m sig : List ℕ) (c n d last : ℕ) (x : List ℕ) → last ≡ w p - 1
-    → x ≡ part n sig c → n ≡ p.n → d ≡ digit p m c → chain p pk at c x d (last - d) ≡ finished_chain p pk at m sig c
+    → x ≡ chunk n sig c → n ≡ p.n → d ≡ digit p m c → chain p pk at c x d (last - d) ≡ finished_chain p pk at m sig c
 finished_as p pk at m sig c n d last x e ex en ed =
-    ap (λ y. chain p pk at c y d (last - d)) (ex ∙ ap (λ k. part k sig c) en)
-    ∙ ap (λ j. chain p pk at c (part p.n sig c) j (last - j)) ed
-    ∙ ap (λ u. chain p pk at c (part p.n sig c) (digit p m c) (u - digit p m c)) e
+    ap (λ y. chain p pk at c y d (last - d)) (ex ∙ ap (λ k. chunk k sig c) en)
+    ∙ ap (λ j. chain p pk at c (chunk p.n sig c) j (last - j)) ed
+    ∙ ap (λ u. chain p pk at c (chunk p.n sig c) (digit p m c) (u - digit p m c)) e

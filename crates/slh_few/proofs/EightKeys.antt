@@ -13,7 +13,7 @@ use Rattle.slh_lanes.specs.Steps.{steps}
 use Rattle.slh_lanes.specs.declared.lane_stream.LaneStream.{LaneStream}
 use Rattle.slh_few.specs.KeyStreams.{AreAfter, AreEnds, HaveAbsorbedEnds, key_at}
 use Rattle.slh_few.specs.LaneValues.{HasValues}
-use Rattle.slh_few.specs.Parts.{end_to_end}
+use Rattle.slh_few.specs.Chunks.{end_to_end}
 use Rattle.slh_few.specs.Wots.{wots_address, chain, secret, whole_chain, wots_pk}
 use Rattle.slh_few.specs.Xmss.{AreKeysFrom, place}
 use Rattle.slh_few.specs.declared.place.Place.{Place}

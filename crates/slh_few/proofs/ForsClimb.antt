@@ -14,10 +14,10 @@ use Rattle.slh_tree.specs.Climb.{climb_to, parent, path_node}
 use Rattle.slh_tree.specs.Tree.{MerkleTree, Lawful}
 use Rattle.slh_few.specs.Fors.{fors_tree}
 use Rattle.slh_few.specs.ForsRoots.{climbed}
-use Rattle.slh_few.specs.Parts.{part}
+use Rattle.slh_few.specs.Chunks.{chunk}
 use Rattle.slh_few.specs.Trees.{fors_tree-lawful}
 
--- one level down the trees before have twice as many nodes
+-- one height down the trees before have twice as many nodes
 before_twice : (t a z : ℕ) → z < a → t * 2 ^ (a - z) ≡ 2 * (t * 2 ^ (a - (z + 1)))
 before_twice t a z lt =
     let e : a - z ≡ 1 + (a - (z + 1)) = omega arith in
@@ -52,10 +52,10 @@ parent_numbered p sk pk t i j z y u own other value lt is even odd =
     ]
 
 -- the secret is the first node of a tree's part of a signature, and the path's nodes are those after it
-pub secret_first : (n : ℕ) (own : List ℕ) → part n own 0 ≡ take n own
+pub secret_first : (n : ℕ) (own : List ℕ) → chunk n own 0 ≡ take n own
 secret_first n own = let e : 0 * n ≡ 0 = omega arith in ap (λ (k : ℕ). take n (drop k own)) e
 
-pub path_after : (n z : ℕ) (own : List ℕ) → part n own (z + 1) ≡ path_node n (drop n own) z
+pub path_after : (n z : ℕ) (own : List ℕ) → chunk n own (z + 1) ≡ path_node n (drop n own) z
 path_after n z own =
     let e : (z + 1) * n ≡ n + z * n = omega arith in
     ap (λ (k : ℕ). take n (drop k own)) e ∙ ap (take n) (sym (drop-drop (z * n) n own))

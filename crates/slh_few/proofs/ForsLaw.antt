@@ -12,11 +12,11 @@ use Rattle.slh_hash.proofs.Lengths.{length-PRF}
 use Rattle.slh_tree.specs.Tree.{root}
 use Rattle.slh_tree.specs.Climb.{path, climb, path_node}
 use Rattle.slh_tree.proofs.Authentic.{climb-path, length-path_below}
-use Rattle.slh_few.specs.Parts.{end_to_end, part}
+use Rattle.slh_few.specs.Chunks.{end_to_end, chunk}
 use Rattle.slh_few.specs.Fors.{fors_secret, fors_leaf, fors_tree, fors_index, fors_part_len, fors_part, fors_sig, fors_root, fors_pk_from_sig, compressed_roots}
 use Rattle.slh_few.specs.Trees.{fors_tree-lawful}
 use Rattle.slh_few.proofs.Climbing.{climb_to-join}
-use Rattle.slh_few.proofs.Ends.{part-end_to_end, end_to_end-same}
+use Rattle.slh_few.proofs.Ends.{chunk-end_to_end, end_to_end-same}
 use Rattle.slh_few.proofs.XmssLaw.{take_front}
 
 -- a secret has n bytes
@@ -55,12 +55,12 @@ fors_root-part s sk pk t i md j =
 
 -- so does its part of a whole signature
 root-part : (s : ParamSet) (sk pk : List ℕ) (t i : ℕ) (md : List ℕ) (j : ℕ) → j < (params s).k
-    → fors_root (params s) pk t i md j (part (fors_part_len (params s)) (fors_sig (params s) sk pk t i md) j) ≡ root (fors_tree (params s) sk pk t i j)
+    → fors_root (params s) pk t i md j (chunk (fors_part_len (params s)) (fors_sig (params s) sk pk t i md) j) ≡ root (fors_tree (params s) sk pk t i j)
 unfolding fors_sig
 root-part s sk pk t i md j l =
     let p = params s in
-    let here : part (fors_part_len p) (end_to_end (fors_part p sk pk t i md) p.k) j ≡ fors_part p sk pk t i md j =
-    part-end_to_end (fors_part p sk pk t i md) (fors_part_len p) p.k j l (λ c q. length-fors_part s sk pk t i md c) in
+    let here : chunk (fors_part_len p) (end_to_end (fors_part p sk pk t i md) p.k) j ≡ fors_part p sk pk t i md j =
+    chunk-end_to_end (fors_part p sk pk t i md) (fors_part_len p) p.k j l (λ c q. length-fors_part s sk pk t i md c) in
     ap (fors_root p pk t i md j) here ∙ fors_root-part s sk pk t i md j
 
 -- the signature's key is T over the roots
@@ -72,4 +72,4 @@ fors_pk_from_sig-fors_sig s sk pk t i md =
     let p = params s in
     let sig = fors_sig p sk pk t i md in
     ap (λ x. T p pk (address 0 t 4 i 0 0) x)
-    (end_to_end-same (λ j. fors_root p pk t i md j (part (fors_part_len p) sig j)) (λ j. root (fors_tree p sk pk t i j)) p.k (root-part s sk pk t i md))
+    (end_to_end-same (λ j. fors_root p pk t i md j (chunk (fors_part_len p) sig j)) (λ j. root (fors_tree p sk pk t i j)) p.k (root-part s sk pk t i md))

@@ -6,12 +6,12 @@ use Rattle.slh_params.specs.ParamSet.{params}
 use Rattle.slh_params.specs.declared.param_set.ParamSet.{ParamSet}
 use Rattle.slh_tree.specs.Tree.{root}
 use Rattle.slh_tree.specs.Climb.{path}
-use Rattle.slh_few.specs.Parts.{end_to_end, part}
+use Rattle.slh_few.specs.Chunks.{end_to_end, chunk}
 use Rattle.slh_few.specs.Wots.{wots_sig}
 use Rattle.slh_few.specs.Xmss.{xmss_tree, xmss_sig, xmss_pk_from_sig, xmss_sig_len}
 use Rattle.slh_few.specs.Hypertree.{layer_place, signed_at, layer_sig, ht_sig, root_below, ht_root_from_sig}
 use Rattle.slh_few.specs.declared.place.Place.{Place}
-use Rattle.slh_few.proofs.Ends.{part-end_to_end}
+use Rattle.slh_few.proofs.Ends.{chunk-end_to_end}
 use Rattle.slh_params.proofs.Bounds.{h_below_top}
 use Rattle.slh_few.proofs.Sizes.{top_layer}
 use Rattle.slh_few.proofs.XmssLaw.{length-xmss_sig, xmss_pk_from_sig-xmss_sig}
@@ -62,11 +62,11 @@ root_below-start p pk m t i sig = refl
 -- one layer more of verifying
 pub root_below-more : (p : Params) (pk m : List ℕ) (t i : ℕ) (sig : List ℕ) (l : ℕ) (at : Place) (x : List ℕ)
     → at ≡ layer_place p t i l → x ≡ root_below p pk m t i sig l
-    → xmss_pk_from_sig p pk at x (part (xmss_sig_len p) sig l) ≡ root_below p pk m t i sig (l + 1)
+    → xmss_pk_from_sig p pk at x (chunk (xmss_sig_len p) sig l) ≡ root_below p pk m t i sig (l + 1)
 unfolding root_below
 root_below-more p pk m t i sig l at x ea ex =
-    rw (add-one l) (ap (λ a. xmss_pk_from_sig p pk a x (part (xmss_sig_len p) sig l)) ea
-    ∙ ap (λ y. xmss_pk_from_sig p pk (layer_place p t i l) y (part (xmss_sig_len p) sig l)) ex)
+    rw (add-one l) (ap (λ a. xmss_pk_from_sig p pk a x (chunk (xmss_sig_len p) sig l)) ea
+    ∙ ap (λ y. xmss_pk_from_sig p pk (layer_place p t i l) y (chunk (xmss_sig_len p) sig l)) ex)
 
 -- verifying meets at each layer what signing signed there
 pub below-signed : (s : ParamSet) (sk pk m : List ℕ) (t i l : ℕ) → l ≤ (params s).d
@@ -77,8 +77,8 @@ below-signed s sk pk m t i (suc l) h =
     let p = params s in
     let sig = end_to_end (layer_sig p sk pk m t i) p.d in
     let at = layer_place p t i l in
-    let here : part (xmss_sig_len p) sig l ≡ layer_sig p sk pk m t i l =
-    part-end_to_end (layer_sig p sk pk m t i) (xmss_sig_len p) p.d l (omega arith) (λ j q. length-xmss_sig s sk pk _ _) in
+    let here : chunk (xmss_sig_len p) sig l ≡ layer_sig p sk pk m t i l =
+    chunk-end_to_end (layer_sig p sk pk m t i) (xmss_sig_len p) p.d l (omega arith) (λ j q. length-xmss_sig s sk pk _ _) in
     ap (λ xs. xmss_pk_from_sig p pk at (root_below p pk m t i sig l) xs) here
     ∙ ap (λ y. xmss_pk_from_sig p pk at y (layer_sig p sk pk m t i l)) (below-signed s sk pk m t i l (omega arith))
 

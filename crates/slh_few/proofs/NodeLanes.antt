@@ -23,13 +23,13 @@ joined t z y i k a b low below left ea eb =
     let er : node t y (k + 1) ≡ node t (z - 1) (2 * i + 1) = λ q. node t (below q) (left q + 1) in
     ap₂ (t.join z i) (ea ∙ el) (eb ∙ er) ∙ sym (node_above t z i low)
 
--- one level down there are twice as many nodes
+-- one height down there are twice as many nodes
 pub twice : (a z : ℕ) → 1 ≤ z → z ≤ a → 2 ^ (a - (z - 1)) ≡ 2 * 2 ^ (a - z)
 twice a z low high =
     let e : a - (z - 1) ≡ 1 + (a - z) = omega arith in
     ap (λ (k : ℕ). 2 ^ k) e ∙ pow-add 2 1 (a - z)
 
--- a level has no more nodes than the highest tree has leaves
+-- a height has no more nodes than the highest tree has leaves
 pub few_nodes : (s : ParamSet) (z : ℕ) → 2 ^ ((params s).a - z) ≤ 2 ^ 14
 few_nodes s z =
     let short : (params s).a - z ≤ 14 = omega (arith, a_high s) in

@@ -8,10 +8,10 @@ use mir.Syntax.{w32}
 use Rattle.slh_params.specs.Params.{Params}
 use Rattle.slh_lanes.specs.Lanes.{value_at}
 use Rattle.slh_lanes.proofs.Columns.{splat_lane}
-use Rattle.slh_few.specs.Parts.{part}
+use Rattle.slh_few.specs.Chunks.{chunk}
 use Rattle.slh_few.specs.RunningChains.{EndAt, IsSameChain, StaysWithin}
 use Rattle.slh_few.specs.Wots.{chain}
-use Rattle.slh_few.specs.declared.lanes.chains.RunningChains.{RunningChains}
+use Rattle.slh_few.specs.declared.lanes.running_chains.RunningChains.{RunningChains}
 use Rattle.slh_few.specs.declared.place.Place.{Place}
 use Rattle.slh_few.proofs.Chains.{chain-split, chain-start}
 
@@ -84,12 +84,12 @@ with_number f x k long j lane = get_or-zip2 f x (in_all k) j 0 0 0 (omega arith)
 
 -- a chain's value is written, or it is in a lane
 abbrev pub IsTaken : (ℕ → List ℕ) → ℕ → List ℕ → RunningChains → ℕ → Type 0
-IsTaken f n out running c = (part n out c ≡ f c) ⊎ ((j : ℕ) × (j < 8) × (slice_index running.numbers j ≡ c))
+IsTaken f n out running c = (chunk n out c ≡ f c) ⊎ ((j : ℕ) × (j < 8) × (slice_index running.numbers j ≡ c))
 
 -- where a lane's chain is written and gives way to another, what was taken stays so
 pub taken_put : (f : ℕ → List ℕ) (n : ℕ) (out next : List ℕ) (old new : RunningChains) (j : ℕ)
-    → part n next (slice_index old.numbers j) ≡ f (slice_index old.numbers j)
-    → ((c : ℕ) → part n out c ≡ f c → part n next c ≡ f c)
+    → chunk n next (slice_index old.numbers j) ≡ f (slice_index old.numbers j)
+    → ((c : ℕ) → chunk n out c ≡ f c → chunk n next c ≡ f c)
     → ((i : ℕ) → i < 8 → i ≢ j → slice_index new.numbers i ≡ slice_index old.numbers i)
     → (c : ℕ) → IsTaken f n out old c → IsTaken f n next new c
 taken_put f n out next old new j written kept same c (inl there) = inl (kept c there)
@@ -102,15 +102,15 @@ taken_put f n out next old new j written kept same c (inr lane) = elim (cases_eq
 
 -- in the end each chain is written
 pub all_taken : (f : ℕ → List ℕ) (n : ℕ) (out next : List ℕ) (running : RunningChains)
-    → ((j : ℕ) → j < 8 → part n next (slice_index running.numbers j) ≡ f (slice_index running.numbers j))
-    → ((c : ℕ) → part n out c ≡ f c → part n next c ≡ f c)
-    → (c : ℕ) → IsTaken f n out running c → part n next c ≡ f c
+    → ((j : ℕ) → j < 8 → chunk n next (slice_index running.numbers j) ≡ f (slice_index running.numbers j))
+    → ((c : ℕ) → chunk n out c ≡ f c → chunk n next c ≡ f c)
+    → (c : ℕ) → IsTaken f n out running c → chunk n next c ≡ f c
 all_taken f n out next running written kept c (inl there) = kept c there
 all_taken f n out next running written kept c (inr lane) = rw lane.2 at (written lane.0 lane.1)
 
 -- where no lane takes another chain, what was taken stays so
 pub taken_kept : (f : ℕ → List ℕ) (n : ℕ) (out next : List ℕ) (old new : RunningChains) → new.numbers ≡ old.numbers
-    → ((c : ℕ) → part n out c ≡ f c → part n next c ≡ f c)
+    → ((c : ℕ) → chunk n out c ≡ f c → chunk n next c ≡ f c)
     → (c : ℕ) → IsTaken f n out old c → IsTaken f n next new c
 taken_kept f n out next old new same kept c (inl there) = inl (kept c there)
 taken_kept f n out next old new same kept c (inr lane) = inr (lane.0, lane.1, ap (λ (v : List ℕ). slice_index v lane.0) same ∙ lane.2)
@@ -127,7 +127,7 @@ module _ (f : ℕ → List ℕ) (p : Params) (pk : List ℕ) (at : Place) where
   -- a group after one of its chains gave way to another
   pub record Turned (count number : ℕ) (out out' : List ℕ) (old new : RunningChains) (next : List (List ℕ)) : Type 0 where
     pub runs : Runs count new next
-    pub kept : (c : ℕ) → part p.n out c ≡ f c → part p.n out' c ≡ f c
+    pub kept : (c : ℕ) → chunk p.n out c ≡ f c → chunk p.n out' c ≡ f c
     pub taken : (c : ℕ) → IsTaken f p.n out old c → IsTaken f p.n out' new c
     pub there : IsTaken f p.n out' new number
 
@@ -137,17 +137,17 @@ module _ (f : ℕ → List ℕ) (p : Params) (pk : List ℕ) (at : Place) where
       → slice_index new.numbers j ≡ number → slice_index new.steps j ≡ step → slice_index new.left j ≡ left
       → ((i : ℕ) → i < 8 → i ≢ j → IsSameChain old new i)
       → value_at next j m ≡ x → ((i n : ℕ) → i < 8 → i ≢ j → value_at next i n ≡ value_at nodes i n)
-      → part m out' (slice_index old.numbers j) ≡ value_at nodes j m
-      → ((c : ℕ) → c ≢ slice_index old.numbers j → part m out' c ≡ part m out c)
+      → chunk m out' (slice_index old.numbers j) ≡ value_at nodes j m
+      → ((c : ℕ) → c ≢ slice_index old.numbers j → chunk m out' c ≡ chunk m out c)
       → number < count → step + left ≤ 255 → chain p pk at number x step left ≡ f number
       → Turned count number out out' old new next
-  turned count m e old new nodes next out out' j number step left x lane none runs en es el same ex others put parts low room end =
+  turned count m e old new nodes next out out' j number step left x lane none runs en es el same ex others put chunks low room end =
       let q : ℕ = slice_index old.numbers j in
-      let written : part p.n out' q ≡ f q =
-      ap (λ k. part k out' q) (sym e) ∙ put ∙ ap (value_at nodes j) e ∙ ended f p pk at old nodes j lane none runs.ends in
-      let kept : (c : ℕ) → part p.n out c ≡ f c → part p.n out' c ≡ f c = λ c held. elim (cases_eq c q) [
-        | inl here ↦ ap (part p.n out') here ∙ written ∙ ap f (sym here)
-        | inr other ↦ ap (λ k. part k out' c) (sym e) ∙ parts c other ∙ ap (λ k. part k out c) e ∙ held
+      let written : chunk p.n out' q ≡ f q =
+      ap (λ k. chunk k out' q) (sym e) ∙ put ∙ ap (value_at nodes j) e ∙ ended f p pk at old nodes j lane none runs.ends in
+      let kept : (c : ℕ) → chunk p.n out c ≡ f c → chunk p.n out' c ≡ f c = λ c held. elim (cases_eq c q) [
+        | inl here ↦ ap (chunk p.n out') here ∙ written ∙ ap f (sym here)
+        | inr other ↦ ap (λ k. chunk k out' c) (sym e) ∙ chunks c other ∙ ap (λ k. chunk k out c) e ∙ held
       ] in
       record {
         runs = record {

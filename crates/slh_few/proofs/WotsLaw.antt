@@ -6,13 +6,13 @@ use Rattle.slh_params.specs.ParamSet.{params}
 use Rattle.slh_params.proofs.Bounds.{len_high, n_high}
 use Rattle.slh_params.specs.Params.{Params, w, len}
 use Rattle.slh_hash.specs.Hash.{T}
-use Rattle.slh_few.specs.Parts.{end_to_end, part}
+use Rattle.slh_few.specs.Chunks.{end_to_end, chunk}
 use Rattle.slh_few.specs.Wots.{chain, digit, secret, wots_address, whole_chain, signed_chain, finished_chain, wots_pk, wots_sig, wots_pk_from_sig}
 use Rattle.slh_few.specs.declared.place.Place.{Place}
 use Rattle.slh_hash.proofs.Lengths.{length-PRF}
 use Rattle.slh_few.proofs.Chains.{length-chain, chain-rest}
 use Rattle.slh_few.proofs.DigitBounds.{digit-small}
-use Rattle.slh_few.proofs.Ends.{end_to_end-same, part-end_to_end, length-end_to_end}
+use Rattle.slh_few.proofs.Ends.{end_to_end-same, chunk-end_to_end, length-end_to_end}
 
 -- a secret has n bytes
 pub length-secret : (p : Params) (sk pk : List ℕ) (at : Place) (c : ℕ) → p.n ≤ 32 → length (secret p sk pk at c) ≡ p.n
@@ -29,7 +29,7 @@ ends_few s sk pk at =
     let most : len p * p.n ≤ 133 * 32 = mul-le-mul (len_high s) (n_high s) in
     omega (arith, all, most)
 
--- a part of the signature has n bytes
+-- a chunk of the signature has n bytes
 pub length-signed_chain : (p : Params) (sk pk : List ℕ) (at : Place) (m : List ℕ) (c : ℕ) → p.n ≤ 32 → length (signed_chain p sk pk at m c) ≡ p.n
 length-signed_chain p sk pk at m c h = length-chain p pk at c (secret p sk pk at c) 0 (digit p m c) h (length-secret p sk pk at c h)
 
@@ -38,15 +38,15 @@ pub length-wots_sig : (p : Params) (sk pk : List ℕ) (at : Place) (m : List ℕ
 unfolding wots_sig
 length-wots_sig p sk pk at m h = length-end_to_end (signed_chain p sk pk at m) p.n (len p) (λ c l. length-signed_chain p sk pk at m c h)
 
--- each chain that the signature's part is run on to is the whole chain
+-- each chain that the signature's chunk is run on to is the whole chain
 finished : (p : Params) (sk pk : List ℕ) (at : Place) (m : List ℕ) → p.n ≤ 32 → (c : ℕ) → c < len p
     → finished_chain p pk at m (wots_sig p sk pk at m) c ≡ whole_chain p sk pk at c
 unfolding wots_sig
 finished p sk pk at m h c l =
     let d = digit p m c in
     let x = secret p sk pk at c in
-    let here : part p.n (end_to_end (signed_chain p sk pk at m) (len p)) c ≡ chain p pk at c x 0 d =
-    part-end_to_end (signed_chain p sk pk at m) p.n (len p) c l (λ j i. length-signed_chain p sk pk at m j h) in
+    let here : chunk p.n (end_to_end (signed_chain p sk pk at m) (len p)) c ≡ chain p pk at c x 0 d =
+    chunk-end_to_end (signed_chain p sk pk at m) p.n (len p) c l (λ j i. length-signed_chain p sk pk at m j h) in
     ap (λ y. chain p pk at c y d (w p - 1 - d)) here
     ∙ chain-rest p pk at c x d (w p - 1) (omega (arith, digit-small p m c))
 

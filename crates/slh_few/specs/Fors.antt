@@ -6,7 +6,7 @@ use Rattle.slh_params.specs.Params.{Params}
 use Rattle.slh_hash.specs.Hash.{F, PRF, T, H}
 use Rattle.slh_tree.specs.Tree.{MerkleTree}
 use Rattle.slh_tree.specs.Climb.{path, climb}
-use Rattle.slh_few.specs.Parts.{end_to_end, part}
+use Rattle.slh_few.specs.Chunks.{end_to_end, chunk}
 
 -- secret number u (Algorithm 14), at tree t and key pair i as all below
 unfoldable pub fors_secret : Params → List ℕ → List ℕ → ℕ → ℕ → ℕ → List ℕ
@@ -55,4 +55,4 @@ compressed_roots p pk_seed t i roots = T p pk_seed (address 0 t FORS_ROOTS i 0 0
 
 -- the public key that a signature gives (Algorithm 17)
 unfoldable pub fors_pk_from_sig : Params → List ℕ → ℕ → ℕ → List ℕ → List ℕ → List ℕ
-fors_pk_from_sig p pk_seed t i md sig = compressed_roots p pk_seed t i (λ j. fors_root p pk_seed t i md j (part (fors_part_len p) sig j))
+fors_pk_from_sig p pk_seed t i md sig = compressed_roots p pk_seed t i (λ j. fors_root p pk_seed t i md j (chunk (fors_part_len p) sig j))

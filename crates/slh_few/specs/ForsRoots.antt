@@ -2,7 +2,7 @@
 use Rattle.std.specs.Prelude.{ℕ, ◌+◌, ◌*◌, ◌^◌, List, take, drop, slice_index}
 use Rattle.slh_params.specs.Params.{Params}
 use Rattle.slh_tree.specs.Climb.{climb_to, path_node}
-use Rattle.slh_few.specs.Parts.{part}
+use Rattle.slh_few.specs.Chunks.{chunk}
 use Rattle.slh_few.specs.Fors.{fors_tree, fors_leaf, fors_part_len}
 
 -- the node of height z over leaf x of tree j that the tree's part of a signature gives
@@ -13,4 +13,4 @@ climbed p sk_seed pk_seed t i j x own z =
 
 -- the root of tree j that a whole signature gives
 abbrev pub root_given : Params → List ℕ → List ℕ → ℕ → ℕ → List ℕ → List ℕ → ℕ → List ℕ
-root_given p sk_seed pk_seed t i indices sig j = climbed p sk_seed pk_seed t i j (slice_index indices j) (part (fors_part_len p) sig j) p.a
+root_given p sk_seed pk_seed t i indices sig j = climbed p sk_seed pk_seed t i j (slice_index indices j) (chunk (fors_part_len p) sig j) p.a

@@ -6,7 +6,7 @@ use Rattle.slh_lanes.specs.Lanes.{value_at}
 use Rattle.slh_lanes.specs.LaneStreams.{HasAbsorbedAt}
 use Rattle.slh_lanes.specs.declared.lane_stream.LaneStream.{LaneStream}
 use Rattle.slh_lanes.specs.declared.words.TheConstants.{GROUP}
-use Rattle.slh_few.specs.Parts.{end_to_end}
+use Rattle.slh_few.specs.Chunks.{end_to_end}
 use Rattle.slh_few.specs.Wots.{wots_address, chain, secret, whole_chain}
 use Rattle.slh_few.specs.Xmss.{place}
 use Rattle.slh_few.specs.declared.place.Place.{Place}

@@ -1,10 +1,10 @@
-pub mod Parts
+pub mod Chunks
 pub mod LaneValues
-pub mod Levels
+pub mod Heights
 pub mod ChainOrder
 pub mod Wots
 pub mod RunningChains
-pub mod KeptChains
+pub mod KeyCheckpoints
 pub mod Xmss
 pub mod HashContext
 pub mod KeyStreams

@@ -5,7 +5,7 @@ use Rattle.slh_params.specs.Params.{Params}
 use Rattle.slh_lanes.specs.Lanes.{HasAddress, value_at}
 use Rattle.slh_lanes.specs.declared.words.TheConstants.{GROUP}
 use Rattle.slh_few.specs.Wots.{chain, wots_address}
-use Rattle.slh_few.specs.declared.lanes.chains.RunningChains.{RunningChains}
+use Rattle.slh_few.specs.declared.lanes.running_chains.RunningChains.{RunningChains}
 use Rattle.slh_few.specs.declared.place.Place.{Place}
 
 -- each lane has the address of a chain at a place

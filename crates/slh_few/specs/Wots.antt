@@ -5,7 +5,7 @@ use Rattle.slh_params.specs.Bits.{base_2b, to_byte}
 use Rattle.slh_params.specs.Params.{Params, ceil_div, w, len, len1, len2}
 use Rattle.slh_hash.specs.Hash.{PRF, T}
 use Rattle.slh_lanes.specs.Steps.{steps}
-use Rattle.slh_few.specs.Parts.{end_to_end, part}
+use Rattle.slh_few.specs.Chunks.{end_to_end, chunk}
 use Rattle.slh_few.specs.declared.place.Place.{Place}
 
 -- the WOTS+ address of a type at a place
@@ -70,7 +70,7 @@ wots_sig p sk_seed pk_seed at m = end_to_end (signed_chain p sk_seed pk_seed at 
 
 -- chain c from the signature's value to its end
 abbrev pub finished_chain : Params → List ℕ → Place → List ℕ → List ℕ → ℕ → List ℕ
-finished_chain p pk_seed at m sig c = chain p pk_seed at c (part p.n sig c) (digit p m c) (w p - 1 - digit p m c)
+finished_chain p pk_seed at m sig c = chain p pk_seed at c (chunk p.n sig c) (digit p m c) (w p - 1 - digit p m c)
 
 -- the public key that a signature gives (Algorithm 8)
 unfoldable pub wots_pk_from_sig : Params → List ℕ → Place → List ℕ → List ℕ → List ℕ

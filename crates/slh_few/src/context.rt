@@ -1,14 +1,14 @@
 //! The midstates of PK.seed: each hash function begins with a block that PK.seed fills (FIPS 205, section 11.2).
-ghost use Rattle.std.specs.Prelude.{◌≡◌, IsSome, IfSome, ◌*◌, length};
+ghost use Rattle.std.specs.Prelude.{◌≡◌, IsSome, IfSome, ◌*◌, [], length};
 ghost use Rattle.slh_params.specs.ParamSet.{params};
 ghost use Rattle.slh_hash.specs.Hash.{F, PRF, T, H};
 ghost use Rattle.slh_hash.specs.Seeded.{IsSeeded};
-ghost use Rattle.slh_hash.specs.Stream.{IsSeededTree};
+ghost use Rattle.slh_hash.specs.Stream.{HasAbsorbed, IsSeededTree};
 ghost use Rattle.slh_few.specs.HashContext.{LanesUnder};
 
 use crate::nodes::node_at;
 use crate::place::Seeds;
-use slh_hash::{SeededHash, SeededTreeHash};
+use slh_hash::{SeededHash, SeededTreeHash, TStream};
 use slh_lanes::{SeededLanes, Width, build_widths};
 use slh_params::{Adrs, Node, ParamSet};
 
@@ -61,6 +61,13 @@ impl<'a> HashContext<'a> {
         self.joins.h(adrs, left, right)
     }
 
+    /// T at an address, before any node.
+    pub(crate) fn t_stream(&self, adrs: &Adrs) -> TStream
+        ensures { ∥ HasAbsorbed result (params self.now.set) self.now.pk_seed.now adrs.now [] ∥₁ }
+    {
+        self.joins.stream(adrs)
+    }
+
     /// T: the hash of `count` nodes of n bytes each, put end to end, at an address.
     pub(crate) fn t(&self, adrs: &Adrs, nodes: &[u8], count: usize) -> Node
         requires { length nodes.now ≡ count * (params self.now.set).n }
@@ -68,7 +75,7 @@ impl<'a> HashContext<'a> {
         ensures len { length result.items ≡ (params self.now.set).n }
     {
         let n = self.set.n();
-        let mut stream = self.joins.stream(adrs);
+        let mut stream = self.t_stream(adrs);
         for c in 0..count {
             stream.absorb(&node_at(nodes, n, c));
         }

@@ -8,7 +8,7 @@ ghost use Rattle.slh_tree.specs.Cover.{past_leaf};
 ghost use Rattle.slh_tree.specs.Tree.{node, root as root_of};
 ghost use Rattle.slh_tree.specs.Climb.{path as path_of, climb as climb_of};
 ghost use Rattle.slh_few.specs.Fors.{fors_tree, fors_leaf, fors_secret, fors_part_len, fors_sig, fors_root, fors_pk_from_sig, compressed_roots};
-ghost use Rattle.slh_few.specs.Parts.{end_to_end, part};
+ghost use Rattle.slh_few.specs.Chunks.{end_to_end, chunk};
 ghost use Rattle.slh_few.specs.Trees.{fors_joins_of, fors_nodes_of};
 ghost use Rattle.slh_few.specs.declared.fors.TheConstants.{MOST_FORS_PART_LEN, MOST_FORS_ROOTS_LEN};
 
@@ -16,7 +16,7 @@ use crate::context::{HashContext, SigningContext};
 use crate::fors_parts::{MOST_TREES, fors_indices};
 use crate::fors_tree::{ForsJoins, ForsNodes, ForsPlace, fors_adrs};
 use crate::lanes::put_first_roots;
-use crate::nodes::{part_at, put_part};
+use crate::nodes::{chunk_at, put_chunk};
 use crate::place::{Public, Seeds};
 use slh_params::{AdrsType, Node, ParamSet, node_of, put_node};
 use slh_tree::climb;
@@ -35,14 +35,14 @@ pub fn fors_part_len(set: ParamSet) -> usize
 impl<'c, 'a> ForsNodes<'c, 'a> {
     /// Writes the path of leaf `i` (Algorithm 16, lines 5 to 9).
     #[tactic(auto, unfolding(crate::specs::Trees::fors_nodes_of))]
-    fn put_path(&self, i: u32, out: &mut [u8])
+    fn put_auth_path(&self, i: u32, out: &mut [u8])
         requires index { i < 2 ^ (params self.now.signer.now.public.set).a }
         requires length { let p = params self.now.signer.now.public.set in length out.old ≡ p.a * p.n }
         ensures { out.new ≡ path_of (fors_nodes_of self.now) i }
     {
-        for level in 0..self.signer.public.set.a() {
-            let node = self.node(level, (i >> level) ^ 1);
-            put_node(out, level as usize * node.len(), &node);
+        for z in 0..self.signer.public.set.a() {
+            let node = self.node(z, (i >> z) ^ 1);
+            put_node(out, z as usize * node.len(), &node);
         }
     }
 
@@ -57,11 +57,11 @@ impl<'c, 'a> ForsNodes<'c, 'a> {
     {
         let (secret, auth) = out.split_at_mut(self.signer.public.set.n());
         secret.copy_from_slice(&self.secret(i));
-        self.put_path(i, auth);
+        self.put_auth_path(i, auth);
     }
 
     /// Writes the secret of leaf `i`, then the leaf's path, from `start` on.
-    fn put_part(&self, i: u32, out: &mut [u8], start: usize)
+    fn put_fors_part(&self, i: u32, out: &mut [u8], start: usize)
         requires leaf { i < 2 ^ (params self.now.signer.now.public.set).a }
         requires out { start + fors_part_len (params self.now.signer.now.public.set) ≤ length out.old }
         ensures { let t = self.now in let p = params t.signer.now.public.set in
@@ -138,7 +138,7 @@ impl<'a> SigningContext<'a> {
                 tree_no: j,
             };
             let tree = ForsNodes { signer: self, at };
-            tree.put_part(indices[j as usize], out, j as usize * size);
+            tree.put_fors_part(indices[j as usize], out, j as usize * size);
         }
     }
 }
@@ -168,13 +168,13 @@ impl<'c, 'a> ForsJoins<'c, 'a> {
         requires sig { let t = self.now in let p = params t.context.now.set in
             t.at.tree_no * fors_part_len p + fors_part_len p ≤ length sig.now }
         ensures { let t = self.now in let p = params t.context.now.set in
-            let own = part (fors_part_len p) sig.now t.at.tree_no in
+            let own = chunk (fors_part_len p) sig.now t.at.tree_no in
             result.items ≡ climb_of (fors_joins_of t) i
             (fors_leaf p t.context.now.pk_seed.now t.at.idx_tree t.at.idx_leaf (t.at.tree_no * 2 ^ p.a + i)
             (take p.n own)) (drop p.n own) }
     {
         let size = fors_part_len(self.context.set);
-        self.root_from(i, part_at(sig, size, self.at.tree_no as usize))
+        self.root_from(i, chunk_at(sig, size, self.at.tree_no as usize))
     }
 }
 
@@ -195,7 +195,7 @@ impl<'a> HashContext<'a> {
         requires out { let p = params self.now.set in length out.old ≡ p.k * p.n }
         ensures { let p = params self.now.set in let pk_seed = self.now.pk_seed.now in
             out.new ≡ end_to_end (λ j. fors_root p pk_seed idx_tree idx_leaf md.now j
-            (part (fors_part_len p) sig.now j)) p.k }
+            (chunk (fors_part_len p) sig.now j)) p.k }
     {
         let indices = fors_indices(self.set, md);
         let done = put_first_roots(self, idx_tree, idx_leaf, &indices, sig, out);
@@ -207,7 +207,7 @@ impl<'a> HashContext<'a> {
             };
             let tree = ForsJoins { context: self, at };
             let root = tree.root_at(indices[j as usize], sig);
-            put_part(out, self.set.n(), j as usize, &root);
+            put_chunk(out, self.set.n(), j as usize, &root);
         }
     }
 

@@ -48,15 +48,15 @@ impl<'c, 'a> ForsNodes<'c, 'a> {
     {
         let leaf = rec.leaf();
         let mut node = self.leaf(leaf);
-        for level in 0..z {
-            let i = (leaf >> level) ^ 1;
+        for height in 0..z {
+            let i = (leaf >> height) ^ 1;
             let sibling = Placed {
-                z: level,
+                z: height,
                 i,
-                node: self.node(level, i),
+                node: self.node(height, i),
             };
             rec.note(&sibling);
-            node = parent(self, leaf, level, &node, &sibling.node);
+            node = parent(self, leaf, height, &node, &sibling.node);
         }
         node
     }

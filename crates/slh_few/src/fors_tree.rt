@@ -8,7 +8,7 @@ ghost use Rattle.slh_few.specs.declared.fors_parts.TheConstants.{MOST_TREES};
 
 use crate::context::{HashContext, SigningContext};
 use crate::fors_parts::MOST_TREES;
-use crate::levels::{LevelTree, joined_in_turn};
+use crate::heights::{BatchParents, parents_in_turn};
 use crate::nodes::first_nodes;
 use crate::place::Seeds;
 use slh_params::{Adrs, AdrsType, Node};
@@ -34,14 +34,14 @@ pub(crate) fn fors_adrs(
 }
 
 /// The index that node `index` of tree `tree_no` has among the nodes of its height of all trees.
-/// A tree has 2 ^ `levels` nodes of that height.
-pub(crate) fn index_in_forest(tree_no: u32, levels: u32, index: u32) -> u32
+/// A tree has 2 ^ `depth` nodes of that height.
+pub(crate) fn index_in_forest(tree_no: u32, depth: u32, index: u32) -> u32
     requires tree { tree_no < MOST_TREES }
-    requires levels { levels ≤ 14 }
-    requires index { index < 2 ^ levels }
-    ensures { result ≡ tree_no * 2 ^ levels + index }
+    requires depth { depth ≤ 14 }
+    requires index { index < 2 ^ depth }
+    ensures { result ≡ tree_no * 2 ^ depth + index }
 {
-    tree_no * (1 << levels) + index
+    tree_no * (1 << depth) + index
 }
 
 /// The place of a FORS tree: tree `tree_no` of the key at leaf `idx_leaf` of tree `idx_tree`.
@@ -53,15 +53,15 @@ pub struct ForsPlace {
 }
 
 impl ForsPlace {
-    /// The address of a type of node `i` of a height at which the tree has 2 ^ `levels` nodes.
-    pub(crate) fn adrs(&self, kind: AdrsType, height: u32, levels: u32, i: u32) -> Adrs
+    /// The address of a type of node `i` of a height at which the tree has 2 ^ `depth` nodes.
+    pub(crate) fn adrs(&self, kind: AdrsType, height: u32, depth: u32, i: u32) -> Adrs
         requires tree { self.now.tree_no < MOST_TREES }
-        requires levels { levels ≤ 14 }
-        requires index { i < 2 ^ levels }
+        requires depth { depth ≤ 14 }
+        requires index { i < 2 ^ depth }
         ensures { let t = self.now in
-            result ≡ address 0 t.idx_tree (type_number kind) t.idx_leaf height (t.tree_no * 2 ^ levels + i) }
+            result ≡ address 0 t.idx_tree (type_number kind) t.idx_leaf height (t.tree_no * 2 ^ depth + i) }
     {
-        let index = index_in_forest(self.tree_no, levels, i);
+        let index = index_in_forest(self.tree_no, depth, i);
         fors_adrs(self.idx_tree, self.idx_leaf, kind, height, index)
     }
 }
@@ -108,16 +108,16 @@ impl<'c, 'a> Climbs for ForsJoins<'c, 'a> {
 
     #[tactic(auto, unfolding(crate::specs::Trees::fors_joins_of))]
     fn join(&self, z: u32, i: u32, l: &Node, r: &Node) -> Node {
-        let levels = self.context.set.a() - z;
-        let adrs = self.at.adrs(AdrsType::ForsTree, z, levels, i);
+        let depth = self.context.set.a() - z;
+        let adrs = self.at.adrs(AdrsType::ForsTree, z, depth, i);
         self.context.h(&adrs, l, r)
     }
 }
 
-/// So many nodes of a level at least are joined in lanes: fewer are joined one after another.
+/// So many nodes of a height at least are joined in lanes: fewer are joined one after another.
 const LEAST_IN_LANES: u32 = 3;
 
-impl<'c, 'a> LevelTree for ForsJoins<'c, 'a> {
+impl<'c, 'a> BatchParents for ForsJoins<'c, 'a> {
     #[tactic(auto, unfolding(crate::specs::Trees::fors_joins_of))]
     fn parents(&self, z: u32, first: u32, count: u32, n: usize, below: &[u8]) -> Leaves {
         if LEAST_IN_LANES <= count
@@ -126,7 +126,7 @@ impl<'c, 'a> LevelTree for ForsJoins<'c, 'a> {
             self.at
                 .parents_from_lanes(lanes, z, first, count as usize, below)
         } else {
-            joined_in_turn(self, z, first, count, n, below)
+            parents_in_turn(self, z, first, count, n, below)
         }
     }
 }
@@ -167,8 +167,8 @@ impl<'c, 'a> ForsNodes<'c, 'a> {
             t.at.idx_tree t.at.idx_leaf (t.at.tree_no * 2 ^ p.a + i) }
         ensures len { length result.items ≡ (params self.now.signer.now.public.set).n }
     {
-        let levels = self.signer.public.set.a();
-        let adrs = self.at.adrs(AdrsType::ForsPrf, 0, levels, i);
+        let depth = self.signer.public.set.a();
+        let adrs = self.at.adrs(AdrsType::ForsPrf, 0, depth, i);
         self.signer.prf(&adrs)
     }
 }

@@ -6,7 +6,7 @@ ghost use Rattle.slh_params.specs.ParamSet.{params};
 ghost use Rattle.slh_tree.specs.Tree.{root as root_of};
 ghost use Rattle.slh_few.specs.Xmss.{xmss_tree, xmss_sig, xmss_pk_from_sig, xmss_sig_len};
 ghost use Rattle.slh_few.specs.Hypertree.{place_above, layer_place, ht_sig, ht_root_from_sig};
-ghost use Rattle.slh_few.specs.Parts.{part};
+ghost use Rattle.slh_few.specs.Chunks.{chunk};
 ghost use Rattle.slh_few.specs.declared.hypertree.TheConstants.{MOST_XMSS_SIG_LEN};
 
 use crate::context::{HashContext, SigningContext};
@@ -178,7 +178,7 @@ fn root_from(context: &HashContext, at: Place, msg: &Node, sig: &[u8], layer: us
     requires sig { let p = params context.now.set in
         layer * xmss_sig_len p + xmss_sig_len p ≤ length sig.now }
     ensures value { let p = params context.now.set in let pk_seed = context.now.pk_seed.now in
-        result.items ≡ xmss_pk_from_sig p pk_seed at msg.now.items (part (xmss_sig_len p) sig.now layer) }
+        result.items ≡ xmss_pk_from_sig p pk_seed at msg.now.items (chunk (xmss_sig_len p) sig.now layer) }
     ensures len { length result.items ≡ (params context.now.set).n }
 {
     let size = xmss_sig_len(context.set);

@@ -3,18 +3,19 @@
 //! The files outside of this folder have the algorithms of FIPS 205, and call the functions that this file names.
 mod chain_order;
 mod chains;
-mod chains_keeping;
+mod chains_with_checkpoints;
 mod fors_climbs;
 mod fors_nodes;
 mod keys;
+mod running_chains;
 mod sixteen_chains;
 mod two_chains;
-mod two_chains_keeping;
 mod two_chains_signing;
+mod two_chains_with_checkpoints;
 
 pub(crate) use chains::{ChainNumbers, MOST_DIGITS, run_secrets_in_lanes, run_values};
-pub(crate) use chains_keeping::run_keeping;
+pub(crate) use chains_with_checkpoints::run_with_checkpoints;
 pub(crate) use fors_climbs::put_first_roots;
 pub(crate) use keys::{eight_keys, first_of_eight, lane_among_eight, sign_giving_leaf};
 pub(crate) use two_chains::Nothing;
-pub(crate) use two_chains_keeping::KeptValues;
+pub(crate) use two_chains_with_checkpoints::LaneCheckpoints;

@@ -12,10 +12,10 @@ mod fors;
 mod fors_blocks;
 mod fors_parts;
 mod fors_tree;
+mod heights;
 mod hypertree;
-mod kept_chains;
+mod key_checkpoints;
 mod lanes;
-mod levels;
 mod nodes;
 mod path_bytes;
 mod place;
@@ -29,13 +29,13 @@ pub use context::{HashContext, SigningContext};
 pub use fors::{fors_node, fors_part_len, fors_pk_from_sig, fors_sign};
 pub use fors_parts::{MOST_TREES, fors_indices};
 pub use fors_tree::{ForsJoins, ForsNodes, ForsPlace, ForsTree};
+pub use heights::{BatchParents, path_from_leaves};
 pub use hypertree::{
     MOST_LAYERS, MOST_XMSS_SIG_LEN, ht_root_from_sig, ht_sign, ht_verify, layer_place,
     layer_places, xmss_sig_len,
 };
-pub use kept_chains::kept_chains_len;
-pub use levels::{LevelTree, path_from_leaves};
-pub use path_bytes::put_path;
+pub use key_checkpoints::key_checkpoints_len;
+pub use path_bytes::put_known_nodes;
 pub use place::{Place, Public, Seeds};
 pub use wots::{chain, wots_pk, wots_pk_from_sig, wots_sig_len, wots_sign};
 pub use wots_digits::digits;

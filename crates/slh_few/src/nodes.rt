@@ -1,17 +1,17 @@
-//! Nodes as byte strings, and as parts of them (ours).
+//! Nodes as byte strings, and as chunks of them (ours).
 ghost use Rattle.std.specs.Prelude.{◌≡◌, ◌≢◌, ℕ, ◌+◌, ◌*◌, ◌≤◌, length};
 ghost use Rattle.slh_params.specs.Bits.{AllBytes};
 ghost use Rattle.slh_few.specs.LaneValues.{HasValues};
-ghost use Rattle.slh_few.specs.Parts.{part};
+ghost use Rattle.slh_few.specs.Chunks.{chunk};
 
 use slh_lanes::{GROUP, LaneNodes, lane_node};
 use slh_params::{Node, node_of};
 use slh_tree::Leaves;
 
-/// Part number `index` of the bytes, which are parts of one size.
-pub(crate) fn part_at(bytes: &[u8], size: usize, index: usize) -> &[u8]
+/// Chunk number `index` of the bytes, which are chunks of one size.
+pub(crate) fn chunk_at(bytes: &[u8], size: usize, index: usize) -> &[u8]
     requires { index * size + size ≤ length bytes.now }
-    ensures value { result.now ≡ part size bytes.now index }
+    ensures value { result.now ≡ chunk size bytes.now index }
     ensures len { length result.now ≡ size }
 {
     let start = index * size;
@@ -22,18 +22,18 @@ pub(crate) fn part_at(bytes: &[u8], size: usize, index: usize) -> &[u8]
 pub(crate) fn node_at(bytes: &[u8], size: usize, index: usize) -> Node
     requires size { size ≤ 32 }
     requires within { index * size + size ≤ length bytes.now }
-    ensures value { result.items ≡ part size bytes.now index }
+    ensures value { result.items ≡ chunk size bytes.now index }
     ensures len { length result.items ≡ size }
 {
-    node_of(part_at(bytes, size, index))
+    node_of(chunk_at(bytes, size, index))
 }
 
-/// Writes part number `index` of the bytes, which are parts of one size.
-pub(crate) fn put_part(bytes: &mut [u8], size: usize, index: usize, value: &[u8])
+/// Writes chunk number `index` of the bytes, which are chunks of one size.
+pub(crate) fn put_chunk(bytes: &mut [u8], size: usize, index: usize, value: &[u8])
     requires within { index * size + size ≤ length bytes.old }
     requires value { length value.now ≡ size }
-    ensures set { part size bytes.new index ≡ value.now }
-    ensures others { (i : ℕ) → i ≢ index → part size bytes.new i ≡ part size bytes.old i }
+    ensures set { chunk size bytes.new index ≡ value.now }
+    ensures others { (i : ℕ) → i ≢ index → chunk size bytes.new i ≡ chunk size bytes.old i }
 {
     let start = index * size;
     bytes[start..start + size].copy_from_slice(value);

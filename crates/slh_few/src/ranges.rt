@@ -4,7 +4,7 @@ ghost use Rattle.slh_params.specs.ParamSet.{params};
 ghost use Rattle.slh_tree.specs.declared.cover.Placed.{Placed};
 ghost use Rattle.slh_tree.specs.Cover.{IsCover, first_leaf, past_leaf};
 ghost use Rattle.slh_tree.specs.Record.{Gains, LiesInRange};
-ghost use Rattle.slh_few.specs.KeptChains.{kept_chains_len, kept_chains};
+ghost use Rattle.slh_few.specs.KeyCheckpoints.{key_checkpoints_len, key_checkpoints};
 ghost use Rattle.slh_few.specs.Trees.{xmss_nodes_of};
 ghost use Rattle.slh_few.specs.Xmss.{xmss_tree};
 ghost use Rattle.slh_few.specs.Fors.{fors_tree};
@@ -12,7 +12,7 @@ ghost use Rattle.slh_few.specs.Fors.{fors_tree};
 use crate::context::SigningContext;
 use crate::fors_blocks::block_height;
 use crate::fors_tree::{ForsNodes, ForsPlace};
-use crate::lanes::{KeptValues, eight_keys, first_of_eight, lane_among_eight};
+use crate::lanes::{LaneCheckpoints, eight_keys, first_of_eight, lane_among_eight};
 use crate::place::Place;
 use crate::xmss_tree::XmssNodes;
 use slh_lanes::GROUP;
@@ -46,45 +46,57 @@ impl<'a> SigningContext<'a> {
     }
 
     /// The tree over a place, of which the leaf there is known, and all eight below its node of height 3 if they are in
-    /// the range. Into `kept` it writes `kept_chains_len` bytes: the checkpoints of the key at the place.
+    /// the range. Into `checkpoints` it writes `key_checkpoints_len` bytes: the checkpoints of the key at the place.
     #[tactic(auto, unfolding(crate::specs::Trees::xmss_nodes_of))]
-    fn xmss_nodes_keeping(&self, at: Place, lo: u32, hi: u32, kept: &mut [u8]) -> XmssNodes<'_, 'a>
-        requires { length kept.old ≡ kept_chains_len (params self.now.public.set) }
+    fn xmss_nodes_with_checkpoints(
+        &self,
+        at: Place,
+        lo: u32,
+        hi: u32,
+        checkpoints: &mut [u8],
+    ) -> XmssNodes<'_, 'a>
+        requires { length checkpoints.old ≡ key_checkpoints_len (params self.now.public.set) }
         ensures tree { let p = params self.now.public.set in let pk_seed = self.now.public.pk_seed.now in
             xmss_nodes_of result ≡ xmss_tree p self.now.sk_seed.now pk_seed at.layer at.tree }
-        ensures kept { let p = params self.now.public.set in let pk_seed = self.now.public.pk_seed.now in
-            kept.new ≡ kept_chains p self.now.sk_seed.now pk_seed at }
+        ensures checkpoints { let p = params self.now.public.set in let pk_seed = self.now.public.pk_seed.now in
+            checkpoints.new ≡ key_checkpoints p self.now.sk_seed.now pk_seed at }
     {
         if has_eight_in_range(at, lo, hi)
             && let Some(lanes) = self.lanes()
         {
             let first = first_of_eight(at);
             let lane = lane_among_eight(at);
-            let group = eight_keys(lanes, self.sk_seed, first, &KeptValues { lane }, kept);
+            let group = eight_keys(
+                lanes,
+                self.sk_seed,
+                first,
+                &LaneCheckpoints { lane },
+                checkpoints,
+            );
             self.xmss_nodes_knowing(first, group)
         } else {
             let mut known = Leaves::new();
-            known.push(self.wots_pk_keeping(at, kept));
+            known.push(self.wots_pk_with_checkpoints(at, checkpoints));
             self.xmss_nodes_knowing(at, known)
         }
     }
 
-    /// The cover that `xmss_range` returns, of the tree over a place. Into `kept` it writes `kept_chains_len` bytes:
-    /// checkpoints of the key at the place, from which `wots_sign_kept` signs. If that leaf is in the range, no chain
-    /// is computed twice. If the seven others below its node of height 3 are in the range, too, all eight are made at
-    /// once.
-    pub fn xmss_range_keeping(
+    /// The cover that `xmss_range` returns, of the tree over a place. Into `checkpoints` it writes checkpoints of the key
+    /// at the place, `key_checkpoints_len` bytes, from which `wots_sign_from_checkpoints` signs. If that leaf is in the
+    /// range, no chain is computed twice. If the seven others below its node of height 3 are in the range, too, all
+    /// eight are made at once.
+    pub fn xmss_range_with_checkpoints(
         &self,
         at: Place,
         lo: u32,
         hi: u32,
-        kept: &mut [u8],
+        checkpoints: &mut [u8],
         rec: &mut PathRec,
     ) -> Cover
         requires order { lo < hi }
         requires within { hi ≤ 2 ^ (params self.now.public.set).hp }
         requires same_height { rec.old.height ≡ (params self.now.public.set).hp }
-        requires kept { length kept.old ≡ kept_chains_len (params self.now.public.set) }
+        requires checkpoints { length checkpoints.old ≡ key_checkpoints_len (params self.now.public.set) }
         ensures cover { let p = params self.now.public.set in let pk_seed = self.now.public.pk_seed.now in
             IsCover (xmss_tree p self.now.sk_seed.now pk_seed at.layer at.tree) lo hi result.nodes.items }
         ensures lo { result.lo ≡ lo }
@@ -94,10 +106,10 @@ impl<'a> SigningContext<'a> {
         ensures gained { let p = params self.now.public.set in let sk_seed = self.now.sk_seed.now in
             let pk_seed = self.now.public.pk_seed.now in
             Gains (xmss_tree p sk_seed pk_seed at.layer at.tree) (LiesInRange lo hi rec.old.leaf) rec.old rec.new }
-        ensures kept { let p = params self.now.public.set in let pk_seed = self.now.public.pk_seed.now in
-            kept.new ≡ kept_chains p self.now.sk_seed.now pk_seed at }
+        ensures checkpoints { let p = params self.now.public.set in let pk_seed = self.now.public.pk_seed.now in
+            checkpoints.new ≡ key_checkpoints p self.now.sk_seed.now pk_seed at }
     {
-        let tree = self.xmss_nodes_keeping(at, lo, hi, kept);
+        let tree = self.xmss_nodes_with_checkpoints(at, lo, hi, checkpoints);
         hash_range(&tree, lo, hi, rec)
     }
 

@@ -5,14 +5,14 @@ ghost use Rattle.slh_params.specs.AdrsType.{type_number};
 ghost use Rattle.slh_params.specs.Params.{Params, len, w};
 ghost use Rattle.slh_params.specs.ParamSet.{params};
 ghost use Rattle.slh_hash.specs.Hash.{T};
-ghost use Rattle.slh_few.specs.Parts.{end_to_end, part};
-ghost use Rattle.slh_few.specs.Wots.{wots_address, chain as chain_of, secret, whole_chain, wots_pk, wots_sig, wots_pk_from_sig};
+ghost use Rattle.slh_few.specs.Chunks.{end_to_end, chunk};
+ghost use Rattle.slh_few.specs.Wots.{wots_address, chain as chain_of, compressed_ends, secret, whole_chain, wots_pk, wots_sig, wots_pk_from_sig};
 ghost use Rattle.slh_few.specs.Xmss.{wots_sig_len};
 ghost use Rattle.slh_few.specs.declared.wots.TheConstants.{MOST_WOTS_SIG_LEN};
 
 use crate::context::{HashContext, SigningContext};
 use crate::lanes::{ChainNumbers, MOST_DIGITS, run_secrets_in_lanes, run_values};
-use crate::nodes::{node_at, put_part};
+use crate::nodes::{node_at, put_chunk};
 use crate::place::{Place, Public, Seeds};
 use crate::wots_digits::{MOST_CHAINS, digits_of};
 use slh_params::{Adrs, AdrsType, Node, ParamSet, copy_of};
@@ -110,7 +110,7 @@ fn run_secrets_alone(signer: &SigningContext, at: Place, counts: &ChainNumbers, 
     for c in 0..set.len() {
         let secret = wots_secret(signer, at, c as u32);
         let value = run_chain(&signer.public, at, c as u32, secret, 0, counts[c]);
-        put_part(out, n, c, &value);
+        put_chunk(out, n, c, &value);
     }
 }
 
@@ -209,30 +209,29 @@ fn steps_left(set: ParamSet, digits: &ChainNumbers) -> ChainNumbers
     left
 }
 
-/// Runs each chain of a key on from its value and step, by its number of steps, one chain after another, and writes the
-/// values that are reached (Algorithm 8, lines 8 to 11).
-pub(crate) fn run_values_alone(
+/// The public key of the chains of a key, each run on from its value and step by its number of steps: n bytes
+/// (Algorithm 8, lines 8 to 16). T absorbs each end as it is reached, so no buffer holds all.
+fn absorbed_ends(
     context: &HashContext,
     at: Place,
     values: &[u8],
     from: &ChainNumbers,
     counts: &ChainNumbers,
-    out: &mut [u8],
-)
+) -> Node
     requires steps { (c : ℕ) → c < MOST_DIGITS → slice_index from.now c + slice_index counts.now c ≤ MOST_STEPS }
     requires values { length values.now ≡ len (params context.now.set) * (params context.now.set).n }
-    requires out { length out.old ≡ len (params context.now.set) * (params context.now.set).n }
-    ensures { let p = params context.now.set in let pk_seed = context.now.pk_seed.now in
-        out.new ≡ end_to_end (λ c. chain_of p pk_seed at c (part p.n values.now c)
-        (slice_index from.now c) (slice_index counts.now c)) (len p) }
+    ensures value { let p = params context.now.set in let pk_seed = context.now.pk_seed.now in
+        result.items ≡ compressed_ends p pk_seed at (λ c. chain_of p pk_seed at c (chunk p.n values.now c)
+        (slice_index from.now c) (slice_index counts.now c)) }
+    ensures len { length result.items ≡ (params context.now.set).n }
 {
-    let set = context.set;
-    let n = set.n();
-    for c in 0..set.len() {
+    let n = context.set.n();
+    let mut stream = context.t_stream(&wots_adrs(at, AdrsType::WotsPk, 0, 0));
+    for c in 0..context.set.len() {
         let value = node_at(values, n, c);
-        let end = run_chain(context, at, c as u32, value, from[c], counts[c]);
-        put_part(out, n, c, &end);
+        stream.absorb(&run_chain(context, at, c as u32, value, from[c], counts[c]));
     }
+    stream.finish()
 }
 
 impl<'a> HashContext<'a> {
@@ -248,9 +247,12 @@ impl<'a> HashContext<'a> {
         let set = self.set;
         let digits = digits_of(set, msg);
         let left = steps_left(set, &digits);
+        let Some(lanes) = self.lanes() else {
+            return absorbed_ends(self, at, sig, &digits, &left);
+        };
         let mut buffer = [0; MOST_WOTS_SIG_LEN];
         let ends = &mut buffer[..wots_sig_len(set)];
-        run_values(self, at, sig, &digits, &left, ends);
+        run_values(lanes, at, sig, &digits, &left, ends);
         compressed_ends(self, at, ends)
     }
 }

@@ -5,8 +5,8 @@ ghost use Rattle.slh_tree.specs.Leaves.{AreLeavesFrom};
 ghost use Rattle.slh_few.specs.Xmss.{AreKeysFrom, xmss_tree};
 
 use crate::context::{HashContext, SigningContext};
+use crate::heights::{BatchParents, parents_in_turn};
 use crate::lanes::{Nothing, eight_keys};
-use crate::levels::{LevelTree, joined_in_turn};
 use crate::place::{Place, Seeds};
 use crate::wots::wots_pk;
 use slh_lanes::GROUP;
@@ -45,9 +45,9 @@ impl<'c, 'a> Climbs for XmssJoins<'c, 'a> {
     }
 }
 
-impl<'c, 'a> LevelTree for XmssJoins<'c, 'a> {
+impl<'c, 'a> BatchParents for XmssJoins<'c, 'a> {
     fn parents(&self, z: u32, first: u32, count: u32, n: usize, below: &[u8]) -> Leaves {
-        joined_in_turn(self, z, first, count, n, below)
+        parents_in_turn(self, z, first, count, n, below)
     }
 }
 

@@ -104,7 +104,7 @@ answers-right c sk start bytes are = record {
   roots = λ tree of. root-right _ (shape_of c tree) _ _ _ (answers_of_kind c bytes tree) (first_of_kind c tree) (tree_right c sk start bytes are tree of);
   paths = λ tree of. auth-right _ (shape_of c tree) _ _ _ (answers_of_kind c bytes tree) (first_of_kind c tree) (tree_right c sk start bytes are tree of);
   secrets = λ j lt. rest-right _ (fors_shape c) _ _ _ (fors_answers c bytes) (j * 2 ^ c.fors) (tree_right c sk start bytes are (Fors j) lt);
-  kept = λ l lt. rest-right _ (xmss_shape c) _ _ _ bytes (l * 2 ^ c.xmss) (tree_right c sk start bytes are (Xmss l) lt);
+  checkpoints = λ l lt. rest-right _ (xmss_shape c) _ _ _ bytes (l * 2 ^ c.xmss) (tree_right c sk start bytes are (Xmss l) lt);
 }
 
 -- the signature, with the set apart from the key's

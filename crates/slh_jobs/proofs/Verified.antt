@@ -8,9 +8,9 @@ use Rattle.slh_params.specs.Address.{address}
 use Rattle.slh_hash.specs.Hash.{T}
 use Rattle.slh_few.specs.Fors.{fors_part_len, fors_root, fors_pk_from_sig}
 use Rattle.slh_few.specs.Hypertree.{root_below, ht_root_from_sig}
-use Rattle.slh_few.specs.Parts.{part}
+use Rattle.slh_few.specs.Chunks.{chunk}
 use Rattle.slh_few.specs.Xmss.{xmss_pk_from_sig, xmss_sig_len}
-use Rattle.slh_few.proofs.Ends.{end_to_end-same, part-end_to_end, length-end_to_end}
+use Rattle.slh_few.proofs.Ends.{end_to_end-same, chunk-end_to_end, length-end_to_end}
 use Rattle.slh_core.specs.DigestParts.{md, idx_tree, idx_leaf}
 use Rattle.slh_core.specs.Keys.{Key, public_of, pk_seed, pk_root}
 use Rattle.slh_core.specs.Signatures.{r_by, digest_of, fors_sig_len, root_of_parts, IsValid}
@@ -43,8 +43,8 @@ pk_fors-met s a fit sized =
     let p = params s.set in
     let Root : ℕ → List ℕ → List ℕ = λ j xs. fors_root p s.pk_seed s.idx_tree s.idx_leaf s.md j xs in
     ap (λ (xs : List ℕ). T p s.pk_seed (address 0 s.idx_tree 4 s.idx_leaf 0 0) xs)
-    (end_to_end-same (λ j. Root j (part (fors_part_len p) (sig_fors_by s a) j)) (λ j. a.root (Fors j)) p.k
-    (λ j lt. ap (Root j) (part-end_to_end (fors_part_by a) (fors_part_len p) p.k j lt sized.fors) ∙ fit j lt))
+    (end_to_end-same (λ j. Root j (chunk (fors_part_len p) (sig_fors_by s a) j)) (λ j. a.root (Fors j)) p.k
+    (λ j lt. ap (Root j) (chunk-end_to_end (fors_part_by a) (fors_part_len p) p.k j lt sized.fors) ∙ fit j lt))
 
 -- verifying meets on each layer what was signed there
 below-met : (s : TreeSource) (a : TreeAnswers) → ((l : ℕ) → l < (params s.set).d → LayerFits s a l) → AreSized s a → (l : ℕ) → l ≤ (params s.set).d
@@ -54,8 +54,8 @@ below-met s a fit sized zero le = refl
 below-met s a fit sized (suc l) le =
     let p = params s.set in
     let lt : l < p.d = omega arith in
-    ap (λ (x : List ℕ). xmss_pk_from_sig p s.pk_seed (place_of s l) x (part (xmss_sig_len p) (sig_ht_by s a) l)) (below-met s a fit sized l (omega arith))
-    ∙ ap (xmss_pk_from_sig p s.pk_seed (place_of s l) (signed_by s a l)) (part-end_to_end (layer_part s a) (xmss_sig_len p) p.d l lt sized.layers)
+    ap (λ (x : List ℕ). xmss_pk_from_sig p s.pk_seed (place_of s l) x (chunk (xmss_sig_len p) (sig_ht_by s a) l)) (below-met s a fit sized l (omega arith))
+    ∙ ap (xmss_pk_from_sig p s.pk_seed (place_of s l) (signed_by s a l)) (chunk-end_to_end (layer_part s a) (xmss_sig_len p) p.d l lt sized.layers)
     ∙ fit l lt
 
 -- the root that both parts give, with the set apart from the key's

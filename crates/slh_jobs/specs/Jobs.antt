@@ -5,12 +5,12 @@ use Rattle.slh_params.specs.ParamSet.{params}
 use Rattle.slh_hash.specs.Stream.{IsKeyed}
 use Rattle.slh_hash.specs.declared.category_hmac.CategoryHmac.{CategoryHmac}
 use Rattle.slh_tree.specs.Cover.{first_leaf, past_leaf}
-use Rattle.slh_few.specs.KeptChains.{kept_chains_len}
+use Rattle.slh_few.specs.KeyCheckpoints.{key_checkpoints_len}
 use Rattle.slh_core.specs.DigestParts.{md, idx_tree, idx_leaf}
 use Rattle.slh_core.specs.Keys.{Key, sk_seed, sk_prf, public_of, pk_seed}
 use Rattle.slh_subtrees.specs.CutTrees.{CutTrees}
 use Rattle.slh_subtrees.specs.Points.{level_points}
-use Rattle.slh_subtrees.specs.Trees.{TreeSource, tree_of, leaf_of, secret_of, chains_of}
+use Rattle.slh_subtrees.specs.Trees.{TreeSource, tree_of, leaf_of, secret_of, checkpoints_of}
 use Rattle.slh_subtrees.specs.declared.range.JobTree.{JobTree}
 use Rattle.slh_subtrees.specs.declared.range.JobTree.TheVariants.{Xmss, Fors}
 use Rattle.slh_subtrees.specs.declared.range.JobRange.{JobRange}
@@ -28,7 +28,7 @@ params_of c = params c.set
 abbrev pub xmss_shape : Levels → Shape
 xmss_shape c =
     let p = params_of c in
-    record { n = p.n; height = p.hp; levels = c.xmss; own = (p.hp - c.xmss) * p.n + kept_chains_len p }
+    record { n = p.n; height = p.hp; levels = c.xmss; own = (p.hp - c.xmss) * p.n + key_checkpoints_len p }
 
 abbrev pub fors_shape : Levels → Shape
 fors_shape c =
@@ -122,12 +122,12 @@ HoldsFront hmac c sk start =
 -- the part after the path, in the answer of the range of the leaf that signs: the checkpoints of the leaf's key, or the
 -- secret
 abbrev pub rest_of : TreeSource → JobTree → List ℕ
-rest_of s (Xmss l) = chains_of s l
+rest_of s (Xmss l) = checkpoints_of s l
 rest_of s (Fors j) = secret_of s j
 
 -- the length of this
 abbrev pub rest_len : Params → JobTree → ℕ
-rest_len p (Xmss l) = kept_chains_len p
+rest_len p (Xmss l) = key_checkpoints_len p
 rest_len p (Fors j) = p.n
 
 -- the answer of range r of a tree, if `tag` gives the tag of a job's node

@@ -2,7 +2,7 @@
 use Rattle.std.specs.Prelude.{ℕ, ◌+◌, ◌-◌, ◌*◌, ◌/◌, ◌^◌, ◌==◌, ◌≤◌, if◌then◌else◌, List, ◌++◌, take, drop, replicate}
 use Rattle.slh_tree.specs.Tree.{MerkleTree, node}
 use Rattle.slh_tree.specs.Climb.{path, path_below}
-use Rattle.slh_few.specs.Parts.{part}
+use Rattle.slh_few.specs.Chunks.{chunk}
 use Rattle.slh_jobs.specs.declared.shape.Shape.{Shape}
 
 -- Throughout, a tree of nodes of n bytes is cut into 2 ^ levels ranges. The answer of a range is its node, the node's
@@ -35,7 +35,7 @@ range_answer t s v rest tag r = node t (below s) r ++ tag (node t (below s) r) +
 
 -- Answer c of the bytes, which are answers of one shape.
 abbrev pub given : Shape → List ℕ → ℕ → List ℕ
-given s bytes c = part (answer_len s) bytes c
+given s bytes c = chunk (answer_len s) bytes c
 
 -- The parts that are read from it: the node, with zeros for missing bytes, the tag, the nodes of a path, and the rest.
 abbrev pub node_given : Shape → List ℕ → ℕ → List ℕ

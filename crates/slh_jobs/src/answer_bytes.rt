@@ -3,7 +3,7 @@
 ghost use Rattle.std.specs.Prelude.{◌≡◌, ◌↔◌, ℕ, List, ◌+◌, ◌*◌, ◌<◌, ◌≤◌, ◌^◌, IsTrue, IsSome, IfSome, length, take};
 ghost use Rattle.slh_params.specs.Params.{Params};
 ghost use Rattle.slh_hash.specs.Stream.{IsKeyed};
-ghost use Rattle.slh_few.specs.Parts.{end_to_end};
+ghost use Rattle.slh_few.specs.Chunks.{end_to_end};
 ghost use Rattle.slh_jobs.specs.Ranges.{IsShape, below, answer_len, given, node_given, tag_given, path_given, rest_given};
 ghost use Rattle.slh_lanes.specs.HmacLanes.{IsBegun};
 ghost use Rattle.slh_lanes.specs.Lanes.{value_at};

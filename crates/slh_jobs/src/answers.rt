@@ -20,7 +20,7 @@ use crate::signing::Signing;
 use crate::start::copy_of_start;
 use crate::tag::{answer_tag, keyed_for_answers};
 use slh_core::SecretKey;
-use slh_few::put_path;
+use slh_few::put_known_nodes;
 use slh_params::{Node, copy_of};
 use slh_subtrees::{HashedRange, JobTree};
 
@@ -40,7 +40,7 @@ impl<'a> Signing<'a> {
         ensures rest { rest.new ≡ rest_of (source_of self.now.trees) tree }
     {
         match tree {
-            JobTree::Xmss(layer) => self.trees.hashed_keeping(layer, lo, hi, rest),
+            JobTree::Xmss(layer) => self.trees.hashed_with_checkpoints(layer, lo, hi, rest),
             JobTree::Fors(number) => {
                 rest.copy_from_slice(&self.trees.fors_secret(number));
                 self.trees.hashed(tree, lo, hi)
@@ -62,7 +62,7 @@ impl<'a> Signing<'a> {
         let (lo, hi) = shape.leaves(self.trees.leaf(tree) >> shape.below());
         let (lower, rest) = own.split_at_mut(shape.path_len());
         let hashed = self.hashed_with_rest(tree, lo, hi, rest);
-        put_path(&hashed.path, shape.below(), shape.n, lower);
+        put_known_nodes(&hashed.path, shape.below(), shape.n, lower);
         copy_of(&hashed.cover.nodes[0].node)
     }
 

@@ -10,7 +10,7 @@ ghost use Rattle.slh_jobs.specs.declared.shape.TheConstants.{MOST_OWN_LEN};
 
 use crate::levels::Levels;
 use crate::shape::Shape;
-use slh_few::kept_chains_len;
+use slh_few::key_checkpoints_len;
 use slh_subtrees::{JobTree, ranges_of};
 
 impl Levels {
@@ -25,7 +25,7 @@ impl Levels {
             n: set.n(),
             height: set.hp(),
             levels: self.xmss,
-            own: (set.hp() - self.xmss) as usize * set.n() + kept_chains_len(set),
+            own: (set.hp() - self.xmss) as usize * set.n() + key_checkpoints_len(set),
         }
     }
 

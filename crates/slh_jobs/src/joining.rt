@@ -3,7 +3,7 @@ ghost use Rattle.std.specs.Prelude.{◌≡◌, ◌↔◌, ℕ, List, ◌+◌, �
 ghost use Rattle.slh_params.specs.Params.{sig_len};
 ghost use Rattle.slh_params.specs.ParamSet.{params};
 ghost use Rattle.slh_few.specs.Fors.{fors_part_len};
-ghost use Rattle.slh_few.specs.Parts.{end_to_end};
+ghost use Rattle.slh_few.specs.Chunks.{end_to_end};
 ghost use Rattle.slh_few.specs.Xmss.{xmss_sig_len};
 ghost use Rattle.slh_core.specs.Keys.{public_of, IsGeneratedKey};
 ghost use Rattle.slh_core.specs.Signatures.{signature_by, IsValid};

@@ -1,8 +1,8 @@
 //! The check that the answers of all jobs fit together (ours).
 ghost use Rattle.std.specs.Prelude.{◌≡◌, ◌↔◌, ℕ, ◌+◌, ◌*◌, ◌<◌, ◌≤◌, ◌++◌, IsTrue, IsSome, IfSome, length, take};
 ghost use Rattle.slh_few.specs.Fors.{fors_part_len};
-ghost use Rattle.slh_few.specs.KeptChains.{wots_sig_from};
-ghost use Rattle.slh_few.specs.Parts.{end_to_end};
+ghost use Rattle.slh_few.specs.KeyCheckpoints.{wots_sig_from};
+ghost use Rattle.slh_few.specs.Chunks.{end_to_end};
 ghost use Rattle.slh_few.specs.Xmss.{wots_sig_len, xmss_sig_len};
 ghost use Rattle.slh_core.specs.Keys.{public_of, pk_root};
 ghost use Rattle.slh_subtrees.specs.Assembled.{fors_part_by, signed_by, layer_part_by, sig_fors_by};
@@ -26,7 +26,7 @@ impl<'a> AllAnswers<'a> {
     /// and hashed.
     // The copies take 8 KB of the stack, which are released before WOTS+ keys are hashed.
     #[inline(never)]
-    fn put_path(&self, tree: JobTree, out: &mut [u8]) -> Option<Node>
+    fn put_judged_path(&self, tree: JobTree, out: &mut [u8]) -> Option<Node>
         requires tree { IsTreeOf (params_in self.now) tree }
         requires out { length out.old ≡ height_of (params_in self.now) tree * (params_in self.now).n }
         ensures tags { let t = self.now.signing in
@@ -77,7 +77,7 @@ impl<'a> AllAnswers<'a> {
     {
         let (secret, auth) = part.split_at_mut(self.signing.trees.signer.public.set.n());
         secret.copy_from_slice(self.rest(JobTree::Fors(number)));
-        self.put_path(JobTree::Fors(number), auth)
+        self.put_judged_path(JobTree::Fors(number), auth)
     }
 
     /// The same, written from `start` on.
@@ -124,7 +124,7 @@ impl<'a> AllAnswers<'a> {
     }
 
     /// Whether the secret and the path of each FORS tree give the root that the tree's ranges give.
-    // The buffer is released before `put_path` runs.
+    // The buffer is released before `put_judged_path` runs.
     #[inline(never)]
     fn fors_roots_fit(&self, sig_fors: &[u8], tops: &[u8]) -> bool
         requires sig_fors { sig_fors.now ≡ sig_fors_by (source_in self.now) (answers_in self.now) }
@@ -186,14 +186,17 @@ impl<'a> AllAnswers<'a> {
             (place_of s layer) ((answers_in self.now).chains layer) msg.now.items }
     {
         let trees = &self.signing.trees;
-        let kept = self.rest(JobTree::Xmss(layer));
+        let checkpoints = self.rest(JobTree::Xmss(layer));
         let at = trees.layer_place(layer);
-        trees.signer.public.wots_sign_kept(at, msg, kept, out);
+        trees
+            .signer
+            .public
+            .wots_sign_from_checkpoints(at, msg, checkpoints, out);
     }
 
     /// Writes the path of the layer's leaf, and returns the root that the ranges of the layer's tree give. `None` if
     /// one of their nodes has not its tag, or the layer signs `msg` and its key and path give another root.
-    // The buffer is released before the FORS trees' `put_path` runs.
+    // The buffer is released before the FORS trees' `put_judged_path` runs.
     #[inline(never)]
     fn layer_root(&self, layer: u8, msg: &Node, path: &mut [u8]) -> Option<Node>
         requires layer { layer < (params_in self.now).d }
@@ -212,7 +215,7 @@ impl<'a> AllAnswers<'a> {
     {
         let trees = &self.signing.trees;
         let set = trees.signer.public.set;
-        let Some(root) = self.put_path(JobTree::Xmss(layer), path) else {
+        let Some(root) = self.put_judged_path(JobTree::Xmss(layer), path) else {
             return None;
         };
         let mut buffer = [0; MOST_XMSS_SIG_LEN];

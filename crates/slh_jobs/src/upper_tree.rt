@@ -3,13 +3,13 @@ ghost use Rattle.std.specs.Prelude.{[], ◌≡◌, ◌+◌, ◌*◌, ◌<◌, �
 ghost use Rattle.slh_tree.specs.Tree.{root as root_of};
 ghost use Rattle.slh_tree.specs.Climb.{path as path_of};
 ghost use Rattle.slh_params.specs.ParamSet.{params};
-ghost use Rattle.slh_few.specs.Parts.{end_to_end};
+ghost use Rattle.slh_few.specs.Chunks.{end_to_end};
 ghost use Rattle.slh_few.specs.Trees.{xmss_joins_of};
 ghost use Rattle.slh_few.specs.Xmss.{xmss_tree};
 ghost use Rattle.slh_jobs.specs.Ranges.{IsShape, below, node_given, upper_given, auth_given};
 
 use crate::answer_bytes::TreeRanges;
-use slh_few::{HashContext, LevelTree, XmssJoins, path_from_leaves};
+use slh_few::{BatchParents, HashContext, XmssJoins, path_from_leaves};
 use slh_params::{Node, node_of};
 use slh_tree::{Climbs, Leaves};
 
@@ -62,7 +62,7 @@ impl<'t, 'a, T: Climbs> Climbs for UpperTree<'t, 'a, T> {
     }
 }
 
-impl<'t, 'a, T: LevelTree> LevelTree for UpperTree<'t, 'a, T> {
+impl<'t, 'a, T: BatchParents> BatchParents for UpperTree<'t, 'a, T> {
     fn parents(&self, z: u32, first: u32, count: u32, n: usize, below: &[u8]) -> Leaves {
         let lowest = self.ranges.given.shape.below();
         self.tree.parents(lowest + z, first, count, n, below)
@@ -70,8 +70,8 @@ impl<'t, 'a, T: LevelTree> LevelTree for UpperTree<'t, 'a, T> {
 }
 
 /// Writes the path of range `range` in the tree above the ranges, and returns the root that the ranges give. The nodes
-/// of each level take the place of those below them, at last of the copies.
-fn put_upper<T: LevelTree>(
+/// of each height take the place of those below them, at last of the copies.
+fn put_upper<T: BatchParents>(
     tree: &T,
     ranges: &TreeRanges,
     range: u32,
@@ -99,7 +99,7 @@ fn put_upper<T: LevelTree>(
 }
 
 /// The root that the ranges of a tree give, n bytes, from the copies of their nodes.
-pub(crate) fn top_root<T: LevelTree>(tree: &T, ranges: &TreeRanges, copies: &mut [u8]) -> Node
+pub(crate) fn top_root<T: BatchParents>(tree: &T, ranges: &TreeRanges, copies: &mut [u8]) -> Node
     requires shape { IsShape ranges.now.given.shape }
     requires height { ranges.now.given.shape.height ≡ (T.tree tree.now).height }
     requires n { ranges.now.given.shape.n ≡ (T.tree tree.now).width }
@@ -117,7 +117,7 @@ pub(crate) fn top_root<T: LevelTree>(tree: &T, ranges: &TreeRanges, copies: &mut
 
 /// Writes the path of leaf `leaf` of a tree: from its range's answer, and then from the copies of the nodes of the
 /// ranges. Returns the root that the ranges give.
-pub(crate) fn put_auth<T: LevelTree>(
+pub(crate) fn put_auth<T: BatchParents>(
     tree: &T,
     ranges: &TreeRanges,
     leaf: u32,

@@ -1,5 +1,5 @@
 pub mod SplitAnswers
-pub mod Kept
+pub mod Checkpoints
 pub mod Parts
 pub mod Unique
 pub mod TopCovers

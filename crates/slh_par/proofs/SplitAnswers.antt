@@ -1,4 +1,4 @@
--- The answers of all jobs, with the covers, the records and the kept chains apart.
+-- The answers of all jobs, with the covers, the records and the checkpoints apart.
 use Rattle.std.proofs.Common.{◌≡◌, ℕ, ◌<◌, List, Option, Some, None, length, map, get_or, arith, sym, ◌∙◌, ap, subst}
 use Rattle.std.specs.List.{slice_get}
 use Rattle.std.proofs.lemmas.List.{get_or-map, length-map}
@@ -8,7 +8,7 @@ use Rattle.slh_tree.specs.declared.cover.Cover.{Cover}
 use Rattle.slh_subtrees.specs.CutTrees.{CutTrees}
 use Rattle.slh_subtrees.specs.Jobs.{signing_jobs}
 use Rattle.slh_subtrees.specs.declared.range.JobRange.{JobRange}
-use Rattle.slh_par.specs.JobAnswers.{IsAnswer, AreRangeAnswers, kept_by}
+use Rattle.slh_par.specs.JobAnswers.{IsAnswer, AreRangeAnswers, job_checkpoints}
 use Rattle.slh_subtrees.specs.declared.hashed_range.HashedRange.{HashedRange}
 use Rattle.slh_subtrees.specs.declared.signing_trees.SigningTrees.{SigningTrees}
 
@@ -20,7 +20,7 @@ Answer = HashedRange × Option (List ℕ)
 abbrev pub AllRight : SigningTrees → CutTrees → List Answer → Type 0
 AllRight s cut xs =
     (n : ℕ) (d : Answer) → n < length xs → (job : JobRange) → slice_get (signing_jobs cut) n ≡ Some job
-    → IsAnswer s job (get_or xs n d).0.cover (get_or xs n d).0.path × ((get_or xs n d).1 ≡ kept_by s job)
+    → IsAnswer s job (get_or xs n d).0.cover (get_or xs n d).0.path × ((get_or xs n d).1 ≡ job_checkpoints s job)
 
 pub answers_split :
     (s : SigningTrees) (cut : CutTrees) (xs : List Answer) (cs : List Cover) (rs : List KnownPath) →

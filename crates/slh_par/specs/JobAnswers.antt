@@ -8,8 +8,8 @@ use Rattle.slh_tree.specs.declared.cover.Cover.{Cover}
 use Rattle.slh_subtrees.specs.CutTrees.{CutTrees}
 use Rattle.slh_subtrees.specs.Jobs.{signing_jobs}
 use Rattle.slh_subtrees.specs.Gathered.{IsHashed}
-use Rattle.slh_subtrees.specs.SigningTrees.{tree_in, leaf_in, chains_in, signs_in}
-use Rattle.slh_subtrees.specs.Trees.{TreeSource, chains_of}
+use Rattle.slh_subtrees.specs.SigningTrees.{tree_in, leaf_in, checkpoints_in, signs_in}
+use Rattle.slh_subtrees.specs.Trees.{TreeSource, checkpoints_of}
 use Rattle.slh_subtrees.specs.declared.hashed_range.HashedRange.{HashedRange}
 use Rattle.slh_subtrees.specs.declared.range.JobTree.{JobTree}
 use Rattle.slh_subtrees.specs.declared.range.JobTree.TheVariants.{Xmss, Fors}
@@ -23,16 +23,16 @@ pub record IsAnswer (s : SigningTrees) (job : JobRange) (c : Cover) (r : KnownPa
   pub hashed : IsHashed (tree_in s job.tree) (leaf_in s job.tree) c r
 
 -- the checkpoints of a job: those of the key that signs, if its leaf is in the range
-abbrev pub kept_in : SigningTrees → JobTree → ℕ → ℕ → Option (List ℕ)
-kept_in s (Xmss l) lo hi = (if signs_in s l lo hi then Some (chains_in s l) else None)
-kept_in s (Fors j) lo hi = None
+abbrev pub range_checkpoints : SigningTrees → JobTree → ℕ → ℕ → Option (List ℕ)
+range_checkpoints s (Xmss l) lo hi = (if signs_in s l lo hi then Some (checkpoints_in s l) else None)
+range_checkpoints s (Fors j) lo hi = None
 
-abbrev pub kept_by : SigningTrees → JobRange → Option (List ℕ)
-kept_by s job = kept_in s job.tree job.lo job.hi
+abbrev pub job_checkpoints : SigningTrees → JobRange → Option (List ℕ)
+job_checkpoints s job = range_checkpoints s job.tree job.lo job.hi
 
 -- an answer to the job of that number: the result of its range, and its checkpoints
 abbrev pub IsRight : SigningTrees → CutTrees → ℕ → HashedRange × Option (List ℕ) → Type 0
-IsRight s cut n x = (job : JobRange) → slice_get (signing_jobs cut) n ≡ Some job → IsAnswer s job x.0.cover x.0.path × (x.1 ≡ kept_by s job)
+IsRight s cut n x = (job : JobRange) → slice_get (signing_jobs cut) n ≡ Some job → IsAnswer s job x.0.cover x.0.path × (x.1 ≡ job_checkpoints s job)
 
 -- the one, if there is one, as a list
 abbrev pub as_list : {X : Type 0} → Option X → List X
@@ -46,9 +46,9 @@ pub record AreRangeAnswers (s : SigningTrees) (cut : CutTrees) (cs : List Cover)
   pub each : (n : ℕ) (job : JobRange) (c : Cover) (r : KnownPath) → slice_get (signing_jobs cut) n ≡ Some job → IsAnswer s job (slice_index_or cs n c) (slice_index_or rs n r)
 
 -- the checkpoints of the key that signs on each layer, from 0 on
-pub record AreChains (s : TreeSource) (xs : List (List ℕ)) : Type 0 where
+pub record AreCheckpoints (s : TreeSource) (xs : List (List ℕ)) : Type 0 where
   pub len : length xs ≡ (params s.set).d
-  pub each : (l : ℕ) (x : List ℕ) → l < (params s.set).d → slice_index_or xs l x ≡ chains_of s l
+  pub each : (l : ℕ) (x : List ℕ) → l < (params s.set).d → slice_index_or xs l x ≡ checkpoints_of s l
 
 -- the inputs of the trees of the signature of a digest
 abbrev pub source_by : SigningContext → List ℕ → TreeSource

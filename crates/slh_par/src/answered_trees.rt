@@ -6,13 +6,13 @@ ghost use Rattle.slh_subtrees.specs.Jobs.{IsTreeOf, height_of, signing_jobs, tre
 ghost use Rattle.slh_subtrees.specs.Gathered.{IsGathered};
 ghost use Rattle.slh_subtrees.specs.Points.{EndToEnd};
 ghost use Rattle.slh_subtrees.specs.SigningTrees.{set_in, source_of, tree_in, leaf_in};
-ghost use Rattle.slh_par.specs.JobAnswers.{AreRangeAnswers, AreChains, IsRight};
+ghost use Rattle.slh_par.specs.JobAnswers.{AreRangeAnswers, AreCheckpoints, IsRight};
 ghost use Rattle.slh_workers.specs.Answers.{RightByPlace};
 
-use crate::kept_chains::KeptChains;
+use crate::key_checkpoints::KeyCheckpoints;
 use crate::ranges::JobAnswer;
 use crate::splitting::split_answers;
-use slh_few::put_path;
+use slh_few::put_known_nodes;
 use slh_params::Node;
 use slh_subtrees::{Answers, Cutting, GatheredTree, JobTree, SigningTrees};
 use slh_tree::{Cover, PathRec};
@@ -31,10 +31,10 @@ pub(crate) struct AnsweredTrees<'t, 's, A: Allocator> {
     /// For each range the nodes of its tree's path whose leaves are in it, in this order.
     pub(crate) records: Vec<PathRec, A>,
     /// The checkpoints of the key that signs on each layer, from 0 on.
-    pub(crate) chains: Vec<KeptChains<A>, A>,
+    pub(crate) chains: Vec<KeyCheckpoints<A>, A>,
     ghost same_set: { cutting.now.set ≡ set_in trees.now },
     ghost all_answers: { ∥ AreRangeAnswers trees.now cutting.now covers.items records.items ∥₁ },
-    ghost all_chains: { ∥ AreChains (source_of trees.now) chains.items ∥₁ },
+    ghost all_chains: { ∥ AreCheckpoints (source_of trees.now) chains.items ∥₁ },
 }
 
 impl<'t, 's, A: Allocator + Clone> AnsweredTrees<'t, 's, A> {
@@ -118,10 +118,10 @@ impl<'t, 's, A: Allocator> Answers for AnsweredTrees<'t, 's, A> {
         out.copy_from_slice(&self.trees.fors_secret(number));
     }
 
-    fn put_path(&self, tree: JobTree, out: &mut [u8]) -> Node {
+    fn put_signing_path(&self, tree: JobTree, out: &mut [u8]) -> Node {
         let set = self.trees.signer.public.set;
         let gathered = tree_of_ranges(self.trees, self.cutting, tree, &self.covers, &self.records);
-        put_path(&gathered.path, tree.height(set), set.n(), out);
+        put_known_nodes(&gathered.path, tree.height(set), set.n(), out);
         gathered.root
     }
 

@@ -12,7 +12,7 @@ mod answered_trees;
 mod fault;
 mod forms;
 mod generation;
-mod kept_chains;
+mod key_checkpoints;
 mod ranges;
 mod signing;
 mod splitting;

@@ -3,8 +3,8 @@ ghost use Rattle.std.specs.Prelude.{◌≡◌, IfOk, length};
 ghost use Rattle.slh_subtrees.specs.Jobs.{signing_jobs};
 ghost use Rattle.slh_par.specs.JobAnswers.{IsRight};
 
-use crate::kept_chains::KeptChains;
-use slh_few::kept_chains_len;
+use crate::key_checkpoints::KeyCheckpoints;
+use slh_few::key_checkpoints_len;
 use slh_subtrees::{Cutting, HashedRange, JobRange, JobTree, SigningTrees, job, sign_jobs};
 use slh_workers::{NoMemory, Work};
 use std::alloc::Allocator;
@@ -17,7 +17,7 @@ use std::marker::Model;
 #[derive(Drop)]
 pub(crate) struct JobAnswer<A: Allocator> {
     range: Box<HashedRange, A>,
-    kept: Option<KeptChains<A>>,
+    checkpoints: Option<KeyCheckpoints<A>>,
 }
 
 impl<A: Allocator> Model for JobAnswer<A> {
@@ -26,7 +26,7 @@ impl<A: Allocator> Model for JobAnswer<A> {
 
     ghost Value = { HashedRange × Option (List ℕ) };
 
-    ghost view = { λ answer. (answer.range.value, answer.kept) };
+    ghost view = { λ answer. (answer.range.value, answer.checkpoints) };
 }
 
 impl<A: Allocator> JobAnswer<A> {
@@ -34,20 +34,20 @@ impl<A: Allocator> JobAnswer<A> {
     fn new(
         alloc: A,
         range: HashedRange,
-        kept: Option<KeptChains<A>>,
+        checkpoints: Option<KeyCheckpoints<A>>,
     ) -> Result<JobAnswer<A>, NoMemory>
-        ensures { IfOk result (λ answer. answer ≡ (range, kept)) }
+        ensures { IfOk result (λ answer. answer ≡ (range, checkpoints)) }
     {
         let range = Box::new(alloc, range)?;
-        Ok(JobAnswer { range, kept })
+        Ok(JobAnswer { range, checkpoints })
     }
 
     /// The range and its checkpoints.
-    pub(crate) fn into_parts(self) -> (HashedRange, Option<KeptChains<A>>)
+    pub(crate) fn into_parts(self) -> (HashedRange, Option<KeyCheckpoints<A>>)
         ensures { result ≡ self }
     {
-        let JobAnswer { range, kept } = self;
-        (Box::into_inner(range), kept)
+        let JobAnswer { range, checkpoints } = self;
+        (Box::into_inner(range), checkpoints)
     }
 }
 
@@ -76,11 +76,15 @@ impl<'w, 's, A: Allocator + Clone + Send + Sync> Work for TreeRanges<'w, 's, A> 
         let JobRange { tree, lo, hi } = job(self.cutting, i);
         match tree {
             JobTree::Xmss(layer) if trees.signs_in(layer, lo, hi) => {
-                let mut kept = vec![in self.alloc.clone()?; 0; kept_chains_len(
+                let mut checkpoints = vec![in self.alloc.clone()?; 0; key_checkpoints_len(
                     trees.signer.public.set
                 )]?;
-                let range = trees.hashed_keeping(layer, lo, hi, &mut kept);
-                JobAnswer::new(self.alloc.clone()?, range, Some(KeptChains::new(kept)))
+                let range = trees.hashed_with_checkpoints(layer, lo, hi, &mut checkpoints);
+                JobAnswer::new(
+                    self.alloc.clone()?,
+                    range,
+                    Some(KeyCheckpoints::new(checkpoints)),
+                )
             }
             other => JobAnswer::new(self.alloc.clone()?, trees.hashed(other, lo, hi), None),
         }

@@ -3,21 +3,21 @@ ghost use Rattle.std.specs.Prelude.{◌≡◌, ◌++◌, map, IfOk, OnOk};
 ghost use Rattle.std.specs.List.{flat_map};
 ghost use Rattle.slh_par.specs.JobAnswers.{as_list};
 
-use crate::kept_chains::KeptChains;
+use crate::key_checkpoints::KeyCheckpoints;
 use crate::ranges::JobAnswer;
 use slh_tree::{Cover, PathRec};
 use slh_workers::NoMemory;
 use std::alloc::Allocator;
 
 /// Adds the checkpoints, if there are any.
-fn push_kept<A: Allocator>(
-    kept: &mut Vec<KeptChains<A>, A>,
-    chains: Option<KeptChains<A>>,
+fn push_checkpoints<A: Allocator>(
+    checkpoints: &mut Vec<KeyCheckpoints<A>, A>,
+    chains: Option<KeyCheckpoints<A>>,
 ) -> Result<(), NoMemory>
-    ensures { OnOk result (kept.new.items ≡ kept.old.items ++ as_list chains) }
+    ensures { OnOk result (checkpoints.new.items ≡ checkpoints.old.items ++ as_list chains) }
 {
     if let Some(chains) = chains {
-        kept.push(chains)?;
+        checkpoints.push(chains)?;
     }
     Ok(())
 }
@@ -26,19 +26,19 @@ fn push_kept<A: Allocator>(
 pub(crate) fn split_answers<A: Allocator + Clone>(
     alloc: A,
     answers: Vec<JobAnswer<A>, A>,
-) -> Result<(Vec<Cover, A>, Vec<PathRec, A>, Vec<KeptChains<A>, A>), NoMemory>
+) -> Result<(Vec<Cover, A>, Vec<PathRec, A>, Vec<KeyCheckpoints<A>, A>), NoMemory>
     ensures { IfOk result (λ v. (v.0.items ≡ map (λ x. x.0.cover) answers.items)
         × (v.1.items ≡ map (λ x. x.0.path) answers.items)
         × (v.2.items ≡ flat_map (λ x. as_list x.1) answers.items)) }
 {
     let mut covers = Vec::with_capacity(alloc.clone()?, answers.len())?;
     let mut records = Vec::with_capacity(alloc.clone()?, answers.len())?;
-    let mut kept = Vec::new(alloc);
+    let mut checkpoints = Vec::new(alloc);
     for answer in answers {
         let (range, chains) = answer.into_parts();
         covers.push(range.cover)?;
         records.push(range.path)?;
-        push_kept(&mut kept, chains)?;
+        push_checkpoints(&mut checkpoints, chains)?;
     }
-    Ok((covers, records, kept))
+    Ok((covers, records, checkpoints))
 }

@@ -6,12 +6,12 @@ use Rattle.slh_hash.specs.Hash.{T}
 use Rattle.slh_tree.specs.Tree.{root}
 use Rattle.slh_few.specs.Fors.{fors_part, fors_sig, compressed_roots}
 use Rattle.slh_few.specs.Hypertree.{layer_sig, ht_sig, signed_at}
-use Rattle.slh_few.specs.KeptChains.{wots_sig_from}
+use Rattle.slh_few.specs.KeyCheckpoints.{wots_sig_from}
 use Rattle.slh_few.specs.Wots.{wots_sig}
 use Rattle.slh_few.proofs.Ends.{end_to_end-same}
 use Rattle.slh_few.proofs.HtLaw.{signed_at-start, signed_at-root, layer_sig-parts}
-use Rattle.slh_few.proofs.KeptChains.{wots_sig_from-own}
-use Rattle.slh_subtrees.specs.Trees.{TreeSource, place_of, tree_of, secret_of, chains_of}
+use Rattle.slh_few.proofs.KeyCheckpoints.{wots_sig_from-own}
+use Rattle.slh_subtrees.specs.Trees.{TreeSource, place_of, tree_of, secret_of, checkpoints_of}
 use Rattle.slh_subtrees.specs.Assembled.{TreeAnswers, AreRight, answers_of, fors_part_by, signed_by, layer_part_by, sig_fors_by, sig_ht_by}
 use Rattle.slh_subtrees.specs.declared.range.JobTree.TheVariants.{Xmss, Fors}
 
@@ -41,10 +41,10 @@ module _ (s : TreeSource) (a : TreeAnswers) (leaf : s.idx_leaf < 2 ^ (params s.s
   pub layer_part-right : (l : ℕ) → l < (params s.set).d
       → layer_part_by s a l (signed_by s a l) ≡ layer_sig (params s.set) s.sk_seed s.pk_seed (pk_fors_of s) s.idx_tree s.idx_leaf l
   layer_part-right l lt =
-      let sig : List ℕ → List ℕ → List ℕ = λ kept m. wots_sig_from (params s.set) s.pk_seed (place_of s l) kept m in
+      let sig : List ℕ → List ℕ → List ℕ = λ checkpoints m. wots_sig_from (params s.set) s.pk_seed (place_of s l) checkpoints m in
       let auth : List ℕ = a.path (Xmss l) in
-      ap (λ (xs : List ℕ). sig xs (signed_by s a l) ++ auth) (right.kept l lt)
-      ∙ ap (λ (m : List ℕ). sig (chains_of s l) m ++ auth) (signed-right l lt)
+      ap (λ (xs : List ℕ). sig xs (signed_by s a l) ++ auth) (right.checkpoints l lt)
+      ∙ ap (λ (m : List ℕ). sig (checkpoints_of s l) m ++ auth) (signed-right l lt)
       ∙ ap (λ (xs : List ℕ). xs ++ auth) (wots_sig_from-own s.set s.sk_seed s.pk_seed (place_of s l) (signed_of s l))
       ∙ ap (λ (ys : List ℕ). wots_sig (params s.set) s.sk_seed s.pk_seed (place_of s l) (signed_of s l) ++ ys) (right.paths (Xmss l) lt)
       ∙ layer_sig-parts (params s.set) s.sk_seed s.pk_seed (pk_fors_of s) s.idx_tree s.idx_leaf l
@@ -65,5 +65,5 @@ answers_of-right s = record {
   roots = λ tree of. refl;
   paths = λ tree of. refl;
   secrets = λ j lt. refl;
-  kept = λ l lt. refl;
+  checkpoints = λ l lt. refl;
 }

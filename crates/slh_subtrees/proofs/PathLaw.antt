@@ -4,7 +4,7 @@ use Rattle.slh_tree.specs.Tree.{MerkleTree, Lawful, sibling, sibling_index}
 use Rattle.slh_tree.specs.Climb.{path_below}
 use Rattle.slh_tree.specs.Record.{KnownPath, known}
 use Rattle.slh_tree.proofs.Authentic.{node_width}
-use Rattle.slh_few.specs.Parts.{end_to_end}
+use Rattle.slh_few.specs.Chunks.{end_to_end}
 use Rattle.slh_few.specs.Paths.{node_bytes, bytes_or_none}
 use Rattle.slh_few.proofs.Ends.{end_to_end-same, path_below-siblings}
 

@@ -4,10 +4,10 @@ use Rattle.slh_params.specs.ParamSet.{params}
 use Rattle.slh_tree.specs.Tree.{root as root_of}
 use Rattle.slh_tree.specs.Climb.{path as path_of}
 use Rattle.slh_few.specs.Fors.{compressed_roots}
-use Rattle.slh_few.specs.KeptChains.{wots_sig_from}
-use Rattle.slh_few.specs.Parts.{end_to_end}
+use Rattle.slh_few.specs.KeyCheckpoints.{wots_sig_from}
+use Rattle.slh_few.specs.Chunks.{end_to_end}
 use Rattle.slh_subtrees.specs.Jobs.{IsTreeOf}
-use Rattle.slh_subtrees.specs.Trees.{TreeSource, place_of, tree_of, leaf_of, secret_of, chains_of}
+use Rattle.slh_subtrees.specs.Trees.{TreeSource, place_of, tree_of, leaf_of, secret_of, checkpoints_of}
 use Rattle.slh_subtrees.specs.declared.range.JobTree.{JobTree}
 use Rattle.slh_subtrees.specs.declared.range.JobTree.TheVariants.{Xmss, Fors}
 
@@ -45,7 +45,7 @@ pub record AreRight (s : TreeSource) (a : TreeAnswers) : Type 0 where
   pub roots : (tree : JobTree) → IsTreeOf (params s.set) tree → a.root tree ≡ root_of (tree_of s tree)
   pub paths : (tree : JobTree) → IsTreeOf (params s.set) tree → a.path tree ≡ path_of (tree_of s tree) (leaf_of s tree)
   pub secrets : (j : ℕ) → j < (params s.set).k → a.secret j ≡ secret_of s j
-  pub kept : (l : ℕ) → l < (params s.set).d → a.chains l ≡ chains_of s l
+  pub checkpoints : (l : ℕ) → l < (params s.set).d → a.chains l ≡ checkpoints_of s l
 
 -- these answers
 abbrev pub answers_of : TreeSource → TreeAnswers
@@ -53,5 +53,5 @@ answers_of s = record {
   root = λ tree. root_of (tree_of s tree);
   path = λ tree. path_of (tree_of s tree) (leaf_of s tree);
   secret = secret_of s;
-  chains = chains_of s;
+  chains = checkpoints_of s;
 }

@@ -2,7 +2,7 @@
 use Rattle.std.specs.Prelude.{ℕ, Bool, ◌&&◌, nat_le, nat_lt, List}
 use Rattle.slh_params.specs.declared.param_set.ParamSet.{ParamSet}
 use Rattle.slh_tree.specs.Tree.{MerkleTree}
-use Rattle.slh_subtrees.specs.Trees.{TreeSource, tree_of, leaf_of, chains_of}
+use Rattle.slh_subtrees.specs.Trees.{TreeSource, tree_of, leaf_of, checkpoints_of}
 use Rattle.slh_subtrees.specs.declared.range.JobTree.{JobTree}
 use Rattle.slh_subtrees.specs.declared.range.JobTree.TheVariants.{Xmss}
 use Rattle.slh_subtrees.specs.declared.signing_trees.SigningTrees.{SigningTrees}
@@ -29,8 +29,8 @@ tree_in t tree = tree_of (source_of t) tree
 abbrev pub leaf_in : SigningTrees → JobTree → ℕ
 leaf_in t tree = leaf_of (source_of t) tree
 
-abbrev pub chains_in : SigningTrees → ℕ → List ℕ
-chains_in t l = chains_of (source_of t) l
+abbrev pub checkpoints_in : SigningTrees → ℕ → List ℕ
+checkpoints_in t l = checkpoints_of (source_of t) l
 
 -- whether the leaf of that key is one of those from lo to hi, hi left out
 abbrev pub signs_in : SigningTrees → ℕ → ℕ → ℕ → Bool

@@ -6,7 +6,7 @@ use Rattle.slh_params.specs.declared.param_set.ParamSet.{ParamSet}
 use Rattle.slh_tree.specs.Tree.{MerkleTree}
 use Rattle.slh_few.specs.Xmss.{xmss_tree}
 use Rattle.slh_few.specs.Hypertree.{layer_place}
-use Rattle.slh_few.specs.KeptChains.{kept_chains}
+use Rattle.slh_few.specs.KeyCheckpoints.{key_checkpoints}
 use Rattle.slh_few.specs.Fors.{fors_tree, fors_index, fors_secret}
 use Rattle.slh_few.specs.declared.place.Place.{Place}
 use Rattle.slh_subtrees.specs.declared.range.JobTree.{JobTree}
@@ -42,5 +42,5 @@ secret_of s j =
     fors_secret (params s.set) s.sk_seed s.pk_seed s.idx_tree s.idx_leaf (j * 2 ^ (params s.set).a + fors_index (params s.set) s.md j)
 
 -- the checkpoints of the key that signs on layer l
-abbrev pub chains_of : TreeSource → ℕ → List ℕ
-chains_of s l = kept_chains (params s.set) s.sk_seed s.pk_seed (place_of s l)
+abbrev pub checkpoints_of : TreeSource → ℕ → List ℕ
+checkpoints_of s l = key_checkpoints (params s.set) s.sk_seed s.pk_seed (place_of s l)

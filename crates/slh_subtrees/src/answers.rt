@@ -3,8 +3,8 @@ ghost use Rattle.std.specs.Prelude.{◌≡◌, ◌+◌, ◌*◌, ◌<◌, ◌≤
 ghost use Rattle.slh_params.specs.ParamSet.{params};
 ghost use Rattle.slh_params.specs.declared.param_set.ParamSet.{ParamSet};
 ghost use Rattle.slh_few.specs.Fors.{fors_part_len};
-ghost use Rattle.slh_few.specs.KeptChains.{kept_chains_len};
-ghost use Rattle.slh_few.specs.Parts.{end_to_end};
+ghost use Rattle.slh_few.specs.KeyCheckpoints.{key_checkpoints_len};
+ghost use Rattle.slh_few.specs.Chunks.{end_to_end};
 ghost use Rattle.slh_few.specs.Xmss.{xmss_sig_len};
 ghost use Rattle.slh_subtrees.specs.Jobs.{IsTreeOf, height_of};
 ghost use Rattle.slh_subtrees.specs.SigningTrees.{set_in, source_of};
@@ -30,19 +30,19 @@ pub trait Answers {
         requires out { length out.old ≡ (params (set self.now)).n }
         ensures { out.new ≡ (says self.now).secret number };
 
-    /// Writes the path of the tree's signing leaf, n bytes for each level, and returns the root, of n bytes.
-    fn put_path(&self, tree: JobTree, out: &mut [u8]) -> Node
+    /// Writes the path of the tree's signing leaf, n bytes for each height, and returns the root, of n bytes.
+    fn put_signing_path(&self, tree: JobTree, out: &mut [u8]) -> Node
         requires tree { IsTreeOf (params (set self.now)) tree }
         requires out { length out.old ≡ height_of (params (set self.now)) tree * (params (set self.now)).n }
         ensures path { out.new ≡ (says self.now).path tree }
         ensures root { result.items ≡ (says self.now).root tree }
         ensures len { length result.items ≡ (params (set self.now)).n };
 
-    /// The checkpoints of the key that signs on the layer, `kept_chains_len` bytes.
+    /// The checkpoints of the key that signs on the layer, `key_checkpoints_len` bytes.
     fn chains(&self, layer: u8) -> &[u8]
         requires { layer < (params (set self.now)).d }
         ensures value { result.now ≡ (says self.now).chains layer }
-        ensures len { length result.now ≡ kept_chains_len (params (set self.now)) };
+        ensures len { length result.now ≡ key_checkpoints_len (params (set self.now)) };
 }
 
 /// Writes the part of FORS tree `number` in the signature, the secret value and the path (FIPS 205, Algorithm 16), and
@@ -57,7 +57,7 @@ fn fors_part<A: Answers>(answers: &A, set: ParamSet, number: u32, out: &mut [u8]
 {
     let (secret, auth) = out.split_at_mut(set.n());
     answers.put_secret(number, secret);
-    answers.put_path(JobTree::Fors(number), auth)
+    answers.put_signing_path(JobTree::Fors(number), auth)
 }
 
 /// As `fors_part`, from `start` on.
@@ -143,8 +143,8 @@ fn layer_part<A: Answers>(
     let public = &trees.signer.public;
     let (wots, auth) = out.split_at_mut(wots_sig_len(public.set));
     let at = trees.layer_place(layer);
-    public.wots_sign_kept(at, msg, answers.chains(layer), wots);
-    answers.put_path(JobTree::Xmss(layer), auth)
+    public.wots_sign_from_checkpoints(at, msg, answers.chains(layer), wots);
+    answers.put_signing_path(JobTree::Xmss(layer), auth)
 }
 
 /// As `layer_part`, from `start` on.

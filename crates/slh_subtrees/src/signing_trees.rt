@@ -38,10 +38,10 @@ impl<'a> SigningTrees<'a> {
     ghost use Rattle.slh_tree.specs.Cover.{first_leaf, past_leaf};
     ghost use Rattle.slh_tree.specs.Tree.{node};
     ghost use Rattle.slh_tree.specs.declared.cover.Placed.{Placed};
-    ghost use Rattle.slh_few.specs.KeptChains.{kept_chains_len};
+    ghost use Rattle.slh_few.specs.KeyCheckpoints.{key_checkpoints_len};
     ghost use Rattle.slh_subtrees.specs.Jobs.{IsTreeOf, height_of};
     ghost use Rattle.slh_subtrees.specs.Gathered.{IsHashed, AreHashed, IsGathered};
-    ghost use Rattle.slh_subtrees.specs.SigningTrees.{set_in, source_of, tree_in, leaf_in, chains_in, signs_in};
+    ghost use Rattle.slh_subtrees.specs.SigningTrees.{set_in, source_of, tree_in, leaf_in, checkpoints_in, signs_in};
     ghost use Rattle.slh_subtrees.specs.Trees.{secret_of};
 
     /// The trees of the signature by the key at leaf `idx_leaf` of tree `idx_tree`, of a digest whose first part is
@@ -105,25 +105,31 @@ impl<'a> SigningTrees<'a> {
     }
 
     /// The result of the leaves from `lo` to before `hi` of the XMSS tree of a layer. Writes the checkpoints of the key
-    /// that signs there, `kept_chains_len` bytes. If its leaf is among these, no chain is computed twice.
+    /// that signs there, `key_checkpoints_len` bytes. If its leaf is among these, no chain is computed twice.
     #[tactic(auto, using(slh_params::proofs::Bounds::hp_low, slh_params::proofs::Bounds::hp_high))]
-    pub fn hashed_keeping(&self, layer: u8, lo: u32, hi: u32, kept: &mut [u8]) -> HashedRange
+    pub fn hashed_with_checkpoints(
+        &self,
+        layer: u8,
+        lo: u32,
+        hi: u32,
+        checkpoints: &mut [u8],
+    ) -> HashedRange
         requires layer { layer < (params (set_in self.now)).d }
         requires some { lo < hi }
         requires within { hi ≤ 2 ^ (params (set_in self.now)).hp }
-        requires kept { length kept.old ≡ kept_chains_len (params (set_in self.now)) }
+        requires checkpoints { length checkpoints.old ≡ key_checkpoints_len (params (set_in self.now)) }
         ensures lo { result.cover.lo ≡ lo }
         ensures hi { result.cover.hi ≡ hi }
         ensures hashed { let tree = JobTree.Xmss layer in
             IsHashed (tree_in self.now tree) (leaf_in self.now tree) result.cover result.path }
         ensures block { (z i : ℕ) → lo ≡ first_leaf z i → hi ≡ past_leaf z i
             → (p : Placed) × (result.cover.nodes.items ≡ p ∷ []) × (p.z ≡ z) × (p.i ≡ i) }
-        ensures kept { kept.new ≡ chains_in self.now layer }
+        ensures checkpoints { checkpoints.new ≡ checkpoints_in self.now layer }
     {
         let at = self.layer_place(layer);
         let signer = self.signer;
         let mut path = PathRec::for_leaf(signer.public.set.hp(), at.pair);
-        let cover = signer.xmss_range_keeping(at, lo, hi, kept, &mut path);
+        let cover = signer.xmss_range_with_checkpoints(at, lo, hi, checkpoints, &mut path);
         HashedRange { cover, path }
     }
 

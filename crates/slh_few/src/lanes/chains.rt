@@ -1,25 +1,24 @@
 //! The chains of a WOTS+ key eight at a time, one in each lane (FIPS 205, section 5).
-ghost use Rattle.std.specs.Prelude.{◌≡◌, ◌≢◌, ℕ, List, ◌+◌, ◌-◌, ◌*◌, ◌%◌, ◌^◌, ◌≤◌, ◌<◌, length, slice_index};
+ghost use Rattle.std.specs.Prelude.{◌≡◌, ℕ, List, ◌+◌, ◌*◌, ◌%◌, ◌≤◌, ◌<◌, length, slice_index};
 ghost use Rattle.slh_params.specs.AdrsType.{type_number};
 ghost use Rattle.slh_params.specs.Params.{Params, len};
 ghost use Rattle.slh_params.specs.ParamSet.{params};
 ghost use Rattle.slh_lanes.specs.Lanes.{HasAddress, value_at};
-ghost use Rattle.slh_few.specs.Parts.{end_to_end, part};
-ghost use Rattle.slh_few.specs.RunningChains.{ChainsAt, EndAt, IsSameChain, StaysWithin};
+ghost use Rattle.slh_few.specs.Chunks.{end_to_end, chunk};
+ghost use Rattle.slh_few.specs.RunningChains.{ChainsAt, EndAt, StaysWithin};
 ghost use Rattle.slh_few.specs.Wots.{wots_address, chain as chain_of, secret};
 
-use crate::context::HashContext;
 use crate::lanes::chain_order::by_steps;
+use crate::lanes::running_chains::{RunningChains, hash_adrs, least_lane, numbers_of, with_node};
 use crate::lanes::sixteen_chains::run_values_in_groups;
-use crate::nodes::{part_at, put_part};
+use crate::nodes::{chunk_at, put_chunk};
 use crate::place::Place;
-use crate::wots::{MOST_STEPS, run_values_alone, wots_adrs};
+use crate::wots::{MOST_STEPS, wots_adrs};
 use slh_lanes::{
     GROUP, LaneAdrs, LaneNodes, SeededLanes, Width, Words, adrs_lanes, build_widths, lane_node,
-    node_lanes, pick_nodes, set_chains, set_lane,
+    node_lanes, set_chains, set_lane,
 };
 use slh_params::AdrsType;
-use std::simd::prelude::*;
 
 /// At least as many numbers as a key has chains in any set, 133, and whole groups.
 pub(crate) const MOST_DIGITS: usize = 17 * GROUP;
@@ -45,24 +44,6 @@ pub(crate) fn group_at(order: &ChainNumbers, first: usize) -> ChainGroup
         order[first + 6],
         order[first + 7],
     ]
-}
-
-/// The numbers of the group's chains.
-fn numbers_of(numbers: &ChainNumbers, group: &ChainGroup) -> Words
-    requires { (j : ℕ) → j < GROUP → slice_index group.now j < MOST_DIGITS }
-    ensures { (j : ℕ) → j < GROUP → slice_index result j ≡ slice_index numbers.now (slice_index group.now j) }
-{
-    let [a, b, c, d, e, f, g, h] = *group;
-    Words::from_array([
-        numbers[a as usize],
-        numbers[b as usize],
-        numbers[c as usize],
-        numbers[d as usize],
-        numbers[e as usize],
-        numbers[f as usize],
-        numbers[g as usize],
-        numbers[h as usize],
-    ])
 }
 
 /// The addresses of the group's chains.
@@ -125,7 +106,7 @@ pub(crate) fn run_alike(
     run_lanes(lanes, at, group, x, Words::splat(from), counts)
 }
 
-/// Writes the values of n bytes in the first `used` lanes as the parts of `out` that have the chains' numbers.
+/// Writes the values of n bytes in the first `used` lanes as the chunks of `out` that have the chains' numbers.
 pub(crate) fn put_lanes(
     out: &mut [u8],
     n: usize,
@@ -137,25 +118,25 @@ pub(crate) fn put_lanes(
     requires n { n ≤ 32 }
     requires out { (j : ℕ) → j < used → slice_index group.now j * n + n ≤ length out.old }
     ensures written { (f : ℕ → List ℕ) → ((j : ℕ) → j < used → value_at nodes.now j n ≡ f (slice_index group.now j))
-        → (j : ℕ) → j < used → part n out.new (slice_index group.now j) ≡ f (slice_index group.now j) }
+        → (j : ℕ) → j < used → chunk n out.new (slice_index group.now j) ≡ f (slice_index group.now j) }
     ensures kept { (f : ℕ → List ℕ) → ((j : ℕ) → j < used → value_at nodes.now j n ≡ f (slice_index group.now j))
-        → (c : ℕ) → part n out.old c ≡ f c → part n out.new c ≡ f c }
+        → (c : ℕ) → chunk n out.old c ≡ f c → chunk n out.new c ≡ f c }
 {
     for j in 0..used {
-        put_part(out, n, group[j] as usize, &lane_node(nodes, j, n));
+        put_chunk(out, n, group[j] as usize, &lane_node(nodes, j, n));
     }
 }
 
-/// The parts of n bytes that have the chains' numbers.
+/// The chunks of n bytes that have the chains' numbers.
 pub(crate) fn lanes_at(values: &[u8], n: usize, group: &ChainGroup) -> LaneNodes
     requires n { n ≤ 32 }
     requires whole { n % 4 ≡ 0 }
     requires within { (j : ℕ) → j < GROUP → slice_index group.now j * n + n ≤ length values.now }
-    ensures { (j : ℕ) → j < GROUP → value_at result j n ≡ part n values.now (slice_index group.now j) }
+    ensures { (j : ℕ) → j < GROUP → value_at result j n ≡ chunk n values.now (slice_index group.now j) }
 {
     let mut nodes = node_lanes(&[]);
     for j in 0..GROUP {
-        set_lane(&mut nodes, j, part_at(values, n, group[j] as usize));
+        set_lane(&mut nodes, j, chunk_at(values, n, group[j] as usize));
     }
     nodes
 }
@@ -188,118 +169,6 @@ pub(crate) fn run_secrets_in_lanes(
     }
 }
 
-/// The chains that run in the lanes: their numbers, the steps that they are at, and how many each has left.
-#[derive(Clone, Copy)]
-pub(crate) struct RunningChains {
-    pub(crate) numbers: Words,
-    pub(crate) steps: Words,
-    pub(crate) left: Words,
-}
-
-/// The words with another in lane `j`.
-fn with_word(words: Words, j: usize, word: u32) -> Words
-    requires { j < GROUP }
-    ensures set { slice_index result j ≡ word }
-    ensures others { (i : ℕ) → i < GROUP → i ≢ j → slice_index result i ≡ slice_index words i }
-{
-    let lanes = Words::from_array([0, 1, 2, 3, 4, 5, 6, 7]);
-    let here = lanes.simd_eq(Words::splat(j as u32));
-    here.select(Words::splat(word), words)
-}
-
-/// The values with another value in lane `j`. No word is stored alone: a load of its vector would wait for that store.
-pub(crate) fn with_node(nodes: &LaneNodes, j: usize, value: &[u8]) -> LaneNodes
-    requires lane { j < GROUP }
-    requires few { length value.now ≤ 32 }
-    requires whole { length value.now % 4 ≡ 0 }
-    ensures set { value_at result j (length value.now) ≡ value.now }
-    ensures others { (i n : ℕ) → i < GROUP → i ≢ j → value_at result i n ≡ value_at nodes.now i n }
-{
-    let none = Words::splat(0);
-    pick_nodes(none, with_word(none, j, 1), &node_lanes(value), nodes)
-}
-
-/// Each word with this number more.
-fn more(words: Words, number: u32) -> Words
-    requires { (j : ℕ) → j < GROUP → slice_index words j + number < 2 ^ 32 }
-    ensures { (j : ℕ) → j < GROUP → slice_index result j ≡ slice_index words j + number }
-{
-    words + Words::splat(number)
-}
-
-/// Each word with this number less.
-fn less(words: Words, number: u32) -> Words
-    requires { (j : ℕ) → j < GROUP → number ≤ slice_index words j }
-    ensures { (j : ℕ) → j < GROUP → slice_index result j ≡ slice_index words j - number }
-{
-    words - Words::splat(number)
-}
-
-/// A lane of those whose numbers are the least.
-pub(crate) fn least_lane(numbers: Words) -> usize
-    requires { (j : ℕ) → j < GROUP → slice_index numbers j ≤ MOST_STEPS }
-    ensures lane { result < GROUP }
-    ensures least { (j : ℕ) → j < GROUP → slice_index numbers result ≤ slice_index numbers j }
-{
-    let numbers = numbers.to_array();
-    // The least number with that of its lane, in one.
-    let mut least = u32::MAX;
-    for j in 0..GROUP {
-        least = least.min(GROUP as u32 * numbers[j] + j as u32);
-    }
-    (least % GROUP as u32) as usize
-}
-
-impl RunningChains {
-    /// The group's chains, each at its own step and with its own number of steps left.
-    pub(crate) fn of(group: &ChainGroup, steps: &ChainNumbers, left: &ChainNumbers) -> Self
-        requires { (j : ℕ) → j < GROUP → slice_index group.now j < MOST_DIGITS }
-        ensures numbers { (j : ℕ) → j < GROUP → slice_index result.numbers j ≡ slice_index group.now j }
-        ensures steps { (j : ℕ) → j < GROUP
-            → slice_index result.steps j ≡ slice_index steps.now (slice_index group.now j) }
-        ensures left { (j : ℕ) → j < GROUP
-            → slice_index result.left j ≡ slice_index left.now (slice_index group.now j) }
-    {
-        RunningChains {
-            numbers: Words::from_array(*group),
-            steps: numbers_of(steps, group),
-            left: numbers_of(left, group),
-        }
-    }
-
-    /// Another chain in lane `j`.
-    pub(crate) fn put(&mut self, j: usize, number: u32, step: u32, left: u32)
-        requires { j < GROUP }
-        ensures number { slice_index self.new.numbers j ≡ number }
-        ensures step { slice_index self.new.steps j ≡ step }
-        ensures left { slice_index self.new.left j ≡ left }
-        ensures others { (i : ℕ) → i < GROUP → i ≢ j → IsSameChain self.old self.new i }
-    {
-        self.numbers = with_word(self.numbers, j, number);
-        self.steps = with_word(self.steps, j, step);
-        self.left = with_word(self.left, j, left);
-    }
-
-    /// So many steps are taken, of those that each chain has left.
-    pub(crate) fn advance(&mut self, count: u32)
-        requires left { (j : ℕ) → j < GROUP → count ≤ slice_index self.old.left j }
-        requires within { StaysWithin MOST_STEPS self.old }
-        ensures numbers { self.new.numbers ≡ self.old.numbers }
-        ensures steps { (j : ℕ) → j < GROUP → slice_index self.new.steps j ≡ slice_index self.old.steps j + count }
-        ensures left { (j : ℕ) → j < GROUP → slice_index self.new.left j ≡ slice_index self.old.left j - count }
-    {
-        self.steps = more(self.steps, count);
-        self.left = less(self.left, count);
-    }
-}
-
-/// The address of a chain of the key in each lane.
-pub(crate) fn hash_adrs(at: Place) -> LaneAdrs
-    ensures { ChainsAt result at }
-{
-    adrs_lanes(&wots_adrs(at, AdrsType::WotsHash, 0, 0))
-}
-
 /// Runs all chains on until one has ended, writes its value of n bytes, and gives its lane. `adrs` is the address of
 /// a chain of the key in each lane.
 fn run_to_an_end(
@@ -321,10 +190,10 @@ fn run_to_an_end(
         → EndAt f p pk_seed at running.new nodes.new }
     ensures written { let p = params lanes.now.set in let pk_seed = lanes.now.pk_seed.now in
         (f : ℕ → List ℕ) (at : Place) → ChainsAt adrs.now at → EndAt f p pk_seed at running.old nodes.old
-        → part n out.new (slice_index running.old.numbers result) ≡ f (slice_index running.old.numbers result) }
+        → chunk n out.new (slice_index running.old.numbers result) ≡ f (slice_index running.old.numbers result) }
     ensures kept { let p = params lanes.now.set in let pk_seed = lanes.now.pk_seed.now in
         (f : ℕ → List ℕ) (at : Place) → ChainsAt adrs.now at → EndAt f p pk_seed at running.old nodes.old
-        → (c : ℕ) → part n out.old c ≡ f c → part n out.new c ≡ f c }
+        → (c : ℕ) → chunk n out.old c ≡ f c → chunk n out.new c ≡ f c }
 {
     let j = least_lane(running.left);
     let count = running.left.to_array()[j];
@@ -333,7 +202,7 @@ fn run_to_an_end(
     *nodes = lanes.chains_each(&here, nodes, running.steps, Words::splat(count));
     running.advance(count);
     let number = running.numbers.to_array()[j];
-    put_part(out, n, number as usize, &lane_node(nodes, j, n));
+    put_chunk(out, n, number as usize, &lane_node(nodes, j, n));
     j
 }
 
@@ -351,7 +220,7 @@ fn run_values_in_lanes(
     requires values { length values.now ≡ len (params lanes.now.set) * (params lanes.now.set).n }
     requires out { length out.old ≡ len (params lanes.now.set) * (params lanes.now.set).n }
     ensures { let p = params lanes.now.set in let pk_seed = lanes.now.pk_seed.now in
-        out.new ≡ end_to_end (λ c. chain_of p pk_seed at c (part p.n values.now c)
+        out.new ≡ end_to_end (λ c. chain_of p pk_seed at c (chunk p.n values.now c)
         (slice_index from.now c) (slice_index counts.now c)) (len p) }
 {
     let set = lanes.set;
@@ -365,7 +234,7 @@ fn run_values_in_lanes(
     for place in GROUP..count {
         let j = run_to_an_end(lanes, &adrs, &mut running, &mut nodes, n, out);
         let next = order[place];
-        nodes = with_node(&nodes, j, part_at(values, n, next as usize));
+        nodes = with_node(&nodes, j, chunk_at(values, n, next as usize));
         running.put(j, next, from[next as usize], counts[next as usize]);
     }
     let last = running.numbers.to_array();
@@ -374,9 +243,8 @@ fn run_values_in_lanes(
 }
 
 /// Runs each chain of a key on from its value and step, by its number of steps, and writes the values that are reached.
-/// A build with one lane runs one chain after another, without the code for lanes.
 pub(crate) fn run_values(
-    context: &HashContext,
+    lanes: &SeededLanes,
     at: Place,
     values: &[u8],
     from: &ChainNumbers,
@@ -384,19 +252,16 @@ pub(crate) fn run_values(
     out: &mut [u8],
 )
     requires steps { (c : ℕ) → c < MOST_DIGITS → slice_index from.now c + slice_index counts.now c ≤ MOST_STEPS }
-    requires values { length values.now ≡ len (params context.now.set) * (params context.now.set).n }
-    requires out { length out.old ≡ len (params context.now.set) * (params context.now.set).n }
-    ensures { let p = params context.now.set in let pk_seed = context.now.pk_seed.now in
-        out.new ≡ end_to_end (λ c. chain_of p pk_seed at c (part p.n values.now c)
+    requires values { length values.now ≡ len (params lanes.now.set) * (params lanes.now.set).n }
+    requires out { length out.old ≡ len (params lanes.now.set) * (params lanes.now.set).n }
+    ensures { let p = params lanes.now.set in let pk_seed = lanes.now.pk_seed.now in
+        out.new ≡ end_to_end (λ c. chain_of p pk_seed at c (chunk p.n values.now c)
         (slice_index from.now c) (slice_index counts.now c)) (len p) }
 {
-    match context.lanes() {
-        None => run_values_alone(context, at, values, from, counts, out),
-        Some(lanes) => match build_widths().short {
-            Width::Sixteen => run_values_in_groups(lanes, at, values, from, counts, out),
-            Width::One | Width::Four | Width::Eight => run_values_in_lanes(
-                lanes, at, values, from, counts, out,
-            ),
-        },
+    match build_widths().short {
+        Width::Sixteen => run_values_in_groups(lanes, at, values, from, counts, out),
+        Width::One | Width::Four | Width::Eight => run_values_in_lanes(
+            lanes, at, values, from, counts, out,
+        ),
     }
 }

@@ -7,13 +7,13 @@ ghost use Rattle.slh_lanes.specs.Lanes.{HasAddress, value_at};
 ghost use Rattle.slh_hash.specs.Hash.{H};
 ghost use Rattle.slh_few.specs.Fors.{fors_leaf, fors_part_len};
 ghost use Rattle.slh_few.specs.ForsRoots.{root_given};
-ghost use Rattle.slh_few.specs.Parts.{HasParts, part};
+ghost use Rattle.slh_few.specs.Chunks.{HasChunks, chunk};
 
 use crate::context::HashContext;
 use crate::fors::fors_part_len;
 use crate::fors_parts::MOST_TREES;
 use crate::fors_tree::{ForsPlace, fors_adrs, index_in_forest};
-use crate::nodes::{first_nodes, part_at, put_part};
+use crate::nodes::{chunk_at, first_nodes, put_chunk};
 use slh_lanes::{
     GROUP, LaneAdrs, LaneNodes, SeededLanes, Width, Words, adrs_lanes, build_widths, half,
     node_lanes, parity, pick_nodes, set_hashes, set_lane,
@@ -30,11 +30,11 @@ impl ForsPlace {
         ensures { let p = params set in let first = self.now.tree_no in
             (j : ℕ) → j < GROUP → slice_index result j ≡ (first + j) * 2 ^ p.a + slice_index indices.now (first + j) }
     {
-        let levels = set.a();
+        let depth = set.a();
         let mut all = [0; GROUP];
         for j in 0..GROUP {
             let tree = self.tree_no + j as u32;
-            all[j] = index_in_forest(tree, levels, indices[tree as usize]);
+            all[j] = index_in_forest(tree, depth, indices[tree as usize]);
         }
         Words::from_array(all)
     }
@@ -57,14 +57,14 @@ impl ForsPlace {
         requires place { place ≤ (params set).a }
         requires sig { (self.now.tree_no + used) * fors_part_len (params set) ≤ length sig.now }
         ensures { let p = params set in (j : ℕ) → j < used
-            → value_at result j p.n ≡ part p.n (part (fors_part_len p) sig.now (self.now.tree_no + j)) place }
+            → value_at result j p.n ≡ chunk p.n (chunk (fors_part_len p) sig.now (self.now.tree_no + j)) place }
     {
         let n = set.n();
         let size = fors_part_len(set);
         let mut nodes = node_lanes(&[]);
         for j in 0..used {
-            let own = part_at(sig, size, self.tree_no as usize + j);
-            set_lane(&mut nodes, j, part_at(own, n, place));
+            let own = chunk_at(sig, size, self.tree_no as usize + j);
+            set_lane(&mut nodes, j, chunk_at(own, n, place));
         }
         nodes
     }
@@ -78,7 +78,7 @@ impl ForsPlace {
         lanes.f(&self.node_adrs(0, indices), secrets)
     }
 
-    /// The nodes of height `z` over nodes at these indices of the level below among those of all trees, and over their
+    /// The nodes of height `z` over nodes at these indices of the height below among those of all trees, and over their
     /// siblings: H of both.
     fn parents(
         &self,
@@ -194,13 +194,13 @@ fn put_eight(
     requires out { let p = params lanes.now.set in length out.old ≡ p.k * p.n }
     ensures { let t = first.now in let p = params lanes.now.set in
         let given = root_given p [] lanes.now.pk_seed.now t.idx_tree t.idx_leaf indices.now sig.now in
-        HasParts p.n out.old given t.tree_no → HasParts p.n out.new given (min (t.tree_no + GROUP) p.k) }
+        HasChunks p.n out.old given t.tree_no → HasChunks p.n out.new given (min (t.tree_no + GROUP) p.k) }
 {
     let set = lanes.set;
     let used = (set.k() - first.tree_no).min(GROUP as u32) as usize;
     let group = first.roots_from_lanes(lanes, indices, used, sig);
     for j in 0..used {
-        put_part(out, set.n(), first.tree_no as usize + j, &group[j]);
+        put_chunk(out, set.n(), first.tree_no as usize + j, &group[j]);
     }
 }
 
@@ -218,7 +218,7 @@ pub(crate) fn put_first_roots(
     requires out { let p = params context.now.set in length out.old ≡ p.k * p.n }
     ensures count { result ≤ (params context.now.set).k }
     ensures roots { let p = params context.now.set in let pk_seed = context.now.pk_seed.now in
-        HasParts p.n out.new (root_given p [] pk_seed idx_tree idx_leaf indices.now sig.now) result }
+        HasChunks p.n out.new (root_given p [] pk_seed idx_tree idx_leaf indices.now sig.now) result }
 {
     let Some(lanes) = context.lanes() else {
         return 0;

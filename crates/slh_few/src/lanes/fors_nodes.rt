@@ -7,13 +7,13 @@ ghost use Rattle.slh_lanes.specs.Lanes.{HasAddress, value_at};
 ghost use Rattle.slh_tree.specs.Cover.{past_leaf};
 ghost use Rattle.slh_tree.specs.Tree.{node};
 ghost use Rattle.slh_few.specs.Fors.{fors_tree};
-ghost use Rattle.slh_few.specs.Levels.{AreParents};
-ghost use Rattle.slh_few.specs.Parts.{part};
+ghost use Rattle.slh_few.specs.Heights.{AreParents};
+ghost use Rattle.slh_few.specs.Chunks.{chunk};
 ghost use Rattle.slh_few.specs.Trees.{fors_nodes_of};
 ghost use Rattle.slh_few.specs.declared.fors_parts.TheConstants.{MOST_TREES};
 
 use crate::fors_tree::{ForsNodes, ForsPlace, fors_adrs, index_in_forest};
-use crate::nodes::{first_nodes, part_at};
+use crate::nodes::{chunk_at, first_nodes};
 use slh_lanes::{
     GROUP, LaneAdrs, LaneNodes, SeededLanes, adrs_lanes, consecutive, even_lanes, lane_node,
     node_lanes, odd_lanes, set_hashes, set_lane,
@@ -122,12 +122,12 @@ fn children(set: ParamSet, below: &[u8], first: u32, side: usize, count: usize) 
     requires lanes { count ≤ GROUP }
     requires below { 2 * (first + count) * (params set).n ≤ length below.now }
     ensures { (j : ℕ) → j < count
-        → value_at result j (params set).n ≡ part (params set).n below.now (2 * (first + j) + side) }
+        → value_at result j (params set).n ≡ chunk (params set).n below.now (2 * (first + j) + side) }
 {
     let mut nodes = node_lanes(&[]);
     for j in 0..count {
         let child = 2 * (first as usize + j) + side;
-        set_lane(&mut nodes, j, part_at(below, set.n(), child));
+        set_lane(&mut nodes, j, chunk_at(below, set.n(), child));
     }
     nodes
 }

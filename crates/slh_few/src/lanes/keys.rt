@@ -5,12 +5,12 @@ ghost use Rattle.slh_params.specs.Params.{len};
 ghost use Rattle.slh_params.specs.ParamSet.{params};
 ghost use Rattle.slh_lanes.specs.Lanes.{HasAddress};
 ghost use Rattle.slh_few.specs.HashContext.{LanesUnder};
-ghost use Rattle.slh_few.specs.Parts.{end_to_end};
+ghost use Rattle.slh_few.specs.Chunks.{end_to_end};
 ghost use Rattle.slh_few.specs.Wots.{wots_address, wots_pk, wots_sig};
 ghost use Rattle.slh_few.specs.Xmss.{AreKeysFrom, place, xmss_sig, xmss_sig_len};
 
 use crate::context::SigningContext;
-use crate::lanes::two_chains::Kept;
+use crate::lanes::two_chains::Stored;
 use crate::lanes::two_chains_signing::SignedValues;
 use crate::nodes::first_nodes;
 use crate::place::Place;
@@ -37,33 +37,33 @@ pub(crate) fn key_adrs(at: Place, kind: AdrsType, c: u32) -> LaneAdrs
 /// written into `out`, one chain after another.
 ///
 /// Two chains of each of the eight keys are run at once, since the lanes take the same steps. No chain is computed twice.
-pub(crate) fn eight_keys<K: Kept>(
+pub(crate) fn eight_keys<K: Stored>(
     lanes: &SeededLanes,
     sk_seed: &[u8],
     at: Place,
-    keep: &K,
+    store: &K,
     out: &mut [u8],
 ) -> Leaves
     requires sk_seed { length sk_seed.now ≡ (params lanes.now.set).n }
     requires pairs { at.pair + GROUP ≤ 2 ^ 32 }
-    requires fits { K.fits keep.now (params lanes.now.set) }
-    requires out { length out.old ≡ len (params lanes.now.set) * K.size keep.now (params lanes.now.set) }
+    requires fits { K.fits store.now (params lanes.now.set) }
+    requires out { length out.old ≡ len (params lanes.now.set) * K.size store.now (params lanes.now.set) }
     ensures len { length result.items ≡ GROUP }
     ensures keys { AreKeysFrom (params lanes.now.set) sk_seed.now lanes.now.pk_seed.now at result.items }
-    ensures kept { let p = params lanes.now.set in
-        out.new ≡ end_to_end (K.kept keep.now p sk_seed.now lanes.now.pk_seed.now at) (len p) }
+    ensures stored { let p = params lanes.now.set in
+        out.new ≡ end_to_end (K.stored store.now p sk_seed.now lanes.now.pk_seed.now at) (len p) }
 {
     let mut stream = LaneStream::new(lanes, &key_adrs(at, AdrsType::WotsPk, 0));
     let mut x = node_lanes(&[]);
     let mut y = x;
     let len = lanes.set.len() as u32;
     for pair in 0..len / 2 {
-        keep.two_ends(lanes, sk_seed, at, 2 * pair, &mut x, &mut y, out);
+        store.two_ends(lanes, sk_seed, at, 2 * pair, &mut x, &mut y, out);
         stream.absorb(&x);
         stream.absorb(&y);
     }
     if len % 2 == 1 {
-        let ends = keep.ends(lanes, sk_seed, at, len - 1, out);
+        let ends = store.ends(lanes, sk_seed, at, len - 1, out);
         stream.absorb(&ends);
     }
     first_nodes(&stream.finish(), lanes.set.n(), GROUP)

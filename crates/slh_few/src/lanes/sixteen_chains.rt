@@ -3,16 +3,14 @@ ghost use Rattle.std.specs.Prelude.{◌≡◌, ◌≢◌, ℕ, List, ◌+◌, �
 ghost use Rattle.slh_params.specs.Params.{len};
 ghost use Rattle.slh_params.specs.ParamSet.{params};
 ghost use Rattle.slh_lanes.specs.Lanes.{value_at};
-ghost use Rattle.slh_few.specs.Parts.{end_to_end, part};
+ghost use Rattle.slh_few.specs.Chunks.{end_to_end, chunk};
 ghost use Rattle.slh_few.specs.RunningChains.{ChainsAt, EndAt, IsSameChain, StaysWithin};
 ghost use Rattle.slh_few.specs.Wots.{chain as chain_of};
 
 use crate::lanes::chain_order::by_steps;
-use crate::lanes::chains::{
-    ChainNumbers, MOST_DIGITS, RunningChains, group_at, hash_adrs, lanes_at, least_lane, put_lanes,
-    with_node,
-};
-use crate::nodes::{part_at, put_part};
+use crate::lanes::chains::{ChainNumbers, MOST_DIGITS, group_at, lanes_at, put_lanes};
+use crate::lanes::running_chains::{RunningChains, hash_adrs, least_lane, with_node};
+use crate::nodes::{chunk_at, put_chunk};
 use crate::place::Place;
 use crate::wots::MOST_STEPS;
 use slh_lanes::{GROUP, LaneAdrs, LaneNodes, SeededLanes, Words, lane_node, set_chains};
@@ -139,13 +137,13 @@ fn take_next(
     ensures value { value_at nodes.new j (length value.now) ≡ value.now }
     ensures values { (i n : ℕ) → i < GROUP → i ≢ j → value_at nodes.new i n ≡ value_at nodes.old i n }
     ensures written { let n = length value.now in
-        part n out.new (slice_index running.old.numbers j) ≡ value_at nodes.old j n }
-    ensures parts { let n = length value.now in
-        (c : ℕ) → c ≢ slice_index running.old.numbers j → part n out.new c ≡ part n out.old c }
+        chunk n out.new (slice_index running.old.numbers j) ≡ value_at nodes.old j n }
+    ensures chunks { let n = length value.now in
+        (c : ℕ) → c ≢ slice_index running.old.numbers j → chunk n out.new c ≡ chunk n out.old c }
 {
     let n = value.len();
     let ended = running.numbers.to_array()[j];
-    put_part(out, n, ended as usize, &lane_node(nodes, j, n));
+    put_chunk(out, n, ended as usize, &lane_node(nodes, j, n));
     *nodes = with_node(nodes, j, value);
     running.put(j, number, step, left);
 }
@@ -165,7 +163,7 @@ pub(crate) fn run_values_in_groups(
     requires values { length values.now ≡ len (params lanes.now.set) * (params lanes.now.set).n }
     requires out { length out.old ≡ len (params lanes.now.set) * (params lanes.now.set).n }
     ensures { let p = params lanes.now.set in let pk_seed = lanes.now.pk_seed.now in
-        out.new ≡ end_to_end (λ c. chain_of p pk_seed at c (part p.n values.now c)
+        out.new ≡ end_to_end (λ c. chain_of p pk_seed at c (chunk p.n values.now c)
         (slice_index from.now c) (slice_index counts.now c)) (len p) }
 {
     let set = lanes.set;
@@ -184,7 +182,7 @@ pub(crate) fn run_values_in_groups(
         let next = order[place];
         let step = from[next as usize];
         let left = counts[next as usize];
-        let value = part_at(values, n, next as usize);
+        let value = chunk_at(values, n, next as usize);
         if lane < GROUP {
             take_next(&mut x, &mut x_nodes, lane, next, step, left, value, out);
         } else {

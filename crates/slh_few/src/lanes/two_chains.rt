@@ -3,7 +3,7 @@ ghost use Rattle.std.specs.Prelude.{◌≡◌, ◌≢◌, ℕ, List, [], ◌+◌
 ghost use Rattle.slh_params.specs.Params.{Params, len};
 ghost use Rattle.slh_params.specs.ParamSet.{params};
 ghost use Rattle.slh_few.specs.KeyStreams.{AreAfter, AreEnds};
-ghost use Rattle.slh_few.specs.Parts.{part};
+ghost use Rattle.slh_few.specs.Chunks.{chunk};
 
 use crate::lanes::keys::key_adrs;
 use crate::place::Place;
@@ -12,7 +12,7 @@ use slh_params::AdrsType;
 
 /// The values that are stored of each chain while the chains of eight keys run to their ends, one key in each lane.
 /// Every chain stores equally many bytes.
-pub(crate) trait Kept {
+pub(crate) trait Stored {
     ghost use Rattle.slh_few.specs.declared.place.Place.{Place};
 
     /// Whether this can be stored for keys of a set.
@@ -22,7 +22,7 @@ pub(crate) trait Kept {
     ghost size: { Self → Params → ℕ };
 
     /// The stored values of a chain of the eight keys from a place on, under SK.seed and PK.seed.
-    ghost kept: { Self → Params → List ℕ → List ℕ → Place → ℕ → List ℕ };
+    ghost stored: { Self → Params → List ℕ → List ℕ → Place → ℕ → List ℕ };
 
     /// The ends of two chains of eight keys, of which the first is at this place. Those of chain `c` are written into
     /// `x`, and those of chain `c + 1` into `y`. The stored values of both chains are written into `out`.
@@ -43,12 +43,12 @@ pub(crate) trait Kept {
         requires out { length out.old ≡ len (params lanes.now.set) * size self.now (params lanes.now.set) }
         ensures x { AreEnds (params lanes.now.set) sk_seed.now lanes.now.pk_seed.now at c x.new }
         ensures y { AreEnds (params lanes.now.set) sk_seed.now lanes.now.pk_seed.now at (c + 1) y.new }
-        ensures x_kept { let p = params lanes.now.set in
-            part (size self.now p) out.new c ≡ kept self.now p sk_seed.now lanes.now.pk_seed.now at c }
-        ensures y_kept { let p = params lanes.now.set in part (size self.now p) out.new (c + 1)
-            ≡ kept self.now p sk_seed.now lanes.now.pk_seed.now at (c + 1) }
+        ensures x_stored { let p = params lanes.now.set in
+            chunk (size self.now p) out.new c ≡ stored self.now p sk_seed.now lanes.now.pk_seed.now at c }
+        ensures y_stored { let p = params lanes.now.set in chunk (size self.now p) out.new (c + 1)
+            ≡ stored self.now p sk_seed.now lanes.now.pk_seed.now at (c + 1) }
         ensures others { let p = params lanes.now.set in (i : ℕ) → i ≢ c → i ≢ c + 1
-            → part (size self.now p) out.new i ≡ part (size self.now p) out.old i };
+            → chunk (size self.now p) out.new i ≡ chunk (size self.now p) out.old i };
 
     /// The ends of chain `c` of eight keys, of which the first is at this place. The stored values of the chain are
     /// written into `out`.
@@ -66,22 +66,22 @@ pub(crate) trait Kept {
         requires chain { c < len (params lanes.now.set) }
         requires out { length out.old ≡ len (params lanes.now.set) * size self.now (params lanes.now.set) }
         ensures ends { AreEnds (params lanes.now.set) sk_seed.now lanes.now.pk_seed.now at c result }
-        ensures kept { let p = params lanes.now.set in
-            part (size self.now p) out.new c ≡ kept self.now p sk_seed.now lanes.now.pk_seed.now at c }
+        ensures stored { let p = params lanes.now.set in
+            chunk (size self.now p) out.new c ≡ stored self.now p sk_seed.now lanes.now.pk_seed.now at c }
         ensures others { let p = params lanes.now.set in (i : ℕ) → i ≢ c
-            → part (size self.now p) out.new i ≡ part (size self.now p) out.old i };
+            → chunk (size self.now p) out.new i ≡ chunk (size self.now p) out.old i };
 }
 
 /// Nothing is stored.
 #[derive(Drop)]
 pub(crate) struct Nothing;
 
-impl Kept for Nothing {
+impl Stored for Nothing {
     ghost fits = { λ k p. Unit {0} };
 
     ghost size = { λ k p. 0 };
 
-    ghost kept = { λ k p sk_seed pk_seed at c. [] };
+    ghost stored = { λ k p sk_seed pk_seed at c. [] };
 
     fn two_ends(
         &self,

@@ -4,13 +4,13 @@ ghost use Rattle.slh_params.specs.Params.{len};
 ghost use Rattle.slh_params.specs.ParamSet.{params};
 ghost use Rattle.slh_lanes.specs.Lanes.{value_at};
 ghost use Rattle.slh_few.specs.KeyStreams.{AreEnds};
-ghost use Rattle.slh_few.specs.Parts.{part};
+ghost use Rattle.slh_few.specs.Chunks.{chunk};
 ghost use Rattle.slh_few.specs.SignedValues.{Fits, signed_value};
 
 use crate::lanes::chains::ChainNumbers;
 use crate::lanes::keys::key_adrs;
-use crate::lanes::two_chains::{Kept, secrets, two_secrets};
-use crate::nodes::put_part;
+use crate::lanes::two_chains::{Stored, secrets, two_secrets};
+use crate::nodes::put_chunk;
 use crate::place::Place;
 use slh_lanes::{GROUP, LaneNodes, SeededLanes, lane_node};
 use slh_params::{AdrsType, ParamSet};
@@ -23,12 +23,12 @@ pub(crate) struct SignedValues<'a> {
     pub(crate) digits: &'a ChainNumbers,
 }
 
-impl<'a> Kept for SignedValues<'a> {
+impl<'a> Stored for SignedValues<'a> {
     ghost fits = { Fits };
 
     ghost size = { λ k p. p.n };
 
-    ghost kept = { signed_value };
+    ghost stored = { signed_value };
 
     fn two_ends(
         &self,
@@ -65,16 +65,16 @@ impl<'a> Kept for SignedValues<'a> {
 }
 
 impl<'a> SignedValues<'a> {
-    /// Writes the value of the key's lane as part `c` of `out`.
+    /// Writes the value of the key's lane as chunk `c` of `out`.
     fn put(&self, set: ParamSet, out: &mut [u8], c: u32, values: &LaneNodes)
         requires lane { self.now.lane < GROUP }
         requires chain { c < len (params set) }
         requires out { length out.old ≡ len (params set) * (params set).n }
-        ensures set { part (params set).n out.new c ≡ value_at values.now self.now.lane (params set).n }
-        ensures others { (i : ℕ) → i ≢ c → part (params set).n out.new i ≡ part (params set).n out.old i }
+        ensures set { chunk (params set).n out.new c ≡ value_at values.now self.now.lane (params set).n }
+        ensures others { (i : ℕ) → i ≢ c → chunk (params set).n out.new i ≡ chunk (params set).n out.old i }
     {
         let n = set.n();
-        put_part(out, n, c as usize, &lane_node(values, self.lane, n));
+        put_chunk(out, n, c as usize, &lane_node(values, self.lane, n));
     }
 
     /// As `two_ends`, for chains `a` and `b`, of which `a` has no more steps to its value. Both chains are run to the
@@ -101,11 +101,11 @@ impl<'a> SignedValues<'a> {
         ensures x { AreEnds (params lanes.now.set) sk_seed.now lanes.now.pk_seed.now at a x.new }
         ensures y { AreEnds (params lanes.now.set) sk_seed.now lanes.now.pk_seed.now at b y.new }
         ensures a { let p = params lanes.now.set in
-            part p.n out.new a ≡ signed_value self.now p sk_seed.now lanes.now.pk_seed.now at a }
+            chunk p.n out.new a ≡ signed_value self.now p sk_seed.now lanes.now.pk_seed.now at a }
         ensures b { let p = params lanes.now.set in
-            part p.n out.new b ≡ signed_value self.now p sk_seed.now lanes.now.pk_seed.now at b }
+            chunk p.n out.new b ≡ signed_value self.now p sk_seed.now lanes.now.pk_seed.now at b }
         ensures others { let p = params lanes.now.set in
-            (i : ℕ) → i ≢ a → i ≢ b → part p.n out.new i ≡ part p.n out.old i }
+            (i : ℕ) → i ≢ a → i ≢ b → chunk p.n out.new i ≡ chunk p.n out.old i }
     {
         let low = self.digits[a as usize];
         let high = self.digits[b as usize];

@@ -2,7 +2,7 @@
 use Rattle.std.proofs.Common.{◌≡◌, ℕ, ◌+◌, ◌*◌, List, length, take, inl, inr, arith, subst, sym, ap, ◌∙◌}
 use Rattle.std.proofs.lemmas.Bool.{cases_lt}
 use Rattle.slh_lanes.specs.Lanes.{value_at}
-use Rattle.slh_few.specs.Parts.{end_to_end}
+use Rattle.slh_few.specs.Chunks.{end_to_end}
 use Rattle.slh_few.proofs.Ends.{writes-more}
 use Rattle.slh_jobs.specs.Ranges.{node_given}
 use Rattle.slh_jobs.proofs.answer_bytes.copied_group.Goals as goal

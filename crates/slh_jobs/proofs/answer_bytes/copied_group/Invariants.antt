@@ -1,7 +1,7 @@
 -- What the loop keeps: the nodes so far are in lanes and copied.
 use Rattle.std.proofs.Common.{◌≡◌, ℕ, ◌+◌, ◌*◌, ◌<◌, List, length, take}
 use Rattle.slh_lanes.specs.Lanes.{value_at}
-use Rattle.slh_few.specs.Parts.{end_to_end}
+use Rattle.slh_few.specs.Chunks.{end_to_end}
 use Rattle.slh_jobs.specs.Ranges.{node_given}
 use Rattle.slh_jobs.proofs.answer_bytes.copied_group.Given as goal
 

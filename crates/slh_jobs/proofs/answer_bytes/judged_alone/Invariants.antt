@@ -2,7 +2,7 @@
 use Rattle.std.proofs.Common.{◌≡◌, ℕ, ◌+◌, ◌*◌, ◌<◌, List, take}
 use Rattle.slh_params.specs.Params.{Params}
 use Rattle.slh_hash.specs.Stream.{IsKeyed}
-use Rattle.slh_few.specs.Parts.{end_to_end}
+use Rattle.slh_few.specs.Chunks.{end_to_end}
 use Rattle.slh_jobs.specs.Ranges.{node_given, tag_given}
 use Rattle.slh_jobs.specs.Tags.{node_tag}
 use Rattle.slh_jobs.proofs.answer_bytes.judged_alone.Given as goal

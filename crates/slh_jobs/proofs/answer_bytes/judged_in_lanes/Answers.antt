@@ -1,7 +1,7 @@
 -- After each group its nodes are copied, and have their tags.
 use Rattle.std.proofs.Common.{◌≡◌, ℕ, ◌+◌, ◌-◌, ◌*◌, ◌<◌, ◌≤◌, min, List, take, inl, inr, refl, arith, subst, sym, ◌∙◌}
 use Rattle.std.proofs.lemmas.Bool.{cases_lt}
-use Rattle.slh_few.specs.Parts.{end_to_end}
+use Rattle.slh_few.specs.Chunks.{end_to_end}
 use Rattle.slh_few.proofs.Ends.{end_to_end-none}
 use Rattle.slh_jobs.specs.Ranges.{node_given, tag_given}
 use Rattle.slh_jobs.specs.Tags.{node_tag}

@@ -2,7 +2,7 @@
 use Rattle.std.proofs.Common.{◌≡◌, ℕ, ◌+◌, ◌*◌, min, List, length, take}
 use Rattle.slh_params.specs.Params.{Params}
 use Rattle.slh_lanes.specs.HmacLanes.{IsBegun}
-use Rattle.slh_few.specs.Parts.{end_to_end}
+use Rattle.slh_few.specs.Chunks.{end_to_end}
 use Rattle.slh_jobs.specs.Ranges.{node_given}
 use Rattle.slh_jobs.specs.AnswerTags.{HaveTags}
 use Rattle.slh_jobs.proofs.answer_bytes.judged_in_lanes.Given as goal

@@ -3,8 +3,8 @@ use Rattle.std.proofs.Common.{◌≡◌, ℕ, ◌+◌, ◌*◌, ◌^◌, List, �
 use Rattle.std.proofs.lemmas.List.{nil_from_length}
 use Rattle.slh_tree.specs.Tree.{node}
 use Rattle.slh_tree.specs.Climb.{path_below}
-use Rattle.slh_few.specs.Parts.{end_to_end, part}
-use Rattle.slh_few.proofs.Ends.{end_to_end-none, end_to_end-more, length-end_to_end, part-end_to_end}
+use Rattle.slh_few.specs.Chunks.{end_to_end, chunk}
+use Rattle.slh_few.proofs.Ends.{end_to_end-none, end_to_end-more, length-end_to_end, chunk-end_to_end}
 use Rattle.slh_jobs.specs.Ranges.{node_given}
 use Rattle.slh_jobs.specs.UpperTrees.{length-node_given}
 use Rattle.slh_jobs.specs.declared.shape.Shape.{Shape}
@@ -60,5 +60,5 @@ pub path_from_leaves-requires-clause-leaves : goal.path_from_leaves-requires-cla
 path_from_leaves-requires-clause-leaves g c = λ i lt.
     let x = c.args.ranges.now in
     let s = x.given.shape in
-    ap (λ (xs : List ℕ). part s.n xs i) c.requires.copies
-    ∙ part-end_to_end (nodes s x.given.bytes.now x.first) s.n (2 ^ s.levels) i lt (λ j less. length-node_given s x.given.bytes.now (x.first + j))
+    ap (λ (xs : List ℕ). chunk s.n xs i) c.requires.copies
+    ∙ chunk-end_to_end (nodes s x.given.bytes.now x.first) s.n (2 ^ s.levels) i lt (λ j less. length-node_given s x.given.bytes.now (x.first + j))

@@ -1,4 +1,4 @@
--- What the loop keeps: covers, records and kept values are those of the ranges so far, in their order.
+-- What the loop keeps: covers, records and checkpoints are those of the ranges so far, in their order.
 use Rattle.std.proofs.Common.{◌≡◌, ◌++◌, map}
 use Rattle.std.specs.List.{flat_map}
 use Rattle.std.specs.Vec.Iter.{into_iter_items}
@@ -13,5 +13,5 @@ invariant-loop-answer g l =
       seen : l.yielded ++ into_iter_items l.answer-iterator ≡ l.fn.answers.items;
       covers : l.covers.items ≡ map (λ x. x.0.cover) l.yielded;
       records : l.records.items ≡ map (λ x. x.0.path) l.yielded;
-      kept : l.kept.items ≡ flat_map (λ x. as_list x.1) l.yielded;
+      checkpoints : l.checkpoints.items ≡ flat_map (λ x. as_list x.1) l.yielded;
     }

@@ -2,7 +2,7 @@
 use Rattle.std.proofs.Common.{◌≡◌, ℕ, ◌+◌, ◌*◌, ◌<◌, ◌++◌, List, length, take, refl, ap, sym, ◌∙◌, arith}
 use Rattle.slh_params.specs.ParamSet.{params}
 use Rattle.slh_few.specs.Fors.{fors_part_len}
-use Rattle.slh_few.proofs.Ends.{end_to_end-none, writes-more, part_fits, written_all}
+use Rattle.slh_few.proofs.Ends.{end_to_end-none, writes-more, chunk_fits, written_all}
 use Rattle.slh_subtrees.specs.Assembled.{fors_part_by}
 use Rattle.slh_subtrees.specs.declared.range.JobTree.TheVariants.{Fors}
 use Rattle.slh_subtrees.proofs.answers.put_fors_parts.Goals as goal
@@ -12,14 +12,14 @@ put_fors_part-root-requires-clause-out g c =
     let p = params c.args.set in
     let b : c.loop-j.j < p.k = omega (arith, c.k-j-end.ensures) in
     let q : length c.loop-j.out ≡ p.k * fors_part_len p = omega (arith, c.requires.out) in
-    rw c.fors_part_len-size.ensures.value (part_fits c.loop-j.j p.k (fors_part_len p) (length c.loop-j.out) b q)
+    rw c.fors_part_len-size.ensures.value (chunk_fits c.loop-j.j p.k (fors_part_len p) (length c.loop-j.out) b q)
 
 pub put_node-requires : goal.put_node-requires
 put_node-requires g c =
     let p = params c.args.set in
     let b : c.loop-j.j < p.k = omega (arith, c.k-j-end.ensures) in
     let q : length c.loop-j.roots ≡ p.k * p.n = omega (arith, c.requires.roots) in
-    rw (c.n-n.ensures, c.put_fors_part-root.ensures.len) (part_fits c.loop-j.j p.k p.n (length c.loop-j.roots) b q)
+    rw (c.n-n.ensures, c.put_fors_part-root.ensures.len) (chunk_fits c.loop-j.j p.k p.n (length c.loop-j.roots) b q)
 
 pub loop-j-init : goal.loop-j-init
 loop-j-init g c =

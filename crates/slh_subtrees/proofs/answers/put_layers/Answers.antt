@@ -2,7 +2,7 @@
 use Rattle.std.proofs.Common.{◌≡◌, ℕ, ◌+◌, ◌*◌, ◌<◌, ◌++◌, List, length, take, refl, ap, sym, ◌∙◌, add-one, arith}
 use Rattle.slh_params.specs.ParamSet.{params}
 use Rattle.slh_few.specs.Xmss.{xmss_sig_len}
-use Rattle.slh_few.proofs.Ends.{end_to_end-none, writes-more, part_fits, written_all}
+use Rattle.slh_few.proofs.Ends.{end_to_end-none, writes-more, chunk_fits, written_all}
 use Rattle.slh_subtrees.specs.SigningTrees.{source_of}
 use Rattle.slh_subtrees.specs.Assembled.{signed_by, layer_part_by}
 use Rattle.slh_subtrees.proofs.answers.put_layers.Goals as goal
@@ -12,7 +12,7 @@ put_layer_part-msg-requires-clause-out g c =
     let p = params c.args.trees.now.signer.now.public.set in
     let b : c.loop-layer.layer < p.d = omega (arith, c.d-layer-end.ensures) in
     let q : length c.loop-layer.out ≡ p.d * xmss_sig_len p = omega (arith, c.requires.out) in
-    rw c.xmss_sig_len-size.ensures.value (part_fits c.loop-layer.layer p.d (xmss_sig_len p) (length c.loop-layer.out) b q)
+    rw c.xmss_sig_len-size.ensures.value (chunk_fits c.loop-layer.layer p.d (xmss_sig_len p) (length c.loop-layer.out) b q)
 
 pub loop-layer-init : goal.loop-layer-init
 loop-layer-init g c =

@@ -1,7 +1,7 @@
 -- What the loop keeps: what this layer signs, and the parts of the layers before it.
 use Rattle.std.proofs.Common.{◌≡◌, ◌*◌, length, take}
 use Rattle.slh_params.specs.ParamSet.{params}
-use Rattle.slh_few.specs.Parts.{end_to_end}
+use Rattle.slh_few.specs.Chunks.{end_to_end}
 use Rattle.slh_few.specs.Xmss.{xmss_sig_len}
 use Rattle.slh_subtrees.specs.SigningTrees.{source_of}
 use Rattle.slh_subtrees.specs.Assembled.{signed_by, layer_part_by}

@@ -5,21 +5,21 @@ use Rattle.std.proofs.Math.Logic.{∥∥₁_elim, ∥∥₁_map}
 use Rattle.std.proofs.Props.{props}
 use Rattle.slh_params.specs.ParamSet.{params}
 use Rattle.slh_hash.specs.Hash.{T}
-use Rattle.slh_few.specs.Parts.{part}
-use Rattle.slh_few.proofs.Ends.{take-part_more}
+use Rattle.slh_few.specs.Chunks.{chunk}
+use Rattle.slh_few.proofs.Ends.{take-chunk_more}
 use Rattle.slh_few.proofs.context.HashContext.t.Goals as goal
 
 pub loop-c-init : goal.loop-c-init
 loop-c-init c =
     let none : 0 * (params c.args.self.now.set).n ≡ 0 = omega arith in
-    rw none (∥∥₁_map c.args.self.now.join_state (λ h. c.stream-stream.ensures _ _ h))
+    rw none c.t_stream-stream.ensures
 
 pub loop-c-preserved : goal.loop-c-preserved
 loop-c-preserved c =
     let n = (params c.args.self.now.set).n in
     let nodes = c.args.nodes.now in
-    let own = c.node_at.ensures.value ∙ ap (λ q. part q nodes c.loop-c.c) c.n-n.ensures in
-    ∥∥₁_map c.loop-c.invariant (λ h. rw (take-part_more n nodes c.loop-c.c, sym own) (c.absorb.ensures _ _ _ _ h))
+    let own = c.node_at.ensures.value ∙ ap (λ q. chunk q nodes c.loop-c.c) c.n-n.ensures in
+    ∥∥₁_map c.loop-c.invariant (λ h. rw (take-chunk_more n nodes c.loop-c.c, sym own) (c.absorb.ensures _ _ _ _ h))
 
 pub returns-clause-value : goal.returns-clause-value
 returns-clause-value c =

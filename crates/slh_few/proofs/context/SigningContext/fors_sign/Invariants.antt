@@ -1,6 +1,6 @@
 use Rattle.std.proofs.Common.{◌≡◌, ◌*◌, take}
 use Rattle.slh_params.specs.ParamSet.{params}
-use Rattle.slh_few.specs.Parts.{end_to_end}
+use Rattle.slh_few.specs.Chunks.{end_to_end}
 use Rattle.slh_few.specs.Fors.{fors_part, fors_part_len}
 use Rattle.slh_few.proofs.context.SigningContext.fors_sign.Given as goal
 

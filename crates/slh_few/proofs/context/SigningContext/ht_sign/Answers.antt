@@ -5,9 +5,9 @@ use Rattle.slh_params.specs.declared.param_set.ParamSet.{ParamSet}
 use Rattle.slh_few.specs.declared.place.Place.{Place}
 use Rattle.slh_few.specs.Xmss.{xmss_sig_len, xmss_sig}
 use Rattle.slh_few.specs.Hypertree.{place_above, layer_place, signed_at, layer_sig, ht_sig, ht_root_from_sig}
-use Rattle.slh_few.specs.Parts.{end_to_end}
+use Rattle.slh_few.specs.Chunks.{end_to_end}
 use Rattle.slh_few.proofs.Sizes.{top_layer}
-use Rattle.slh_few.proofs.Ends.{end_to_end-none, writes-more, part_fits, written_all}
+use Rattle.slh_few.proofs.Ends.{end_to_end-none, writes-more, chunk_fits, written_all}
 use Rattle.slh_few.proofs.Layers.{layer_place-start, layer_place-more}
 use Rattle.slh_few.proofs.XmssLaw.{length-xmss_sig}
 use Rattle.slh_few.proofs.HtLaw.{signed_at-start, layer_made, layer_root, ht_root_from_sig-ht_sig}
@@ -30,7 +30,7 @@ sign_layer-root-requires-clause-out c =
     let p = params c.args.self.now.public.set in
     let b : c.loop-layer.layer < p.d = omega (arith, c.d.ensures) in
     let q : length c.loop-layer.out ≡ p.d * xmss_sig_len p = omega (arith, c.requires.out) in
-    rw c.xmss_sig_len-size.ensures.value (part_fits c.loop-layer.layer p.d (xmss_sig_len p) (length c.loop-layer.out) b q)
+    rw c.xmss_sig_len-size.ensures.value (chunk_fits c.loop-layer.layer p.d (xmss_sig_len p) (length c.loop-layer.out) b q)
 
 -- a layer's signature, put after those of the layers below
 layer_put : (s : ParamSet) (sk pk m : List ℕ) (t i l : ℕ) (at : Place) (x out new : List ℕ)
@@ -63,7 +63,7 @@ put_layer-requires-clause-out c =
     let e : c.d.result - 1 ≡ c.loop-layer.layer = omega arith in
     let b : c.loop-layer.layer < p.d = omega (arith, c.d.ensures, top_layer s, e) in
     let q : length c.loop-layer.out ≡ p.d * xmss_sig_len p = omega (arith, c.requires.out) in
-    rw (e, c.xmss_sig_len-size.ensures.value) (part_fits c.loop-layer.layer p.d (xmss_sig_len p) (length c.loop-layer.out) b q)
+    rw (e, c.xmss_sig_len-size.ensures.value) (chunk_fits c.loop-layer.layer p.d (xmss_sig_len p) (length c.loop-layer.out) b q)
 
 pub returns-clause-signature : goal.returns-clause-signature
 unfolding ht_sig

@@ -1,7 +1,7 @@
 -- What the loop keeps: the place, what is signed there, and the parts of the signature written so far.
 use Rattle.std.proofs.Common.{◌≡◌, ◌<◌, ◌^◌, ◌*◌, length, take}
 use Rattle.slh_params.specs.ParamSet.{params}
-use Rattle.slh_few.specs.Parts.{end_to_end}
+use Rattle.slh_few.specs.Chunks.{end_to_end}
 use Rattle.slh_few.specs.Xmss.{xmss_sig_len}
 use Rattle.slh_few.specs.Hypertree.{layer_place, signed_at, layer_sig}
 use Rattle.slh_few.proofs.context.SigningContext.ht_sign.Given as goal

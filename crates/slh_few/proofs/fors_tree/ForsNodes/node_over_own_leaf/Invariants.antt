@@ -5,9 +5,9 @@ use Rattle.slh_tree.specs.Record.{Gains}
 use Rattle.slh_few.specs.Trees.{fors_nodes_of}
 use Rattle.slh_few.proofs.fors_tree.ForsNodes.node_over_own_leaf.Given as goal
 
-abbrev pub invariant-loop-level : goal.invariant-loop-level
-invariant-loop-level l = record {
-  climbed : l.node.items ≡ node (fors_nodes_of l.self) l.level (l.leaf / 2 ^ l.level);
+abbrev pub invariant-loop-height : goal.invariant-loop-height
+invariant-loop-height l = record {
+  climbed : l.node.items ≡ node (fors_nodes_of l.self) l.height (l.leaf / 2 ^ l.height);
   width : length l.node.items ≡ (params l.self.signer.now.public.set).n;
-  gained : Gains (fors_nodes_of l.self) (λ j. j < l.level) l.initial.rec l.rec;
+  gained : Gains (fors_nodes_of l.self) (λ j. j < l.height) l.initial.rec l.rec;
 }

@@ -2,5 +2,5 @@ use Rattle.std.proofs.Common.{arith}
 use Rattle.slh_params.proofs.Bounds.{a_high}
 use Rattle.slh_few.proofs.fors_tree.ForsNodesTree.leaf.Goals as goal
 
-pub adrs-adrs-requires-clause-levels : goal.adrs-adrs-requires-clause-levels
-adrs-adrs-requires-clause-levels c = omega (arith, c.a.ensures, a_high c.args.self.now.signer.now.public.set)
+pub adrs-adrs-requires-clause-depth : goal.adrs-adrs-requires-clause-depth
+adrs-adrs-requires-clause-depth c = omega (arith, c.a.ensures, a_high c.args.self.now.signer.now.public.set)

@@ -7,7 +7,7 @@ use Rattle.slh_tree.proofs.Authentic.{climb-start, climb-step}
 use Rattle.slh_tree.proofs.Branch.{half_shr}
 use Rattle.slh_few.specs.Fors.{fors_tree, fors_leaf, fors_part_len}
 use Rattle.slh_few.specs.ForsRoots.{climbed}
-use Rattle.slh_few.specs.Parts.{part}
+use Rattle.slh_few.specs.Chunks.{chunk}
 use Rattle.slh_few.proofs.ForsClimb.{number_half, parent_numbered, secret_first, path_after}
 use Rattle.slh_few.proofs.fors_tree.ForsPlace.climb_lanes.Goals as goal
 
@@ -25,7 +25,7 @@ loop-z-init c =
       nodes = λ j low.
           let lane : j < 8 = omega (arith, low, c.requires.used) in
           let x = slice_index c.args.indices.now (t.tree_no + j) in
-          let own = part (fors_part_len p) c.args.sig.now (t.tree_no + j) in
+          let own = chunk (fors_part_len p) c.args.sig.now (t.tree_no + j) in
           climb-start (fors_tree p [] pk t.idx_tree t.idx_leaf (t.tree_no + j)) x
           (fors_leaf p pk t.idx_tree t.idx_leaf ((t.tree_no + j) * 2 ^ p.a + x) (take p.n own)) _ (path_node p.n (drop p.n own))
           (c.leaves_over-nodes.ensures j lane
@@ -48,7 +48,7 @@ loop-z-preserved c =
       nodes = λ j low.
           let lane : j < 8 = omega (arith, low, c.requires.used) in
           let x : ℕ = slice_index c.args.indices.now (t.tree_no + j) in
-          let own = part (fors_part_len p) c.args.sig.now (t.tree_no + j) in
+          let own = chunk (fors_part_len p) c.args.sig.now (t.tree_no + j) in
           let other = c.part_nodes-others.ensures j low ∙ path_after p.n z own in
           parent_numbered p [] pk t.idx_tree t.idx_leaf (t.tree_no + j) z (x / 2 ^ z) (slice_index c.loop-z.at j)
           (value_at c.loop-z.nodes j p.n) (value_at c.part_nodes-others.result j p.n) (value_at c.parents-nodes.result j p.n) lt
@@ -63,4 +63,4 @@ returns c = λ j low.
     let all : c.loop-z.z ≡ p.a = omega (arith, c.a-z-end.ensures) in
     c.loop-z.invariant.nodes j low
     ∙ ap (λ (k : ℕ). climbed p [] c.args.lanes.now.pk_seed.now t.idx_tree t.idx_leaf (t.tree_no + j)
-    (slice_index c.args.indices.now (t.tree_no + j)) (part (fors_part_len p) c.args.sig.now (t.tree_no + j)) k) all
+    (slice_index c.args.indices.now (t.tree_no + j)) (chunk (fors_part_len p) c.args.sig.now (t.tree_no + j)) k) all

@@ -9,11 +9,11 @@ pub consecutive-requires : goal.consecutive-requires
 consecutive-requires c =
     let s = c.args.set in
     let t = c.args.self.now.tree_no in
-    let levels : ℕ = (params s).a - c.args.z in
+    let depth : ℕ = (params s).a - c.args.z in
     let few : t ≤ 64 = omega (arith, c.requires.tree) in
-    let short : levels ≤ 14 = omega (arith, a_high s) in
-    let low : 2 ^ levels ≤ 2 ^ 14 = pow-le-pow_right {n = 2} (lit≤ tt) short in
-    let all : t * 2 ^ levels ≤ 64 * 2 ^ 14 = mul-le-mul few low in
+    let short : depth ≤ 14 = omega (arith, a_high s) in
+    let low : 2 ^ depth ≤ 2 ^ 14 = pow-le-pow_right {n = 2} (lit≤ tt) short in
+    let all : t * 2 ^ depth ≤ 64 * 2 ^ 14 = mul-le-mul few low in
     let is = c.index_in_forest-index.ensures ∙ ap (λ k. t * 2 ^ (k - c.args.z) + c.args.first) c.a.ensures in
     omega (arith, is, all, low, c.requires.index)
 

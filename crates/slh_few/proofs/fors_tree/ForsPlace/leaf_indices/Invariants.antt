@@ -5,5 +5,5 @@ abbrev pub invariant-loop-j : goal.invariant-loop-j
 invariant-loop-j l = record {
   len : length l.all ≡ 8;
   numbers : (i : ℕ) → i < l.j
-      → slice_index l.all i ≡ (l.self.tree_no + i) * 2 ^ l.levels + slice_index l.indices (l.self.tree_no + i);
+      → slice_index l.all i ≡ (l.self.tree_no + i) * 2 ^ l.depth + slice_index l.indices (l.self.tree_no + i);
 }

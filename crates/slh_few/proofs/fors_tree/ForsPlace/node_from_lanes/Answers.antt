@@ -7,7 +7,7 @@ use Rattle.slh_few.specs.Fors.{fors_tree}
 use Rattle.slh_few.proofs.NodeLanes.{few_nodes, joined, twice}
 use Rattle.slh_few.proofs.fors_tree.ForsPlace.node_from_lanes.Goals as goal
 
--- two and three levels down
+-- two and three heights down
 four_times : (a z : ℕ) → 2 ≤ z → z ≤ a → 2 ^ (a - (z - 2)) ≡ 4 * 2 ^ (a - z)
 four_times a z low high =
     let e : z - 2 ≡ z - 1 - 1 = omega arith in

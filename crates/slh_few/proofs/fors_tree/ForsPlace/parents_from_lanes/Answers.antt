@@ -3,7 +3,7 @@ use Rattle.slh_params.specs.Address.{address, FORS_TREE}
 use Rattle.slh_params.specs.ParamSet.{params}
 use Rattle.slh_hash.specs.Hash.{H}
 use Rattle.slh_lanes.specs.Lanes.{value_at}
-use Rattle.slh_few.specs.Parts.{part}
+use Rattle.slh_few.specs.Chunks.{chunk}
 use Rattle.slh_few.proofs.fors_tree.ForsPlace.parents_from_lanes.Goals as goal
 
 pub returns-clause-parents : goal.returns-clause-parents
@@ -17,4 +17,4 @@ returns-clause-parents c = λ j d lt.
     c.first_nodes.ensures.values j d lt ∙ ap (value_at c.h-nodes.result j) c.n.ensures
     ∙ c.h-nodes.ensures j lane _ (c.lane_adrs-adrs.ensures j lane)
     ∙ ap₂ (H p pk (address 0 t.idx_tree FORS_TREE t.idx_leaf c.args.z (t.tree_no * 2 ^ (p.a - c.args.z) + (c.args.first + j))))
-    (c.children-left.ensures j own ∙ ap (part p.n c.args.below.now) here) (c.children-right.ensures j own)
+    (c.children-left.ensures j own ∙ ap (chunk p.n c.args.below.now) here) (c.children-right.ensures j own)

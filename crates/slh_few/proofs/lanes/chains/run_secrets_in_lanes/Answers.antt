@@ -5,10 +5,10 @@ use Rattle.slh_params.specs.ParamSet.{params}
 use Rattle.slh_params.specs.Params.{len}
 use Rattle.slh_lanes.specs.Lanes.{value_at}
 use Rattle.slh_lanes.proofs.Columns.{splat_lane}
-use Rattle.slh_few.specs.Parts.{part}
+use Rattle.slh_few.specs.Chunks.{chunk}
 use Rattle.slh_few.specs.Wots.{chain, secret}
 use Rattle.slh_few.proofs.ChainLanes.{group_below, group_next, group_all}
-use Rattle.slh_few.proofs.PartWrites.{all_parts}
+use Rattle.slh_few.proofs.ChunkWrites.{all_chunks}
 use Rattle.slh_few.proofs.lanes.chains.run_secrets_in_lanes.Goals as goal
 
 pub loop-turn-preserved : goal.loop-turn-preserved
@@ -46,7 +46,7 @@ returns c =
     let pk = c.args.lanes.now.pk_seed.now in
     let all = group_all c.loop-turn.turn c.len-count.result c.div_ceil-turn-end.result c.div_ceil-turn-end.ensures c.loop-turn-test.false in
     let f : ℕ → List ℕ = λ q. chain p pk c.args.at q (secret p sk pk c.args.at q) 0 (slice_index c.args.counts.now q) in
-    all_parts f p.n (len p) c.loop-turn.out (omega (arith, c.requires.out)) (λ d low.
+    all_chunks f p.n (len p) c.loop-turn.out (omega (arith, c.requires.out)) (λ d low.
     let found = c.by_steps-order.ensures.all d (omega (arith, low, c.len-count.ensures)) in
     let there = rw c.n-n.ensures at (c.loop-turn.invariant found.0 (omega (arith, all, found.1))) in
-    ap (part p.n c.loop-turn.out) (sym found.2) ∙ there ∙ ap f found.2)
+    ap (chunk p.n c.loop-turn.out) (sym found.2) ∙ there ∙ ap f found.2)

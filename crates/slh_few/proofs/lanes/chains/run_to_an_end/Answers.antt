@@ -5,7 +5,7 @@ use Rattle.slh_params.specs.ParamSet.{params}
 use Rattle.slh_lanes.specs.Lanes.{value_at}
 use Rattle.slh_lanes.specs.Steps.{steps}
 use Rattle.slh_lanes.proofs.Columns.{splat_lane}
-use Rattle.slh_few.specs.Parts.{part}
+use Rattle.slh_few.specs.Chunks.{chunk}
 use Rattle.slh_few.specs.RunningChains.{ChainsAt, EndAt}
 use Rattle.slh_few.specs.Wots.{wots_address}
 use Rattle.slh_few.specs.declared.place.Place.{Place}
@@ -33,8 +33,8 @@ returns c =
     let none : slice_index new.left j ≡ 0 = omega (arith, c.advance.ensures.left j lane) in
     let number : slice_index new.numbers j ≡ slice_index old.numbers j = ap (λ (v : List ℕ). slice_index v j) c.advance.ensures.numbers in
     let written : (f : ℕ → List ℕ) (at : Place) → ChainsAt c.args.adrs.now at → EndAt f p pk at old nodes
-    → part n c.put_part.new.bytes (slice_index old.numbers j) ≡ f (slice_index old.numbers j) = λ f at a e.
-    ap (part n c.put_part.new.bytes) (sym number) ∙ c.put_part.ensures.set ∙ c.deref.ensures.0 ∙ c.lane_node.ensures.value
+    → chunk n c.put_chunk.new.bytes (slice_index old.numbers j) ≡ f (slice_index old.numbers j) = λ f at a e.
+    ap (chunk n c.put_chunk.new.bytes) (sym number) ∙ c.put_chunk.ensures.set ∙ c.deref.ensures.0 ∙ c.lane_node.ensures.value
     ∙ ap (value_at next j) c.requires.n ∙ ended f p pk at new next j lane none (ends f at a e) ∙ ap f number in
     record {
       lane = lane;
@@ -43,7 +43,7 @@ returns c =
       ends = ends;
       written = written;
       kept = λ f at a e d held. elim (cases_eq d (slice_index old.numbers j)) [
-        | inl same ↦ ap (part n c.put_part.new.bytes) same ∙ written f at a e ∙ ap f (sym same)
-        | inr other ↦ c.put_part.ensures.others d (λ same. other (same ∙ number)) ∙ held
+        | inl same ↦ ap (chunk n c.put_chunk.new.bytes) same ∙ written f at a e ∙ ap f (sym same)
+        | inr other ↦ c.put_chunk.ensures.others d (λ same. other (same ∙ number)) ∙ held
       ];
     }

@@ -3,20 +3,20 @@ use Rattle.std.proofs.Common.{[], ◌≡◌, ℕ, ◌+◌, ◌<◌, List, length
 use Rattle.arrayvec.specs.ArrayVec.{ArrayVec}
 use Rattle.slh_params.specs.ParamSet.{params}
 use Rattle.slh_few.specs.ForsRoots.{root_given}
-use Rattle.slh_few.proofs.Ends.{part_fits}
+use Rattle.slh_few.proofs.Ends.{chunk_fits}
 use Rattle.slh_few.proofs.ForsClimb.{length-climbed}
 use Rattle.slh_few.proofs.lanes.fors_climbs.put_eight.Goals as goal
 
-pub put_part-requires-clause-within : goal.put_part-requires-clause-within
-put_part-requires-clause-within c =
+pub put_chunk-requires-clause-within : goal.put_chunk-requires-clause-within
+put_chunk-requires-clause-within c =
     let t = c.args.first.now in
     let p = params c.args.lanes.now.set in
     let j : ℕ = c.loop-j.j in
     let below : t.tree_no + j < p.k = omega (arith, c.min-used.ensures, c.k.ensures, c.loop-j-test.true) in
-    rw c.n.ensures (part_fits (t.tree_no + j) p.k p.n (length c.loop-j.out) below (omega (arith, c.requires.out)))
+    rw c.n.ensures (chunk_fits (t.tree_no + j) p.k p.n (length c.loop-j.out) below (omega (arith, c.requires.out)))
 
-pub put_part-requires-clause-value : goal.put_part-requires-clause-value
-put_part-requires-clause-value c =
+pub put_chunk-requires-clause-value : goal.put_chunk-requires-clause-value
+put_chunk-requires-clause-value c =
     let t = c.args.first.now in
     let p = params c.args.lanes.now.set in
     let j : ℕ = c.loop-j.j in

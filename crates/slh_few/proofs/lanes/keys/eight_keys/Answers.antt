@@ -1,12 +1,12 @@
--- After each turn the keys' streams have absorbed the ends so far, and what is kept of as many chains is written.
+-- After each turn the keys' streams have absorbed the ends so far, and the stored values of as many chains are written.
 use Rattle.std.proofs.Common.{◌≡◌, ℕ, ◌+◌, ◌-◌, ◌*◌, inl, inr, refl, subst, ◌∙◌, arith}
 use Rattle.std.proofs.lemmas.Bool.{cases_lt}
 use Rattle.slh_params.specs.Params.{len}
 use Rattle.slh_params.specs.ParamSet.{params}
 use Rattle.slh_few.specs.KeyStreams.{HaveAbsorbedEnds}
-use Rattle.slh_few.specs.Parts.{part}
+use Rattle.slh_few.specs.Chunks.{chunk}
 use Rattle.slh_few.proofs.EightKeys.{absorbed_more, absorbed_none, finished_keys}
-use Rattle.slh_few.proofs.PartWrites.{all_parts}
+use Rattle.slh_few.proofs.ChunkWrites.{all_chunks}
 use Rattle.slh_few.proofs.lanes.keys.eight_keys.Goals as goal
 use Rattle.slh_few.proofs.lanes.keys.eight_keys.Goals.{then-len-eq1, else-len-eq1}
 
@@ -14,7 +14,7 @@ pub loop-pair-init : goal.loop-pair-init
 loop-pair-init g c = record {
   absorbed = absorbed_none (params c.args.lanes.now.set) c.args.sk_seed.now c.args.lanes.now.pk_seed.now c.args.at c.new-stream.result (2 * 0)
       (omega arith) (λ j lane. c.new-stream.ensures j lane _ (c.key_adrs.ensures j lane));
-  kept = λ i none. absurd (omega (arith, none));
+  stored = λ i none. absurd (omega (arith, none));
 }
 
 pub loop-pair-preserved : goal.loop-pair-preserved
@@ -25,20 +25,20 @@ loop-pair-preserved g c =
     let now : ℕ = c.loop-pair.pair in
     let old = c.loop-pair.invariant in
     let ends = c.two_ends.ensures in
-    let size = g.K.Kept.size c.args.keep.now p in
-    let kept = g.K.Kept.kept c.args.keep.now p sk pk c.args.at in
+    let size = g.K.Stored.size c.args.store.now p in
+    let stored = g.K.Stored.stored c.args.store.now p sk pk c.args.at in
     record {
       absorbed = absorbed_more p sk pk c.args.at c.absorb.new.self c.absorb-in-loop-pair.new.self c.two_ends.new.y (2 * now + 1) (2 * (now + 1)) (omega arith) c.absorb-in-loop-pair.ensures ends.y
           (absorbed_more p sk pk c.args.at c.loop-pair.stream c.absorb.new.self c.two_ends.new.x (2 * now) (2 * now + 1) (omega arith) c.absorb.ensures ends.x old.absorbed);
-      kept = λ i lt. elim (cases_lt i (2 * now)) [
-        | inl low ↦ ends.others i (omega (arith, low)) (omega (arith, low)) ∙ old.kept i low
+      stored = λ i lt. elim (cases_lt i (2 * now)) [
+        | inl low ↦ ends.others i (omega (arith, low)) (omega (arith, low)) ∙ old.stored i low
         | inr ge ↦ elim (cases_lt i (2 * now + 1)) [
           | inl one ↦
               let e : 2 * now ≡ i = omega (arith, ge, one) in
-              subst (λ d. part size c.two_ends.new.out d ≡ kept d) e ends.x_kept
+              subst (λ d. chunk size c.two_ends.new.out d ≡ stored d) e ends.x_stored
           | inr two ↦
               let e : 2 * now + 1 ≡ i = omega (arith, lt, two) in
-              subst (λ d. part size c.two_ends.new.out d ≡ kept d) e ends.y_kept
+              subst (λ d. chunk size c.two_ends.new.out d ≡ stored d) e ends.y_stored
         ]
       ];
     }
@@ -63,26 +63,26 @@ returns-clause-keys g c =
     finished_keys c.args.lanes.now.set sk pk at c.if-len-eq1.stream c.finish.result c.first_nodes.result.items (len p)
     refl c.first_nodes.ensures.len (rw c.n.ensures at c.first_nodes.ensures.values) c.finish.ensures all
 
-pub returns-clause-kept : goal.returns-clause-kept
-returns-clause-kept g c =
+pub returns-clause-stored : goal.returns-clause-stored
+returns-clause-stored g c =
     let p = params c.args.lanes.now.set in
     let sk = c.args.sk_seed.now in
     let pk = c.args.lanes.now.pk_seed.now in
     let now : ℕ = c.loop-pair.pair in
     let old = c.loop-pair.invariant in
-    let size = g.K.Kept.size c.args.keep.now p in
-    let f = g.K.Kept.kept c.args.keep.now p sk pk c.args.at in
+    let size = g.K.Stored.size c.args.store.now p in
+    let f = g.K.Stored.stored c.args.store.now p sk pk c.args.at in
     elim c.if-len-eq1.branch [
       | then-len-eq1 w ↦
           let end : ℕ = c.len-len.result - 1 in
           let last : 2 * now ≡ end = omega (arith, w.if-len-eq1.true) in
-          rw w.out-is (all_parts f size (len p) w.ends-ends.new.out (omega (arith, w.ends-ends.auto.out, c.loop-pair.auto.out, c.requires.out)) (λ i lt. elim (cases_lt i end) [
-            | inl low ↦ w.ends-ends.ensures.others i (omega (arith, low)) ∙ old.kept i (omega (arith, low, last))
+          rw w.out-is (all_chunks f size (len p) w.ends-ends.new.out (omega (arith, w.ends-ends.auto.out, c.loop-pair.auto.out, c.requires.out)) (λ i lt. elim (cases_lt i end) [
+            | inl low ↦ w.ends-ends.ensures.others i (omega (arith, low)) ∙ old.stored i (omega (arith, low, last))
             | inr ge ↦
                 let e : end ≡ i = omega (arith, lt, ge, c.len-len.ensures) in
-                subst (λ d. part size w.ends-ends.new.out d ≡ f d) e w.ends-ends.ensures.kept
+                subst (λ d. chunk size w.ends-ends.new.out d ≡ f d) e w.ends-ends.ensures.stored
           ]))
       | else-len-eq1 w ↦
           let even : 2 * now ≡ len p = omega (arith, w.if-len-eq1.false, c.len-len.ensures) in
-          rw w.out-is (all_parts f size (len p) c.loop-pair.out (omega (arith, c.loop-pair.auto.out, c.requires.out)) (λ i lt. old.kept i (omega (arith, lt, even))))
+          rw w.out-is (all_chunks f size (len p) c.loop-pair.out (omega (arith, c.loop-pair.auto.out, c.requires.out)) (λ i lt. old.stored i (omega (arith, lt, even))))
     ]

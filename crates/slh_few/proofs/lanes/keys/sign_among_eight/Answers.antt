@@ -18,7 +18,7 @@ returns-clause-signature c =
     let pk = c.args.lanes.now.pk_seed.now in
     let first = c.first_of_eight.result in
     let key = ap (key_at first) c.lane_among_eight.ensures ∙ among_eight c.args.at first c.first_of_eight.ensures in
-    c.eight_keys.ensures.kept ∙ end_to_end-same _ (signed_chain p sk pk c.args.at c.args.msg.now.items) (len p) (λ k l q.
+    c.eight_keys.ensures.stored ∙ end_to_end-same _ (signed_chain p sk pk c.args.at c.args.msg.now.items) (len p) (λ k l q.
     chain p pk (key q) k (secret p sk pk (key q) k) 0 (c.digits_of-digits.ensures.digits k l q))
 
 pub returns-clause-keys : goal.returns-clause-keys

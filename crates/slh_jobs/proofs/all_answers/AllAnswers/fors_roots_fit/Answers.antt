@@ -5,8 +5,8 @@ use Rattle.slh_params.specs.declared.param_set.ParamSet.{ParamSet}
 use Rattle.slh_params.specs.ParamSet.{params}
 use Rattle.slh_params.proofs.Bounds.{k_high, n_high}
 use Rattle.slh_few.specs.Fors.{fors_part_len, fors_root}
-use Rattle.slh_few.specs.Parts.{end_to_end, part}
-use Rattle.slh_few.proofs.Ends.{length-end_to_end, part-end_to_end, end_to_end-same}
+use Rattle.slh_few.specs.Chunks.{end_to_end, chunk}
+use Rattle.slh_few.proofs.Ends.{length-end_to_end, chunk-end_to_end, end_to_end-same}
 use Rattle.slh_few.proofs.ForsClimb.{length-climbed}
 use Rattle.slh_subtrees.specs.Assembled.{fors_part_by}
 use Rattle.slh_subtrees.specs.declared.range.JobTree.TheVariants.{Fors}
@@ -44,14 +44,14 @@ returns c =
     let own : ℕ → List ℕ = fors_part_by (answers_in x) in
     let roots : ℕ → List ℕ = λ j. (answers_in x).root (Fors j) in
     let Root : ℕ → List ℕ → List ℕ = λ j xs. fors_root p s.pk_seed s.idx_tree s.idx_leaf s.md j xs in
-    let given : ℕ → List ℕ = λ j. Root j (part (fors_part_len p) c.args.sig_fors.now j) in
+    let given : ℕ → List ℕ = λ j. Root j (chunk (fors_part_len p) c.args.sig_fors.now j) in
     let wide : (j : ℕ) → j < p.k → length (given j) ≡ p.n = λ j lt. length-climbed s.set _ s.pk_seed s.idx_tree s.idx_leaf j _ _ p.a in
     let same : (j : ℕ) → j < p.k → given j ≡ Root j (own j) = λ j lt.
-    ap (Root j) (ap (λ (xs : List ℕ). part (fors_part_len p) xs j) c.requires.sig_fors ∙ part-end_to_end own (fors_part_len p) p.k j lt c.requires.parts) in
+    ap (Root j) (ap (λ (xs : List ℕ). chunk (fors_part_len p) xs j) c.requires.sig_fors ∙ chunk-end_to_end own (fors_part_len p) p.k j lt c.requires.parts) in
     let climbed : c.put_fors_roots.new.out ≡ end_to_end given p.k = c.put_fors_roots.ensures in (
       λ yes j lt.
-          sym (same j lt) ∙ sym (part-end_to_end given p.n p.k j lt wide)
-          ∙ ap (λ (xs : List ℕ). part p.n xs j) (sym climbed ∙ c.have_same_bytes.ensures.0 yes ∙ c.requires.tops)
-          ∙ part-end_to_end roots p.n p.k j lt c.requires.widths,
+          sym (same j lt) ∙ sym (chunk-end_to_end given p.n p.k j lt wide)
+          ∙ ap (λ (xs : List ℕ). chunk p.n xs j) (sym climbed ∙ c.have_same_bytes.ensures.0 yes ∙ c.requires.tops)
+          ∙ chunk-end_to_end roots p.n p.k j lt c.requires.widths,
       λ fit. c.have_same_bytes.ensures.1 (climbed ∙ end_to_end-same given roots p.k (λ j lt. same j lt ∙ fit j lt) ∙ sym c.requires.tops),
     )

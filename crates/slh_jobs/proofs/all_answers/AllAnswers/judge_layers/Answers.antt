@@ -41,14 +41,14 @@ loop-layer-preserved c =
     let here : Tagged n × LayerFits s a n = c.in-Some.ensures.fits.0 refl in
     let path_size : length (path n) ≡ long = c.in-Some.ensures.path_len refl in
     let path_len : c.hp.result * c.n-n.result ≡ long = rw (c.hp.ensures, c.n-n.ensures) refl in
-    let put_path : take (n * long + long) c.layer_root_at.new.paths ≡ take (n * long) c.loop-layer.paths ++ path n =
+    let put_judged_path : take (n * long + long) c.layer_root_at.new.paths ≡ take (n * long) c.loop-layer.paths ++ path n =
     rw path_len at (c.in-Some.ensures.path refl) in
     let msg : List ℕ = c.loop-layer.msg.items in
     let put : take (n * size + length msg) c.put_node.new.out ≡ take (n * size) c.loop-layer.signed ++ msg = rw c.n-n.ensures at c.put_node.ensures.written in (
       next,
       c.in-Some.ensures.len,
       writes-more signed n size c.loop-layer.signed c.put_node.new.out msg c.loop-layer.invariant.0 c.loop-layer.invariant.1 c.loop-layer.invariant.2 put,
-      writes-more path n long c.loop-layer.paths c.layer_root_at.new.paths (path n) refl path_size c.loop-layer.invariant.3 (ap (λ k. take (n * long + k) c.layer_root_at.new.paths) path_size ∙ put_path),
+      writes-more path n long c.loop-layer.paths c.layer_root_at.new.paths (path n) refl path_size c.loop-layer.invariant.3 (ap (λ k. take (n * long + k) c.layer_root_at.new.paths) path_size ∙ put_judged_path),
       below_more Long n c.loop-layer.invariant.4 path_size,
       below_more Sized n c.loop-layer.invariant.5 (c.in-Some.ensures.part_len refl),
       below_more Tagged n c.loop-layer.invariant.6 here.0,

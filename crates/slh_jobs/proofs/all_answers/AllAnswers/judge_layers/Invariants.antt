@@ -1,7 +1,7 @@
 -- What the loop keeps: what this layer signs, what was written of it and of the paths, and that the layers before it have
 -- their tags and give what the next one signs.
 use Rattle.std.proofs.Common.{◌≡◌, ℕ, ◌<◌, ◌*◌, length, take}
-use Rattle.slh_few.specs.Parts.{end_to_end}
+use Rattle.slh_few.specs.Chunks.{end_to_end}
 use Rattle.slh_few.specs.Xmss.{xmss_sig_len}
 use Rattle.slh_subtrees.specs.Assembled.{signed_by, layer_part_by}
 use Rattle.slh_subtrees.specs.declared.range.JobTree.TheVariants.{Xmss}

@@ -1,7 +1,7 @@
 -- After each tree one part and one root more are written.
 use Rattle.std.proofs.Common.{◌≡◌, ℕ, ◌+◌, ◌*◌, ◌<◌, ◌++◌, List, length, take, refl, arith, sym, ap, ◌∙◌}
 use Rattle.slh_few.specs.Fors.{fors_part_len}
-use Rattle.slh_few.proofs.Ends.{end_to_end-none, writes-more, part_fits, written_all}
+use Rattle.slh_few.proofs.Ends.{end_to_end-none, writes-more, chunk_fits, written_all}
 use Rattle.slh_subtrees.specs.Assembled.{fors_part_by}
 use Rattle.slh_subtrees.specs.declared.range.JobTree.TheVariants.{Fors}
 use Rattle.slh_jobs.specs.AllAnswers.{params_in, answers_in}
@@ -14,14 +14,14 @@ put_fors_part_at-requires-clause-out c =
     let p = params_in c.args.self.now in
     let b : c.loop-j.j < p.k = omega (arith, c.k-j-end.ensures) in
     let q : length c.loop-j.sig_fors ≡ p.k * fors_part_len p = omega (arith, c.requires.sig_fors) in
-    rw c.fors_part_len-size.ensures.value (part_fits c.loop-j.j p.k (fors_part_len p) (length c.loop-j.sig_fors) b q)
+    rw c.fors_part_len-size.ensures.value (chunk_fits c.loop-j.j p.k (fors_part_len p) (length c.loop-j.sig_fors) b q)
 
 pub put_node-requires : goal.put_node-requires
 put_node-requires c =
     let p = params_in c.args.self.now in
     let b : c.loop-j.j < p.k = omega (arith, c.k-j-end.ensures) in
     let q : length c.loop-j.tops ≡ p.k * p.n = omega (arith, c.requires.tops) in
-    rw (c.n-n.ensures, c.in-Some.ensures.len) (part_fits c.loop-j.j p.k p.n (length c.loop-j.tops) b q)
+    rw (c.n-n.ensures, c.in-Some.ensures.len) (chunk_fits c.loop-j.j p.k p.n (length c.loop-j.tops) b q)
 
 pub loop-j-init : goal.loop-j-init
 loop-j-init c =

@@ -1,7 +1,7 @@
 -- What the loop keeps: the parts and the roots that are written, and that the FORS trees before number j have their tags.
 use Rattle.std.proofs.Common.{◌≡◌, ℕ, ◌<◌, ◌*◌, length, take}
 use Rattle.slh_few.specs.Fors.{fors_part_len}
-use Rattle.slh_few.specs.Parts.{end_to_end}
+use Rattle.slh_few.specs.Chunks.{end_to_end}
 use Rattle.slh_subtrees.specs.Assembled.{fors_part_by}
 use Rattle.slh_subtrees.specs.declared.range.JobTree.TheVariants.{Fors}
 use Rattle.slh_jobs.specs.AllAnswers.{params_in, answers_in}

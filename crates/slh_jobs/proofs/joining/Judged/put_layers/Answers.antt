@@ -1,7 +1,7 @@
 -- After each layer one part more of the hypertree signature is written.
 use Rattle.std.proofs.Common.{◌≡◌, ℕ, ◌+◌, ◌*◌, ◌<◌, ◌++◌, List, length, take, refl, ap, sym, ◌∙◌, arith}
 use Rattle.slh_few.specs.Xmss.{xmss_sig_len}
-use Rattle.slh_few.proofs.Ends.{end_to_end-none, writes-more, part_fits, written_all}
+use Rattle.slh_few.proofs.Ends.{end_to_end-none, writes-more, chunk_fits, written_all}
 use Rattle.slh_subtrees.specs.Assembled.{signed_by, layer_part_by}
 use Rattle.slh_jobs.specs.AllAnswers.{params_in, source_in, answers_in}
 use Rattle.slh_jobs.proofs.joining.Judged.put_layers.Goals as goal
@@ -11,7 +11,7 @@ put_layer_at-requires-clause-out c =
     let p = params_in c.args.self.now.answered.now in
     let b : c.loop-layer.layer < p.d = omega (arith, c.d-layer-end.ensures) in
     let q : length c.loop-layer.out ≡ p.d * xmss_sig_len p = omega (arith, c.requires) in
-    rw c.xmss_sig_len-size.ensures.value (part_fits c.loop-layer.layer p.d (xmss_sig_len p) (length c.loop-layer.out) b q)
+    rw c.xmss_sig_len-size.ensures.value (chunk_fits c.loop-layer.layer p.d (xmss_sig_len p) (length c.loop-layer.out) b q)
 
 pub loop-layer-init : goal.loop-layer-init
 loop-layer-init c =

@@ -1,6 +1,6 @@
 -- What the loop keeps: the parts of the layers so far are written.
 use Rattle.std.proofs.Common.{◌≡◌, ◌*◌, take}
-use Rattle.slh_few.specs.Parts.{end_to_end}
+use Rattle.slh_few.specs.Chunks.{end_to_end}
 use Rattle.slh_few.specs.Xmss.{xmss_sig_len}
 use Rattle.slh_subtrees.specs.Assembled.{signed_by, layer_part_by}
 use Rattle.slh_jobs.specs.AllAnswers.{params_in, source_in, answers_in}

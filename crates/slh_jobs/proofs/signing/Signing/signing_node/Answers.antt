@@ -35,15 +35,15 @@ knows c =
     hashed-knows (tree_in t.trees c.args.tree) v (below s) c.hashed_with_rest-hashed.result.cover c.hashed_with_rest-hashed.result.path c.hashed_with_rest-hashed.ensures.hashed
     (c.hashed_with_rest-hashed.ensures.lo ∙ from) (c.hashed_with_rest-hashed.ensures.hi ∙ to) (omega (arith, high))
 
-pub put_path-requires-clause-nodes : goal.put_path-requires-clause-nodes
-put_path-requires-clause-nodes c = λ j lt.
+pub put_known_nodes-requires-clause-nodes : goal.put_known_nodes-requires-clause-nodes
+put_known_nodes-requires-clause-nodes c = λ j lt.
     let t = c.args.self.now in
     let s = source_of t.trees in
     let below_z : j < below (shape_of t.levels c.args.tree) = rw (c.below-2.ensures, c.shape-shape.ensures.value) at lt in
     let n : c.shape-shape.result.n ≡ (params s.set).n =
     ap (λ x. x.n) c.shape-shape.ensures.value ∙ shape-n t.levels c.args.tree ∙ ap (λ (set : ParamSet). (params set).n) (sym t.tree_set) in
     length-known (tree_in t.trees c.args.tree) (tree-lawful s c.args.tree) (leaf_in t.trees c.args.tree) (below (shape_of t.levels c.args.tree)) c.hashed_with_rest-hashed.result.path
-    (knows (goal.at.put_path-requires-clause-nodes c).After-hashed_with_rest-hashed) j below_z
+    (knows (goal.at.put_known_nodes-requires-clause-nodes c).After-hashed_with_rest-hashed) j below_z
     ∙ tree-width s c.args.tree ∙ sym n
 
 pub returns-clause-own : goal.returns-clause-own
@@ -51,8 +51,8 @@ returns-clause-own c =
     let t = c.args.self.now in
     let z : ℕ = below (shape_of t.levels c.args.tree) in
     let path = c.hashed_with_rest-hashed.result.path in
-    let lower : c.put_path.new.out ≡ path_below (tree_in t.trees c.args.tree) (leaf_in t.trees c.args.tree) z =
-    rw (c.below-2.ensures, c.shape-shape.ensures.value) at c.put_path.ensures
+    let lower : c.put_known_nodes.new.out ≡ path_below (tree_in t.trees c.args.tree) (leaf_in t.trees c.args.tree) z =
+    rw (c.below-2.ensures, c.shape-shape.ensures.value) at c.put_known_nodes.ensures
     ∙ path-known (tree_in t.trees c.args.tree) (leaf_in t.trees c.args.tree) z path (knows (goal.at.returns-clause-own c).After-hashed_with_rest-hashed) in
     ap (λ (xs : List ℕ). xs ++ c.hashed_with_rest-hashed.new.rest) lower
     ∙ ap (λ (ys : List ℕ). path_below (tree_in t.trees c.args.tree) (leaf_in t.trees c.args.tree) z ++ ys) c.hashed_with_rest-hashed.ensures.rest

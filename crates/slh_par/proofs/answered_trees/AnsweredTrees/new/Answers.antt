@@ -1,6 +1,6 @@
--- The answers of the jobs apart: each range's in its place, and what was kept of chains by layers.
+-- The answers of the jobs apart: each range's in its place, and the checkpoints of chains by layers.
 use Rattle.slh_par.proofs.SplitAnswers.{answers_split}
-use Rattle.slh_par.proofs.Kept.{chains_kept}
+use Rattle.slh_par.proofs.Checkpoints.{checkpoints_right}
 use Rattle.slh_par.proofs.answered_trees.AnsweredTrees.new.Goals as goal
 
 pub invariant_of-result-clause-all_answers : goal.invariant_of-result-clause-all_answers
@@ -10,5 +10,5 @@ invariant_of-result-clause-all_answers g c =
 
 pub invariant_of-result-clause-all_chains : goal.invariant_of-result-clause-all_chains
 invariant_of-result-clause-all_chains g c =
-    ∣ chains_kept c.args.trees.now c.args.cutting.now c.args.answers.items c.in_ok-covers.chains.items c.requires.count
+    ∣ checkpoints_right c.args.trees.now c.args.cutting.now c.args.answers.items c.in_ok-covers.chains.items c.requires.count
     c.requires.right c.requires.set c.xmss_ranges-ranges.ensures.end_to_end c.in_ok-covers.ensures.2 ∣₁

@@ -4,7 +4,7 @@ use Rattle.std.proofs.Props.{props}
 use Rattle.slh_params.specs.ParamSet.{params}
 use Rattle.slh_params.proofs.Bounds.{n_high}
 use Rattle.slh_few.specs.Hypertree.{layer_place}
-use Rattle.slh_few.proofs.KeptChains.{length-kept_chains}
+use Rattle.slh_few.proofs.KeyCheckpoints.{length-key_checkpoints}
 use Rattle.slh_subtrees.specs.SigningTrees.{source_of}
 use Rattle.slh_par.proofs.answered_trees.AnsweredTreesAnswers.chains.Goals as goal
 
@@ -16,4 +16,4 @@ pub returns-clause-len : goal.returns-clause-len
 returns-clause-len g c =
     let s = source_of c.args.self.now.trees.now in
     let at = layer_place (params s.set) s.idx_tree s.idx_leaf c.args.layer in
-    ap length (returns-clause-value g c) ∙ length-kept_chains (params s.set) s.sk_seed s.pk_seed at (n_high s.set)
+    ap length (returns-clause-value g c) ∙ length-key_checkpoints (params s.set) s.sk_seed s.pk_seed at (n_high s.set)

@@ -1,9 +1,0 @@
-use Rattle.std.proofs.Common.{◌≡◌, ◌*◌, take}
-use Rattle.slh_params.specs.ParamSet.{params}
-use Rattle.slh_few.specs.Parts.{end_to_end}
-use Rattle.slh_few.specs.KeptChains.{chain_from_kept}
-use Rattle.slh_few.proofs.context.HashContext.wots_sign_kept.Given as goal
-
-abbrev pub invariant-loop-c : goal.invariant-loop-c
-invariant-loop-c l = take (l.c * (params l.self.set).n) l.out
-    ≡ end_to_end (chain_from_kept (params l.self.set) l.self.pk_seed.now l.at l.kept l.msg.items) l.c
