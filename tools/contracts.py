@@ -201,14 +201,15 @@ def main():
     written = head() + "".join(rows_of(crate) for crate in crates())
     with open(PROVED) as file:
         proved = file.read()
+    counted = with_lines(proved)
     if "--check" not in sys.argv[1:]:
         with open(PAGE, "w") as file:
             file.write(written)
         with open(PROVED, "w") as file:
-            file.write(with_lines(proved))
+            file.write(counted)
     else:
         with open(PAGE) as file:
-            if (file.read(), proved) != (written, with_lines(proved)):
+            if (file.read(), proved) != (written, counted):
                 sys.exit("docs/CONTRACTS.md or docs/PROVED.md is not what the sources say: run tools/contracts.py")
     missing = list(missing_clauses())
     if missing:

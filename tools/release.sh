@@ -112,7 +112,8 @@ not_compared() {
 }
 
 check() {
-    local file made=${1:-$work/dist}
+    local file made=$work/dist
+    [ -z "$1" ] || made=$(realpath -m "$1")
     has_release || not_compared "there is no release in dist/"
     mapfile -t files < <(cd "$here/dist" && find . -type f ! -name SHA256SUMS -printf '%P\n' | LC_ALL=C sort)
     for file in "${files[@]}"; do

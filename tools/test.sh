@@ -4,13 +4,14 @@
 # that `rt ci` has built. Without rt it runs the scripts over the release in dist/, and skips the parts that need rt by
 # name.
 #
-# usage: tools/test.sh [--no-setup] [--quick | [--release] [--few]]
+# usage: tools/test.sh [--no-setup] [--quick | [--release] [--few]] [--all]
 #
 #   --no-setup   installs nothing
 #   --quick      the layout of all files, the program, changed wrong bodies, and the scripts over the
 #                program, by the work that earlier checks kept: no `rt ci`, no tables and no library
 #   --release    the scripts over the release in dist/, also if rt is there
 #   --few        the same, with a few tests of each script
+#   --all        draws nothing: where scripts draw one of several parts (a level, a set, a target), all are run
 #   --help       prints this
 #
 # If tools are missing, tools/setup.sh installs them, as root on Debian. On other systems one line names them and how to
@@ -19,7 +20,8 @@
 # Each part is announced with its number and its minutes. The end is a table of all parts, a list of the skipped tests,
 # and each failure with the command that runs its part alone. The last line is 'N passed, M failed, K skipped', and the
 # status is 0 if nothing failed. The table marks parts that took more processor minutes than tests/README.md
-# grants: that is no failure.
+# grants: that is no failure. What is drawn follows from SLH_SEED, which is printed. Set to the same number it repeats
+# the draws, and `all` is --all.
 set -uo pipefail
 here=$(cd "$(dirname "${BASH_SOURCE[0]}")/.." && pwd)
 cd "$here"
@@ -39,11 +41,13 @@ for word in "$@"; do
     "whole --quick") mode=quick ;;
     "whole --release" | "release --release") mode=release ;;
     "whole --few" | "release --few") mode=release few=--few ;;
+    *" --all") export SLH_SEED=all ;;
     *" --help" | *" -h") usage && exit ;;
     *) { echo "tools/test.sh: unknown word: $word" && usage; } >&2 && exit 2 ;;
     esac
 done
 if [ $mode = whole ] && ! command -v rt >/dev/null; then mode=release; fi
+export SLH_SEED=${SLH_SEED:-$((RANDOM << 15 | RANDOM))}
 
 # Scripts, each with its title, its minutes on 4 cores, its minutes with --few, and the commands without which it can't
 # be run at all.
@@ -73,7 +77,7 @@ scripts_of_kit="rt ci|proofs: each function, from nothing|60|1|rt
 tests/wrong_bodies.py --gate|wrong bodies: changed ones, and some of all|6|1|rt
 tests/tested_bodies.py --few|wrong bodies: some that tests refuse|2|1|rt
 tests/tables.sh|tables: known values of single functions|1|1|rt
-tests/widths_tests.sh|widths: vectors for each number of lanes|6|1|rt"
+tests/widths_tests.sh --written|widths: a number of lanes is written as it is proved|1|1|rt"
 
 # ---- before the parts ----
 
@@ -152,7 +156,8 @@ plan_release() {
     done
 }
 
-# Plans the scripts over the work of `rt ci`. tests/release_tests.sh runs the others, over a release that it builds.
+# Plans the scripts over the work of `rt ci`. A release is built once, in out/release, and the scripts over libraries
+# take it, but for tests/boards_tests.sh, which builds. tests/release_tests.sh runs the others over it.
 plan_sources() {
     local all
     all=$(printf '%s\n' "$scripts_of_sources" "$scripts_of_release")
@@ -162,9 +167,13 @@ plan_sources() {
         plan_parts "" "" "tests/wrong_bodies.py --changed|wrong bodies: changed ones|3|1|rt"
     plan_parts "" "" "$(grep -E '^tests/(commands|vectors|interchange|streams|each_growth|limits)\.' <<<"$all")"
     [ $mode = whole ] || return 0
-    plan_parts --after-ci "" "$(grep '^tests/library' <<<"$all")"
-    plan_parts "" "" "$(grep -E '^tests/(targets|boards|portable)' <<<"$all")"
-    plan_parts "" "" "tests/release_tests.sh|release: packages, provider, Debian, what needs no rt|10|1|cc openssl xxd"
+    rm -rf out/release
+    plan_parts "" "" "tools/release.sh --after-ci --check out/release|release: it is built, and compared with dist/|5|5|"
+    plan_parts "--dist out/release" "" "$(grep -E '^tests/(library|portable)' <<<"$all")"
+    plan_parts "--dist out/release --drawn" "" "$(grep '^tests/targets' <<<"$all")"
+    plan_parts "" "" "$(grep '^tests/boards' <<<"$all")"
+    plan_parts "--made out/release" "" \
+        "tests/release_tests.sh|release: packages, provider, Debian, what needs no rt|8|1|cc openssl xxd"
     plan_parts --few "" "tests/fresh_tests.sh|fresh: the test command on a minimal Debian|5|5|"
 }
 
@@ -270,6 +279,7 @@ rows+=("tools/test.sh|$passed|$failed|$skipped|$SECONDS|0|")
 for part in "${plan[@]}"; do run_part "$part"; done
 measure
 table
+echo "drawn by SLH_SEED=$SLH_SEED"
 if [ ${#names[@]} != 0 ]; then printf '%s\n' "skipped:" "${names[@]}"; fi
 if [ ${#faults[@]} != 0 ]; then printf '%s\n' "failed:" "${faults[@]}"; fi
 end_counts

@@ -1,7 +1,8 @@
 /*
- * The proved exports: SECRET(NAME, PARAMETERS, ARGUMENTS) is one that takes secrets, OPEN one that takes none, SIZES
- * one of these that writes sizes. Who includes this file says what they are, but SIZES is as OPEN if nothing is said.
- * The compiler holds each against the headers. a, b and c are SK.seed, SK.prf and PK.seed.
+ * The proved exports, a line each. SECRET(NAME, PARAMETERS, ARGUMENTS) stands for a call that takes secrets, and OPEN
+ * for a call that takes none. SIZES stands for a call without secrets that writes sizes. The file that includes this
+ * one defines these macros; without a definition of its own, SIZES is OPEN. The compiler compares each line with the
+ * headers. a, b and c are SK.seed, SK.prf and PK.seed.
  */
 #ifndef SIZES
 #define SIZES OPEN

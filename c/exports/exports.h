@@ -1,4 +1,4 @@
-/* What the files of this folder share. */
+/* Declarations that the C files of this folder share. */
 #ifndef SLH_EXPORTS_H
 #define SLH_EXPORTS_H
 
@@ -16,21 +16,21 @@ HIDDEN void *slh_memmove(void *to, const void *from, size_t n);
 HIDDEN void *slh_memset(void *to, int byte, size_t n);
 
 /*
- * Clears `depth` bytes, a multiple of 16, below the stack pointer that its caller had at its own begin, where it is
- * called last, and the registers that a call need not keep. Returns `result`. On x86-64 the vectors are 0 where
- * there are those of SSE alone, 1 with AVX, 2 with AVX-512.
+ * Clears the stack and the registers that a call has used, and returns `result`. Its caller calls it last. It clears
+ * `depth` bytes below the stack pointer that its caller was entered with, and each register that a call need not keep.
+ * `depth` is a multiple of 16. On x86-64 `vectors` is 0 for SSE, 1 for AVX and 2 for AVX-512.
  */
 HIDDEN uint32_t slh_clear(uint32_t result, size_t depth, uint32_t vectors);
 
 #ifdef __x86_64__
-/* What CPUID and XGETBV tell. XCR0 is 0 where the system does not have it. */
+/* Answers of CPUID and XGETBV. `xcr0` is 0 if the system has not enabled XGETBV. */
 struct slh_processor {
     uint32_t leaf_1_ecx, leaf_7_ebx, leaf_80000001_ecx, xcr0;
 };
 
 HIDDEN struct slh_processor slh_ask_processor(void);
 
-/* What was chosen: the level, 2, 3 or 4, and above it the vectors; 0 before anybody asked. */
+/* The chosen level (2, 3 or 4) in the lowest byte, and the vectors above it. It is 0 before the first call. */
 extern HIDDEN uint32_t slh_choice;
 enum { LEVEL_MASK = 0xff, VECTORS_SHIFT = 8 };
 

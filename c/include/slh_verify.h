@@ -32,10 +32,10 @@
 
 /* The version of this header: three numbers, the number that slh_version returns for it, and the text. */
 #define SLH_VERSION_MAJOR 0
-#define SLH_VERSION_MINOR 10
+#define SLH_VERSION_MINOR 11
 #define SLH_VERSION_PATCH 0
 #define SLH_VERSION_NUMBER (1000000 * SLH_VERSION_MAJOR + 1000 * SLH_VERSION_MINOR + SLH_VERSION_PATCH)
-#define SLH_VERSION "0.10.0"
+#define SLH_VERSION "0.11.0"
 
 /* Marks each call whose result has to be checked: compilers that can do so warn if it is ignored. */
 #if defined(__cplusplus) && __cplusplus >= 201703L
@@ -214,9 +214,9 @@ uint32_t slh_hash_verify(uint32_t set, uint32_t function, const uint8_t *pk, siz
      (SLH_READ_AGAIN(verdict) & 0xffffu) == (SLH_HARDENED_VALID & 0xffffu))
 
 /*
- * To verify as slh_verify does, on a machine that an attacker disturbs, as by a pulse on its supply. One instruction
- * that is skipped does not turn the verdict, and no register that loses a bit or all, between the last hash and
- * SLH_IS_VALID (docs/MACHINES.md says what was tried).
+ * To verify as slh_verify does, on a machine that an attacker disturbs, as by a pulse on its supply. One comparison
+ * that is turned does not turn the verdict. docs/MACHINES.md lists the faults that were tried, and the processor. No
+ * other fault is claimed to be harmless.
  * Returns: SLH_HARDENED_VALID if slh_verify returns SLH_DONE, and else SLH_HARDENED_INVALID. slh_verify tells why it
  * refuses a call.
  */

@@ -28,11 +28,11 @@ struct machine {
 };
 #define MACHINE_BYTES offsetof(struct machine, bytes)
 
-/* The address of the first byte. Nothing goes below it: STACK_BYTES is what the deepest path of calls takes. */
+/* The address of the first byte. No call goes below it: STACK_BYTES is the stack of the deepest path of calls. */
 #define FIRST (STACK_TOP - STACK_BYTES)
 
-/* What the functions take as m: where the address 0 would be on this machine. It is a number, since nothing is there.
-   With it an access takes one addition, and a compiler needs no constant for FIRST. */
+/* The type of each function's argument m: the place of address 0 on this machine. It is a number and no pointer, since
+   no object is there. With it an access takes one addition, and a compiler needs no constant for FIRST. */
 typedef uintptr_t base;
 #define BASE(machine) ((uintptr_t)(machine)->bytes - (uintptr_t)FIRST)
 #define MACHINE(m) ((struct machine *)((m) + (uintptr_t)FIRST - MACHINE_BYTES))
@@ -45,8 +45,8 @@ void SLH_TRAP(const char *why);
 #define SLH_TRAP(why) STOP(why)
 #endif
 
-/* Ends the program, or keeps it here. The proved code never comes here: where its translation does, a translator, the
-   compiler or the machine is at fault, or STACK_BYTES is too small. No proof covers these. */
+/* Ends the program, or stays here for ever. The proved code never calls it. If the translated code does, then a
+   translator, the compiler or the machine is at fault, or STACK_BYTES is too small. No proof covers these. */
 static _Noreturn void trap(const char *why) {
     SLH_TRAP(why);
     for (;;) {}
@@ -65,8 +65,8 @@ INLINE uint8_t *at(base m, u64 address, u64 n) {
     return (uint8_t *)(m + (uintptr_t)address);
 }
 
-/* Numbers lie in memory with their lowest byte first. Where this processor has them so, too, they are copied as they
-   are, of which a compiler makes one load or store; else they are made of their bytes. */
+/* Numbers lie in memory with their lowest byte first. On a little-endian processor they are copied, of which a compiler
+   makes one load or store. On others they are made of their bytes. */
 #if defined(_MSC_VER) || (defined(__BYTE_ORDER__) && __BYTE_ORDER__ == __ORDER_LITTLE_ENDIAN__)
 INLINE u32 get32(const uint8_t *it) {
     u32 number;

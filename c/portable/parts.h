@@ -26,8 +26,8 @@ _Static_assert(MACHINE_BYTES + PARTS_AT + SLH_MAX_PUBLIC_KEY + ALIGNED(SLH_MAX_C
                "slh_verify.h grants a set less memory than it takes");
 #endif
 
-/* Gives each part a place, and tells how many bytes of memory there have to be: 0 where that is more than half of all
-   that a size_t can count. */
+/* Gives each part a place, and returns the number of bytes of memory that the call needs. It returns 0 if that is more
+   than half of the greatest size_t. */
 static size_t placed(struct part *parts, size_t count) {
     size_t size = PARTS_AT;
     for (size_t i = 0; i < count; i++) {
@@ -54,7 +54,7 @@ static struct machine *begin(struct part *parts, size_t count) {
     return m;
 }
 
-/* Hands out what is done, erases the memory and gives it back. */
+/* Copies the results to the caller if the call has succeeded, erases the memory and frees it. */
 static u32 end(struct machine *m, const struct part *parts, size_t count, u32 result) {
     for (size_t i = 0; result == SLH_DONE && i < count; i++)
         if (parts[i].out != NULL && parts[i].len > 0) memcpy(parts[i].out, PLACE(m, parts[i]), parts[i].len);
@@ -63,7 +63,7 @@ static u32 end(struct machine *m, const struct part *parts, size_t count, u32 re
     return result;
 }
 
-/* A part as the proved code takes it: where it is, and its length; or where it is alone. */
+/* The arguments of the proved code for a part: its address and its length; its address alone. */
 #define B(i) parts[i].address, (u64)parts[i].len
 #define P(i) parts[i].address
 

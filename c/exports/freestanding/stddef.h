@@ -1,4 +1,4 @@
-/* What the headers of c/include/ take of <stddef.h>, for a compiler that comes without headers of its own. */
+/* The type of <stddef.h> that the headers of c/include/ use, for a compiler that has no headers of its own. */
 #ifndef SLH_STDDEF_H
 #define SLH_STDDEF_H
 

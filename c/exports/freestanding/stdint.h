@@ -1,4 +1,4 @@
-/* What the headers of c/include/ and the files of c/exports/ take of <stdint.h>. */
+/* The types of <stdint.h> that c/include/ and c/exports/ use, for a compiler that has no headers of its own. */
 #ifndef SLH_STDINT_H
 #define SLH_STDINT_H
 
