@@ -233,7 +233,7 @@ elif one "the archives for boards are made" make_archives; then
         short_vectors
         if can_run Cortex-M arm-none-eabi-gcc qemu-system-arm; then
             one "programs for Cortex-M4, M7 and M33 link the archive" links_everywhere
-            vectors_on thumbv7em && vectors_on thumbv6m
+            vectors_on thumbv7em && runs_cortex_m0 thumbv6m && vectors_on thumbv6m
         fi
         if can_run riscv32imac riscv64-linux-gnu-gcc qemu-riscv32; then
             vectors_on riscv32imac

@@ -123,9 +123,10 @@ make_images() {
 }
 
 if can_run "the boot loader" openssl xxd python3 && one "the keys are made" make_keys; then
-    for board in thumbv7em thumbv6m; do
-        ! can_run "the boot loader on $board" arm-none-eabi-gcc qemu-system-arm || boots_on $board
-    done
+    if can_run "the boot loader on Cortex-M" arm-none-eabi-gcc qemu-system-arm; then
+        boots_on thumbv7em
+        ! runs_cortex_m0 "the boot loader on thumbv6m" || boots_on thumbv6m
+    fi
     ! can_run "the boot loader on riscv32imac" riscv64-linux-gnu-gcc qemu-riscv32 || boots_on riscv32imac
 fi
 end_counts

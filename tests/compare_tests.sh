@@ -7,8 +7,9 @@
 # usage: tests/compare_tests.sh [--few] {--dist DIST | PREFIX SLH_C} [--all]
 #
 # PREFIX is a folder that tools/library.sh has installed into, SLH_C the portable C, with its headers in ../include.
-# Both are installed of a release DIST. The
-# levels of optimisation are -O0, -O2, -O3 and -Os with --all, -O2 and -Os by default. With --few slh.c is left out. It
+# Both are installed of a release DIST. Of
+# slh.c by GCC and clang, -O2 and -Os, one build is drawn by SLH_SEED, and SLH_SEED=all takes all four. With --all -O0
+# and -O3 are tried, too. With --few slh.c is left out. It
 # needs valgrind 3.19 or later with its headers, and is skipped without it. valgrind knows no AVX-512, so the archive
 # for x86-64-v4 is skipped. The last line has the counts.
 set -u
@@ -28,9 +29,10 @@ if [ ${#words[@]} -lt 2 ]; then
     exit 2
 fi
 prefix=$(realpath "${words[0]}") slh_c=$(realpath "${words[1]}")
-optimised=(2 s)
-if [ "${words[2]-}" = --all ]; then optimised=(0 s 2 3); fi
-if [ $few = yes ]; then optimised=(); fi
+draw "the build of slh.c" gcc-2 gcc-s clang-2 clang-s
+builds=("${drawn[@]}")
+if [ "${words[2]-}" = --all ]; then builds=({gcc,clang}-{0,s,2,3}); fi
+if [ $few = yes ]; then builds=(); fi
 
 # Makes a PROGRAM of tests/library_compare.c and a LIBRARY or an object, with the headers of a FOLDER.
 links() {
@@ -92,9 +94,8 @@ tries_archive libslh-v2.a
 ! can_use avx2 || tries_archive libslh-v3.a
 skip "comparisons of tags over libslh-v4.a" "valgrind knows no AVX-512"
 one "a comparison that ends early is found" finds_early_end
-for level in ${optimised[@]+"${optimised[@]}"}; do
-    for compiler in gcc clang; do
-        ! can_run "slh.c by $compiler -O$level" "$compiler" || tries_portable "$compiler" "$level"
-    done
+for build in ${builds[@]+"${builds[@]}"}; do
+    compiler=${build%-*} level=${build#*-}
+    ! can_run "slh.c by $compiler -O$level" "$compiler" || tries_portable "$compiler" "$level"
 done
 end_counts

@@ -101,6 +101,29 @@ take_options() {
     words=("$@")
 }
 
+# Reads --all where it is the first of `words`: nothing is drawn then, and each part is run.
+take_all() {
+    [ "${words[0]-}" = --all ] || return 0
+    export SLH_SEED=all
+    words=("${words[@]:1}")
+}
+
+# Draws one of some parts into `drawn`, and says which: NAME PARTS. The number SLH_SEED decides, so that a run with the
+# same number draws the same. If it is `all`, all are drawn.
+draw() {
+    local name=$1 sum
+    shift
+    export SLH_SEED=${SLH_SEED:-$((RANDOM << 15 | RANDOM))}
+    drawn=("$@")
+    [ "$SLH_SEED" != all ] || return 0
+    sum=$(sha256sum <<<"$SLH_SEED $name")
+    drawn=("${@:1 + 0x${sum:0:8} % $#:1}")
+    echo "$name: drawn is $drawn of $*, by SLH_SEED=$SLH_SEED"
+}
+
+# Whether a part is among those that were drawn.
+is_drawn() { [[ " ${drawn[*]} " = *" $1 "* ]]; }
+
 # Sets `program`: with --dist the one of the release for this processor, else the one that is named, GIVEN or DEFAULT.
 # Where it can't be run, there is nothing to test. It has a status of its own where it builds.
 choose_program() {

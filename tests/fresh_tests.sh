@@ -4,17 +4,20 @@
 # rights runs the test command, which has to name the missing tools and skip. Then root runs it, and it has to install
 # them. Nothing may fail. Debian 12 has the files of `git archive`, Debian 13 a clone.
 #
-# usage: tests/fresh_tests.sh [--few]
+# usage: tests/fresh_tests.sh [--few] [12] [13]
 #
-# --few makes Debian 12 alone, and runs the test command with --few there. The script has to be root on Debian, with
-# debootstrap (tools/setup.sh installs it) and a mirror of both: otherwise all is skipped. A root takes up to 7 GB of
-# the folder for temporary files while it is tested. Downloaded packages stay in ~/.cache/slh for the next run. The last
-# line has the counts, and the status is 0 if nothing failed.
+# 12 or 13 tests that Debian alone. --few takes 12 if none is named, and runs the test command with --few there. The
+# script has to be root on Debian, with debootstrap (tools/setup.sh installs it) and a mirror of both: otherwise all is
+# skipped. A root takes up to 7 GB of the folder for temporary files while it is tested. Downloaded packages stay in
+# ~/.cache/slh for the next run. The last line has the counts, and the status is 0 if nothing failed.
 set -u
 here=$(cd "$(dirname "${BASH_SOURCE[0]}")/.." && pwd)
 source "$here/tests/counts.sh"
 take_options "$@"
-[ ${#words[@]} = 0 ] || nothing_to_test "unknown word: ${words[0]}"
+for word in ${words[@]+"${words[@]}"}; do
+    [[ $word = 1[23] ]] || nothing_to_test "unknown word: $word"
+done
+if [ ${#words[@]} = 0 ] && [ $few = yes ]; then words=(12); elif [ ${#words[@]} = 0 ]; then words=(12 13); fi
 work=$(mktemp -d)
 trap 'rm -rf --one-file-system "$work"' EXIT
 source "$here/tests/library_parts.sh"
@@ -103,9 +106,12 @@ tell_skipped() {
 }
 
 test_debian() {
-    local name=$1 number=$2 shell
+    local number=$1 name=${names[$1]} shell
     root=$work/$name
-    if [ -z "$(mirror_of "$name")" ]; then
+    if [ -n "$why" ]; then
+        skip "Debian $number" "$why"
+        return
+    elif [ -z "$(mirror_of "$name")" ]; then
         skip "Debian $number" "the mirror of this machine's apt does not have it"
         return
     fi
@@ -121,14 +127,8 @@ test_debian() {
 }
 
 one "README's test command is one command" names_one_command
+declare -A names=([12]=bookworm [13]=trixie)
 why=$(obstacle)
-if [ -n "$why" ]; then
-    skip "Debian 12" "$why"
-    [ $few = yes ] || skip "Debian 13" "$why"
-    end_counts
-    exit
-fi
-use_proxy
-test_debian bookworm 12
-[ $few = yes ] || test_debian trixie 13
+[ -n "$why" ] || use_proxy
+for number in "${words[@]}"; do test_debian "$number"; done
 end_counts

@@ -5,6 +5,8 @@
 #
 # usage: tests/levels_tests.sh PREFIX      what tools/library.sh has installed
 #
+# SLH_SEED draws the processor whose code is tried by the vectors, and the archive whose depths are measured in full, as
+# tests/library_tests.sh says: SLH_SEED=all tries each.
 # It needs a C compiler as CC or cc, and python3. A level that this processor lacks is skipped, and so is the emulator
 # where there is none: it says so. The last line has the counts, and the status is 0 where nothing failed.
 set -u
@@ -50,7 +52,9 @@ one_level() {
         one "the example over libslh-v$level.a" says valid 0 "$work/sign_file_v$level" "$work/letter"
         one "the program that measures depths compiles over libslh-v$level.a" measures_depths "$lib/libslh-v$level.a" \
             "$work/depths_v$level" "$cc" -I "$prefix/include"
-        count "each call of libslh-v$level.a clears as deep as it goes" "$work/depths_v$level" $((1 << (level - 2)))
+        measures_in_full "libslh-v$level.a"
+        count "each call of libslh-v$level.a clears as deep as it goes" "$work/depths_v$level" $((1 << (level - 2))) \
+            $brief
     done
 }
 
@@ -59,22 +63,20 @@ is_of_one_level() {
         "$cc" -static -I "$prefix/include" "$work/level.c" "$lib/libslh-v$1.a" -o "$work/level_0" && "$work/level_0"
 }
 
-# Runs the vectors with each processor of the table in place of this one, where this one has the level that is chosen.
+# Runs the vectors with processors of a table in place of this one, where this one has the level that is chosen: one is
+# drawn.
 each_processor() {
-    local name level
-    while IFS=: read -r level name; do
-        if [ "$level" -gt "$best" ]; then
-            skip "$name" "the processor lacks x86-64-v$level"
-            continue
-        fi
+    local it level name known=()
+    for it in 2:nehalem 3:haswell 4:skylake "3:skylake whose system saves no zmm"; do
+        level=${it%%:*} name=${it#*:}
+        if [ "$level" -le "$best" ]; then known+=("$it"); else skip "$name" "the processor lacks x86-64-v$level"; fi
+    done
+    draw "the processor of the vectors" "${known[@]}"
+    for it in "${drawn[@]}"; do
+        level=${it%%:*} name=${it#*:}
         PROCESSOR=$name count "vectors with $name, x86-64-v$level" "$here/tests/library_vectors.py" --few --through \
             "$work/forced"
-    done <<'END'
-2:nehalem
-3:haswell
-4:skylake
-3:skylake whose system saves no zmm
-END
+    done
 }
 
 # Whether the example signs on an emulated processor, by its level.

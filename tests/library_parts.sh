@@ -22,6 +22,15 @@ can_build_wheels() {
     return 1
 }
 
+# Whether qemu runs a Cortex-M0 on the machine that has the memory for it. Later versions take no other processor there.
+runs_cortex_m0() {
+    local said
+    said=$(echo quit | qemu-system-arm -M netduinoplus2 -cpu cortex-m0 -display none -serial none -monitor stdio -S 2>&1)
+    [[ $said == *"Invalid CPU"* ]] || return 0
+    skip "$1" "$(qemu-system-arm --version | head -n 1) takes no Cortex-M0 on netduinoplus2"
+    return 1
+}
+
 # Copies the Python package to FOLDER/bindings/python, since setuptools writes into the folder of the package.
 copy_python() {
     mkdir -p "$1/bindings" && cp -rL "$here/bindings/python" "$1/bindings/" && cp "$here/VERSION" "$1/"
@@ -161,6 +170,14 @@ with_weak() {
     for name in "$@"; do
         of_binutils nm "$other" | grep " [VW] $name$" || { echo "$name is not weak in $other" && return 1; }
     done
+}
+
+# Sets `brief` to the word that has library_depths measure few calls under the sets whose names end in s, but to nothing
+# if an ARCHIVE is the one that is drawn.
+measures_in_full() {
+    brief=few
+    draw "depths in full" libslh.a libslh-v2.a libslh-v3.a libslh-v4.a
+    ! is_drawn "$1" || brief=
 }
 
 # Makes PROGRAM of tests/library_depths.c, files of `brings` and an ARCHIVE, by a compiler.

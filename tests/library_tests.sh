@@ -2,10 +2,12 @@
 # Builds the library for C by tools/library.sh into a folder of its own, and tests what was installed: its symbols, the
 # headers, the calls with valid and invalid arguments, the vectors of other implementations, the stack, the examples.
 #
-# usage: tests/library_tests.sh [--few] [--after-ci | --dist DIST]
+# usage: tests/library_tests.sh [--few] [--dist DIST] [--all] [--after-ci]
 #
 # tools/library.sh says what --after-ci is, and which release is installed with --dist. With --few the symbols
-# and the headers are looked at, and that is all.
+# and the headers are looked at, and that is all. Of the five libraries one is drawn, which is searched for secrets under
+# all sets, and the others under one set each; one archive is drawn whose depths are measured in full. SLH_SEED=SEED
+# repeats the draw, and --all runs each.
 # It needs what tools/library.sh needs, and a C++ compiler as CXX or g++, python3 and pkg-config. The examples in Rust
 # need rustc as RUSTC or rustc, and are skipped without it. The last line has the counts, and the status is 0 where
 # nothing failed.
@@ -17,6 +19,7 @@ trap 'rm -rf "$work"' EXIT
 source "$here/tests/counts.sh"
 source "$here/tests/library_parts.sh"
 take_options "$@"
+take_all
 prefix=$work/prefix lib=$work/prefix/lib
 sanitized=(-g -fsanitize=address,undefined -fno-sanitize-recover=all)
 export ASAN_OPTIONS=detect_leaks=0
@@ -197,14 +200,18 @@ drops_signing() {
         nm "$work/verifies" | grep -q ' T slh_verify$' && ! nm "$work/verifies" | grep -E 'slh_(sign|keygen|clear)'
 }
 
-# Searches what calls of a LIBRARY leave, where it is installed and the processor has a FEATURE, if it needs one.
+# Searches what calls of a LIBRARY leave, where it is installed and the processor has a FEATURE, if it needs one. Under
+# one set, unless the library is the one that is drawn.
 searches() {
-    local library=$1 feature=$2
+    local library=$1 feature=$2 sets=()
     [ -f "$library" ] || return 0
     [ "$feature" = . ] || can_use "$feature" || return 0
+    draw "searched under all sets" libslh.a libslh-v{2,3,4}.a libslh.so.0
+    is_drawn "${library##*/}" || { draw "the set of ${library##*/}" 2 4 6 && sets=("${drawn[@]}"); }
     one "the program that searches ${library#"$lib/"} for secrets compiles" "$cc" -std=c11 -O2 "${strict[@]}" \
         -I "$prefix/include" -o "$work/erase" "$here/tests/library_erase.c" "$library" \
-        -Wl,-z,lazy,-rpath,"$(dirname "$library")" && count "what calls of ${library#"$lib/"} leave" "$work/erase"
+        -Wl,-z,lazy,-rpath,"$(dirname "$library")" &&
+        count "what calls of ${library#"$lib/"} leave" "$work/erase" ${sets[@]+"${sets[@]}"}
 }
 
 mkdir -p "$lib/glibc-hwcaps/x86-64-v3"
@@ -260,7 +267,8 @@ one "the program that erases its buffers compiles" "$cc" -std=c99 "${strict[@]}"
 one "slh_erase overwrites a caller's buffer, and a first call leaves zeros" "$work/buffers"
 one "the program that measures depths compiles" measures_depths "$lib/libslh.a" "$work/depths" "$cc" \
     -I "$prefix/include"
-count "each call clears as deep as it goes" "$work/depths" "$(shifts_of "x86-64-v$(best_level)")"
+measures_in_full libslh.a
+count "each call clears as deep as it goes" "$work/depths" "$(shifts_of "x86-64-v$(best_level)")" $brief
 one "the program with a guard page compiles" "$cc" -std=c11 "${strict[@]}" -I "$prefix/include" -o "$work/guard" \
     "$here/tests/library_guard.c" "$lib/libslh.a"
 count "a stack that is too short ends at its guard page" "$work/guard"

@@ -294,6 +294,17 @@ in_go() {
         GOCACHE="$work/go" GOPATH="$work/gopath" GOFLAGS=-mod=readonly GOPROXY=off "$@")
 }
 
+# Whether Node is as late as the package asks for.
+has_late_node() {
+    local wanted version
+    wanted=$(sed -n 's/.*"node": ">=\([0-9]*\)".*/\1/p' "$here/bindings/javascript/package.json")
+    version=$(node --version)
+    version=${version#v}
+    [ "${version%%.*}" -lt "$wanted" ] || return 0
+    skip "$1" "Node $version is too old: the package takes Node $wanted or later"
+    return 1
+}
+
 with_javascript() {
     local node=(node) package=$here/bindings/javascript
     one "javascript: the package passes its tests, and the calls of its README run" \
@@ -325,7 +336,7 @@ types_name_all() {
 }
 
 if can_run python python3 && can_build_wheels python; then with_python; fi
-if can_run javascript node; then with_javascript; fi
+if can_run javascript node && has_late_node javascript; then with_javascript; fi
 if [ $few = no ]; then
     if can_run cmake cmake cc python3 readelf; then with_cmake; fi
     if can_run rust cargo cc pkg-config; then with_rust; fi

@@ -9,8 +9,9 @@
 #
 # usage: tests/portable_tests.sh [--few] [--dist DIST] [--all]
 #
-# Of the tests of keys and of signing it runs some, and with --all all: tests/library_vectors.py says which. With --few
-# GCC reads slh.c, and the board's program is made. It stands on what `rt ci`, or `rt check` in crates/slh_c,
+# Of the tests of keys and of signing it runs some, and with --all all: tests/library_vectors.py says which. Of clang and
+# the other machines SLH_SEED draws one; with --all or SLH_SEED=all all are run. With --few GCC reads slh.c, and the
+# board's program is made. It stands on what `rt ci`, or `rt check` in crates/slh_c,
 # has built, or on a release with --dist. tools/setup.sh installs what it needs: where a tool is missing, it says which,
 # and what that tool is for is skipped. The last line has the counts, and the status is 0 where nothing failed.
 set -u
@@ -19,7 +20,7 @@ source "$here/tests/counts.sh"
 source "$here/tests/library_parts.sh"
 take_options "$@"
 some=(--few) from=(--after-ci)
-if [ "${words[0]-}" = --all ]; then some=(); fi
+if [ "${words[0]-}" = --all ]; then some=() && take_all; fi
 if [ -n "$release" ]; then from=(--dist "$release"); fi
 work=$(mktemp -d)
 trap 'rm -rf "$work"' EXIT
@@ -291,11 +292,16 @@ if [ $few = yes ]; then
     exit
 fi
 here_too
-machine clang "" clang -O2
-machine ARM qemu-arm arm-linux-gnueabihf-gcc -O2
-machine RISC-V qemu-riscv64 riscv64-linux-gnu-gcc -O2
-machine s390x qemu-s390x s390x-linux-gnu-gcc -O2
-windows
+draw "the machine of slh.c" clang ARM RISC-V s390x Windows
+for machine in "${drawn[@]}"; do
+    case $machine in
+    clang) machine clang "" clang -O2 ;;
+    ARM) machine ARM qemu-arm arm-linux-gnueabihf-gcc -O2 ;;
+    RISC-V) machine RISC-V qemu-riscv64 riscv64-linux-gnu-gcc -O2 ;;
+    s390x) machine s390x qemu-s390x s390x-linux-gnu-gcc -O2 ;;
+    Windows) windows ;;
+    esac
+done
 sanitizers
 packages
 board

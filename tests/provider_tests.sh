@@ -1,10 +1,10 @@
 #!/usr/bin/env bash
 # Tests the provider `slh` for OpenSSL (bindings/openssl, docs/OPENSSL.md) beside OpenSSL's default provider. For each
-# of the six sets one of them makes keys, requests, certificates, revocations, CMS and PKCS #12 by the program `openssl`
+# of the sets one of them makes keys, requests, certificates, revocations, CMS and PKCS #12 by the program `openssl`
 # and the other judges them. The vectors of other implementations and all refusals go through EVP. Each parameter is
 # handed junk, beside the default provider (tests/provider_junk.c), and messages come in pieces
 # (tests/provider_pieces.c). TLS 1.3 is spoken by `openssl s_server` and `s_client`. Installations are broken in seven
-# ways. Damaged files are tried, the lines of docs/OPENSSL.md as they stand, 1,000 loads under valgrind, and what the
+# ways. Damaged files are tried, the lines of docs/OPENSSL.md as they stand, 100 loads under valgrind, and what the
 # module exports. Other programs are tried by tests/openssl_programs.sh.
 #
 # usage: tests/provider_tests.sh [--few] [--dist DIST | PREFIX]
@@ -13,7 +13,8 @@
 # installed for this, with --dist of a release. With --few the module and the calls through EVP alone are tried. The
 # command is the one that OPENSSL names, else `openssl-3.5`, which tools/setup.sh installs, or `openssl`. Where it has
 # no SLH-DSA, or its headers are missing, all is skipped. What needs clang, valgrind or an earlier OpenSSL is skipped in
-# the same way. The last line has the counts, and the status is 0 where nothing failed.
+# the same way. SLH_SEED draws the set whose name ends in s and whose certificates are made; with SLH_SEED=all all three
+# are, and there are 1,000 loads. The last line has the counts, and the status is 0 where nothing failed.
 set -u
 here=$(cd "$(dirname "${BASH_SOURCE[0]}")/.." && pwd)
 work=$(mktemp -d)
@@ -179,14 +180,15 @@ END
 }
 
 # The loader reads $ORIGIN in words of eight bytes, which valgrind takes for a fault. All that was allocated is freed.
-loads_1000_times() {
+loads=100
+loads_often() {
     local preload=() tool=(valgrind --leak-check=full --error-exitcode=9 --suppressions="$work/loader.supp")
     printf '{\n loader\n Memcheck:Addr8\n fun:strncmp\n fun:is_dst\n}\n' >"$work/loader.supp"
     if [ ${#run[@]} -gt 0 ]; then
         weaken || return
         preload=(LD_PRELOAD="$work/weak/weak.so" LD_LIBRARY_PATH="$work/weak")
     fi
-    env "${preload[@]}" "${tool[@]}" "$work/tests" loads "$modules" 1000 2>"$work/valgrind"
+    env "${preload[@]}" "${tool[@]}" "$work/tests" loads "$modules" "$loads" 2>"$work/valgrind"
     local status=$?
     tail -n 12 "$work/valgrind"
     [ "$status" = 0 ] && grep -q 'no leaks are possible' "$work/valgrind"
@@ -695,11 +697,13 @@ count_module() {
     count "messages in pieces" "${run[@]}" "$work/pieces" "$modules" 3000
     count_under_sanitizers
     one "the vectors of other implementations" has_the_vectors_values
-    ! has_tool "1,000 loads" valgrind || one "1,000 loads leave nothing allocated" loads_1000_times
+    [ "${SLH_SEED-}" != all ] || loads=1000
+    ! has_tool "$loads loads" valgrind || one "$loads loads leave nothing allocated" loads_often
 }
 
 count_commands() {
-    for set in SLH-DSA-SHA2-{128s,128f,192s,192f,256s,256f}; do
+    draw "certificates of small signatures" SLH-DSA-SHA2-{128s,192s,256s}
+    for set in SLH-DSA-SHA2-{128f,192f,256f} "${drawn[@]}"; do
         one "$set: what slh makes, the default provider takes" goes_over ours theirs
         one "$set: what the default provider makes, slh takes" goes_over theirs ours
     done

@@ -2,13 +2,15 @@
 # Tries a release as somebody has it who has no kit: ./slh and tools/library.sh over a copy of this repository, with a
 # dist/ that tools/release.sh makes for this. README's commands sign and verify, LIBRARY's two link a C program, also in
 # a root in which there is no kit; damaged and missing files are neither run nor installed; other sources are told. The
-# builds for all levels of processors give the values of tests/vectors/. What is made of a release is tried over it: the
+# builds for all levels of processors give the values of tests/vectors/: for each level but the best one SLH_SEED draws
+# the program or the library, and SLH_SEED=all takes both. What is made of a release is tried over it: the
 # packages of bindings/, Debian packages, the page that verifies, the examples for much work, keys to and from OpenSSL,
 # and the provider for it. Before all that it looks whether dist/ is what the sources give, as tools/release.sh --check
 # does.
 #
-# usage: tests/release_tests.sh [--few] [--dist DIST]
+# usage: tests/release_tests.sh [--few] [--dist DIST | --made FOLDER]
 #
+# FOLDER is a release that `tools/release.sh --after-ci --check FOLDER` has just built: it is not built again.
 # It stands on what `rt ci`, or `rt check` in crates/slh and crates/slh_c, has built, and needs rt for that. With --dist
 # the release DIST is taken instead: nothing is built or compared, and what is made of a release is left to the other
 # scripts. With --few README's and LIBRARY's commands alone are run. It needs a C compiler as cc, objdump, openssl
@@ -20,6 +22,10 @@ here=$(cd "$(dirname "${BASH_SOURCE[0]}")/.." && pwd)
 source "$here/tests/counts.sh"
 source "$here/tests/library_parts.sh"
 take_options "$@"
+made=
+if [ "${words[0]-}" = --made ]; then
+    made=$(cd "${words[1]-/dev/null}" && pwd) || nothing_to_test "--made needs a folder that has a release"
+fi
 work=$(mktemp -d)
 trap 'rm -rf "$work"' EXIT
 copy=$work/copy without_rt=/usr/bin:/bin stub=$work/stub levels=(x86-64-v2 x86-64-v3 x86-64-v4)
@@ -31,6 +37,9 @@ copy_anew() {
     tar -C "$here" --exclude=./.git --exclude=./dist --exclude=out -cf - . | tar -C "$copy" -xf -
     cp -r "$work/made" "$copy/dist"
 }
+
+# The same of the release alone, where nothing else of the copy was changed.
+dist_anew() { rm -rf "$copy/dist" && cp -r "$work/made" "$copy/dist"; }
 
 # Runs a command in the copy where rt is not on the path, and leaves what it says in $work/out and $work/err.
 bare() {
@@ -151,7 +160,7 @@ test_command_needs_no_rt() {
     [ "$(grep -c '^vectors.sh vectors dist/' "$copy/called")" -le $others ] || return
     counts_are "$((4 * $(scripts_called) + 4)) passed, 0 failed, 5 skipped" || return
     diff <(named skipped) <(printf '%s: SKIPPED, since it needs rt\n' "rt ci" "tests/wrong_bodies.py --gate" \
-        "tests/tested_bodies.py --few" tests/{tables,widths_tests}.sh) || return
+        "tests/tested_bodies.py --few" tests/tables.sh "tests/widths_tests.sh --written") || return
     stub_scripts 0 "it: SKIPPED, since not" "4 passed, 0 failed, 1 skipped" && test_command || return
     [ "$(named skipped | grep -c '^it: SKIPPED, since not$')" = "$(scripts_called)" ] || return
     rm -r "$copy/dist"
@@ -181,6 +190,30 @@ test_command_names_failures() {
 0|0 passed, 0 failed|it ran nothing
 1|4 passed, 0 failed|it counted no failure, and ended with status 1
 END
+    names_the_wrong_body
+}
+
+# The same of two wrong bodies, of which the prover refuses one: the other one is named. A stand-in for the prover says
+# of the first that there is no proof.
+names_the_wrong_body() {
+    local refused=slh_board/claim_never_looks other=slh_board/stop_stores_next stub=$work/kit/bin
+    mkdir -p "$stub" && printf '#!/bin/sh\necho logic 0\n' >"$stub/rt" && cat >"$stub/rattle" <<'END' || return
+#!/bin/sh
+case "$PWD $*" in
+*/crates/slh_board\ *) exit 0 ;;
+*Board::claim*) ;;
+*) echo "only=1 proved=1" && exit 0 ;;
+esac
+echo './proofs/board/Board/claim/Answers.antt:1:1: error: `claim`: there is no proof'
+printf '%s\n' "fn slh_board::board::Board::claim: no proof" "only=1 proved=0" && exit 1
+END
+    chmod +x "$stub"/*
+    copy_anew && stub_scripts 0 "4 passed, 0 failed" || return
+    printf '#!/bin/sh\nexec tests/wrong_bodies.py --write %s %s\n' $refused $other >"$copy/tests/limits.sh"
+    ! stubbed tools/test.sh --no-setup --release || return
+    grep "^$refused.edit: refused in .*no proof" "$work/out" || return
+    diff <(named failed) <(printf '%s\n' "tests/limits.sh: $other: NOT REFUSED: the function is still proved" \
+        "    alone: tests/limits.sh --dist dist")
 }
 
 # Makes limits.sh of the copy a script that ends with STATUS, and whose last line is LINE. It counts its failure by
@@ -316,10 +349,11 @@ damage() {
 
 damaged_program_is_not_run() {
     local level
+    copy_anew || return
     for level in "${levels[@]}"; do
-        copy_anew && damage "$level/slh"
+        dist_anew && damage "$level/slh"
         refuses "slh: dist/$level/slh is damaged" env SLH_CPU=$level ./slh params || return
-        copy_anew && rm "$copy/dist/$level/slh"
+        dist_anew && rm "$copy/dist/$level/slh"
         refuses "slh: dist/$level/slh is missing" env SLH_CPU=$level ./slh params || return
     done
 }
@@ -327,16 +361,17 @@ damaged_program_is_not_run() {
 damaged_list_is_not_believed() {
     copy_anew && echo "sources 0" >>"$copy/dist/BUILD"
     refuses "slh: dist/BUILD is damaged" ./slh params || return
-    copy_anew && : >"$copy/dist/SHA256SUMS"
+    dist_anew && : >"$copy/dist/SHA256SUMS"
     refuses "slh: dist/BUILD is damaged" ./slh params
 }
 
 damaged_library_is_not_installed() {
     local file
+    copy_anew || return
     for file in x86-64/libslh.{a,so.0} x86-64-v2/libslh_verify.a x86-64-v{2,3,4}/libslh.a include/slh.h; do
-        copy_anew && damage "$file"
+        dist_anew && damage "$file"
         refuses "library.sh: dist/$file is damaged" tools/library.sh prefix && [ ! -e "$copy/prefix" ] || return
-        copy_anew && rm "$copy/dist/$file"
+        dist_anew && rm "$copy/dist/$file"
         refuses "library.sh: dist/$file is missing" tools/library.sh prefix && [ ! -e "$copy/prefix" ] || return
         refuses "library.sh: dist/$file is missing" tools/library.sh --dist dist prefix || return
     done
@@ -384,11 +419,11 @@ links_are_followed() {
 # Status 1 says that a signature is invalid. What is wrong with the installation ends with 2.
 faults_of_installation_have_status_2() {
     local level
-    copy_anew && rm "$copy/tools/released.sh" && refuses "released.sh" ./slh params || return
+    copy_anew && rm "$copy/tools/released.sh" && refuses "released.sh" ./slh params && copy_anew || return
     for level in "${levels[@]}"; do
-        copy_anew && chmod -x "$copy/dist/$level/slh" && refuses "$level/slh" env SLH_CPU=$level ./slh params || return
+        dist_anew && chmod -x "$copy/dist/$level/slh" && refuses "$level/slh" env SLH_CPU=$level ./slh params || return
     done
-    copy_anew
+    dist_anew
     stubbed env SLH_BUILD=1 ./slh params
     [ $? = 2 ] && [ -f "$work/called" ] && [ ! -s "$work/out" ]
 }
@@ -470,11 +505,11 @@ damage_is_seen_over_notes() {
     local file it sum
     copy_anew && file=$(find_note && echo "$file") && sum=$(sha256sum <"$copy/dist/$file" | cut -d ' ' -f 1) || return
     for it in "$file" BUILD; do
-        copy_anew && note_now same && says_same && change_unseen "dist/$it" || return
+        dist_anew && note_now same && says_same && change_unseen "dist/$it" || return
         refuses "dist/$it is damaged" ./slh params && note_now same || return
         refuses "dist/$it is damaged" ./slh params || return
     done
-    copy_anew && note_now same && says_same && change_unseen dist/SHA256SUMS "$sum" || return
+    dist_anew && note_now same && says_same && change_unseen dist/SHA256SUMS "$sum" || return
     refuses "dist/$file is damaged" ./slh params && note_now same && refuses "dist/$file is damaged" ./slh params
 }
 
@@ -588,11 +623,12 @@ is_installed() {
 # Nothing is installed where a file of the release is damaged or missing.
 damaged_is_not_installed() {
     local file
+    copy_anew || return
     for file in x86-64{,-v2,-v3,-v4}/slh x86-64-v{2,3,4}/libslh.a x86-64/libslh.{a,so.0} x86-64-v2/libslh_verify.a \
         include/slh.h BUILD; do
-        copy_anew && damage "$file"
+        dist_anew && damage "$file"
         refuses ".sh: dist/$file is damaged" tools/install.sh prefix && [ ! -e "$copy/prefix" ] || return
-        copy_anew && rm "$copy/dist/$file"
+        dist_anew && rm "$copy/dist/$file"
         refuses ".sh: there is nothing to install" tools/install.sh prefix && [ ! -e "$copy/prefix" ] || return
     done
     refuses "usage:" tools/install.sh && refuses "usage:" tools/install.sh --prefix
@@ -696,19 +732,27 @@ library_of() {
     cc -shared -Wl,--whole-archive "$work/made/$1/libslh.a" -Wl,--no-whole-archive -o "$work/$1.so"
 }
 
-# Runs the vectors by the program for each level, and by the library for those that tests/library_tests.sh does not run.
+# Runs the vectors by the builds for each level: by the program for the best one, whose library tests/library_tests.sh
+# runs, and for each other level by the program or the library, as is drawn for it.
 count_levels() {
     local level
     for level in "${levels[@]}"; do
         if ! has_level "$level"; then
             skip "vectors by the builds for $level" "the processor lacks that level"
-            continue
+        elif [ "$level" = "x86-64-v$(best_level)" ]; then
+            count "vectors by the program for $level" "$here/tests/vectors.sh" "" "$work/made/$level/slh"
+        else
+            draw "the build for $level" program library
+            ! is_drawn program ||
+                count "vectors by the program for $level" "$here/tests/vectors.sh" "" "$work/made/$level/slh"
+            ! is_drawn library || vectors_by_library "$level"
         fi
-        count "vectors by the program for $level" "$here/tests/vectors.sh" "" "$work/made/$level/slh"
-        [ "$level" != "x86-64-v$(best_level)" ] || continue
-        one "the library for $level makes a shared object" library_of "$level"
-        count "vectors by the library for $level" "$here/tests/library_vectors.py" "$work/$level.so"
     done
+}
+
+vectors_by_library() {
+    one "the library for $1 makes a shared object" library_of "$1"
+    count "vectors by the library for $1" "$here/tests/library_vectors.py" "$work/$1.so"
 }
 
 # Runs the tests of what is made of a release, over this one.
@@ -794,6 +838,9 @@ fi
 
 if [ -n "$release" ]; then
     cp -r "$release" "$work/made"
+elif [ -n "$made" ]; then
+    [ -f "$made/BUILD" ] && [ -f "$made/SHA256SUMS" ] || nothing_to_test "there is no release in $made"
+    cp -r "$made" "$work/made"
 else
     count "dist/" "$here/tools/release.sh" --after-ci --check "$work/made"
     [ -f "$work/made/BUILD" ] || nothing_to_test "no release is built"

@@ -5,6 +5,7 @@
 #
 # usage: tests/secrets_tests.sh PREFIX      where tools/library.sh has installed
 #
+# Each library is run under 128f, 192f or 256f, as drawn by SLH_SEED. SLH_SEED=all runs each under all three.
 # It needs valgrind 3.19 or later with its headers. Where it is missing all of this is skipped, and it says so. memcheck
 # knows no AVX-512, so no build of x86-64-v4 is run. It does not see how long an instruction takes: so the code of hash
 # functions, which all secrets go through, must have no division. The last line has the counts.
@@ -39,11 +40,13 @@ finds_leaks() {
         [[ $(tail -n 1 "$work/leaks") =~ ^[0-9]+\ passed,\ [0-9]+\ failed$ ]] || { cat "$work/leaks" && return 1; }
 }
 
-# All calls of a LIBRARY, by a NAME.
+# All calls of a LIBRARY, by a NAME, under a set that is drawn.
 tries() {
     local name=$1 library=$2
+    draw "the set of $name" 2 4 6
+    [ ${#drawn[@]} = 1 ] || drawn=()
     one "the program over $name compiles" compiles "$work/secrets" "$library" &&
-        count "secrets in $name" under_valgrind "$work/secrets"
+        count "secrets in $name" under_valgrind "$work/secrets" ${drawn[@]+"${drawn[@]}"}
 }
 
 # Whether no function of the hash functions in an ARCHIVE has a division, and some other function has one.

@@ -4,14 +4,15 @@
 # ARM and RISC-V runs under qemu, that for Windows under wine, the WebAssembly modules with a 32-bit memory in any Node,
 # that with a 64-bit memory in Node 20 or later. Nothing here runs the code for macOS: its symbols are looked at.
 #
-# usage: tests/targets_tests.sh [--few] [--dist DIST] [--all] [TARGET..]
+# usage: tests/targets_tests.sh [--few] [--dist DIST] [--all | --drawn] [TARGET..]
 #
 # Of the tests of keys and of signing it runs some, and with --all more: tests/library_vectors.py says which. With --few
 # no vectors are run and no stack is measured. It stands on what `rt ci`, or `rt check` in crates/slh_c, has built, or
 # on a release with --dist, of which targets that it has not are skipped. Without a release and --all it builds 64-bit
-# ARM, WebAssembly with vectors, and one of the others that is drawn at random. With a TARGET or several just these are
-# tested. tools/setup.sh installs what it needs: where a tool is missing, it says which, and what that tool is for is
-# skipped. The last line has the counts, and the status is 0 where nothing failed.
+# ARM, WebAssembly with vectors, and one of the others that is drawn by SLH_SEED; with --drawn it takes these of a
+# release. With a TARGET or several just these are tested. tools/setup.sh installs what it needs: where a tool is
+# missing, it says which, and what that tool is for is skipped. The last line has the counts, and the status is 0 where
+# nothing failed.
 set -u
 here=$(cd "$(dirname "${BASH_SOURCE[0]}")/.." && pwd)
 source "$here/tests/counts.sh"
@@ -19,10 +20,14 @@ source "$here/tests/library_parts.sh"
 take_options "$@"
 some=(--few) always=(aarch64 wasm64 wasm32)
 others=(riscv64 armv7 windows-x86-64 macos-arm64 macos-x86-64 wasm32-scalar)
-all=("${always[@]}" "${others[@]}") drawn=${others[RANDOM % ${#others[@]}]}
-targets=("${always[@]}" "$drawn")
-if [ "${words[0]-}" = --all ]; then some=() targets=("${all[@]}") words=("${words[@]:1}"); fi
-if [ -n "$release" ]; then targets=("${all[@]}"); fi
+all=("${always[@]}" "${others[@]}")
+targets=("${all[@]}")
+if [ "${words[0]-}" = --all ]; then
+    some=() words=("${words[@]:1}")
+elif [ "${words[0]-}" = --drawn ] || [ -z "$release" ]; then
+    draw "the other target" "${others[@]}" && targets=("${always[@]}" "${drawn[@]}")
+    [ "${words[0]-}" != --drawn ] || words=("${words[@]:1}")
+fi
 if [ ${#words[@]} != 0 ]; then targets=("${words[@]}"); fi
 for target in "${targets[@]}"; do
     [[ " ${all[*]} " = *" $target "* ]] || nothing_to_test "there is no target $target"
@@ -70,8 +75,9 @@ packages() {
     [[ $target != windows-* ]] || shared=$prefix/bin/slh.dll system=Windows
     if can_run "$target: wheel" python3 && can_build_wheels "$target: wheel"; then
         rm -rf "$work/clone" && copy_python "$work/clone"
+        [ -d "$work/venv" ] || "$python" -m venv --system-site-packages "$work/venv"
         name=slh-$(cat "$here/VERSION")-py3-none-$(platform_of "$target").whl
-        one "a wheel for $target is built" env SLH_PREFIX="$prefix" PIP_NO_CACHE_DIR=1 "$python" -m pip wheel \
+        one "a wheel for $target is built" env SLH_PREFIX="$prefix" PIP_NO_CACHE_DIR=1 "$work/venv/bin/pip" wheel \
             --no-index --no-build-isolation -w "$work/wheels" "$work/clone/bindings/python"
         one "it has the shared object, and its machine's name" wheel_has "$work/wheels/$name" "$shared"
     fi
@@ -249,7 +255,7 @@ is_closed() {
 }
 
 exports_calls() {
-    x86_64-w64-mingw32-objdump -p "$prefix/bin/slh.dll" | sed -n '/Ordinal\/Name Pointer/,/^$/s/.*\] *\(slh_\)/\1/p' |
+    x86_64-w64-mingw32-objdump -p "$prefix/bin/slh.dll" | sed -n '/Ordinal\/Name Pointer/,/^$/s/.*\].* \(slh_\)/\1/p' |
         LC_ALL=C sort | diff - <(library_calls | sed 's/^T //') &&
         [ "$(x86_64-w64-mingw32-objdump -p "$prefix/bin/slh.dll" | grep -c 'DLL Name')" = 1 ]
 }

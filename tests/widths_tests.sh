@@ -5,20 +5,20 @@
 # is proved with these numbers; that it changes nothing where these are the numbers that are there; and that it refuses
 # a module that it does not know.
 #
-# usage: tests/widths_tests.sh [--all | LANES..]
+# usage: tests/widths_tests.sh [--written | --all | LANES..]
 #
-# The tables are run with vectors of LANES lanes, each 1, 4 or 16. Without them one of the three is drawn at random, and
-# named; --all runs them with each. It stands on what `rt ci` has built. The last line has the counts, and the status is
-# 0 if nothing failed.
+# All this is done with vectors of LANES lanes, each 1, 4 or 16. Without them one of the three is drawn by SLH_SEED or at
+# random, and named; --all or SLH_SEED=all takes each. With --written the tables are left out, since their program is
+# proved once more to be built; SLH_SEED=all runs them all the same. It stands on what `rt ci` has built. The last line
+# has the counts, and the status is 0 if nothing failed.
 set -u
 here=$(cd "$(dirname "${BASH_SOURCE[0]}")/.." && pwd)
 source "$here/tests/counts.sh"
 source "$here/tests/library_parts.sh"
 command -v rt >/dev/null || nothing_to_test "there is no rt"
-widths=(1 4 16)
 case "$*" in
-'') widths=("${widths[RANDOM % 3]}") && echo "with vectors of $widths lanes: tests/widths_tests.sh $widths" ;;
---all) ;;
+'' | --written) draw "lanes" 1 4 16 && widths=("${drawn[@]}") ;;
+--all) widths=(1 4 16) ;;
 *) widths=("$@") ;;
 esac
 for width in "${widths[@]}"; do
@@ -53,42 +53,45 @@ asks() {
             --toolchain "$toolchain" --cpu x86-64-v2 -o "$work/asks.o")
 }
 
-# Makes a toolchain whose compiler notes what tools/clang.sh writes of a module, or, with `as-proved`, what it finds.
+# Makes a toolchain whose compiler notes the modules that tools/clang.sh finds, and those that it writes.
 noting() {
-    local folder=$1 lanes=$2 which=$3
+    local folder=$1 lanes=$2
     "$here/tools/kit.py" toolchain "$folder" x86-64-v2 "$lanes" && mv "$folder/bin/clang" "$folder/bin/writes" &&
-        printf '#!/bin/sh\n"${0%%/*}/writes" "$@"\nstatus=$?\n/bin/cp ./*.%s %s\nexit $status\n' "$which" "$folder/noted" \
-            >"$folder/bin/clang" && chmod +x "$folder/bin/clang"
+        printf '#!/bin/sh\n"${0%%/*}/writes" "$@"\nstatus=$?\n/bin/cp ./*.as-proved %s\n/bin/cp ./*.ll %s\nexit $status\n' \
+            "$folder/found" "$folder/written" >"$folder/bin/clang" && chmod +x "$folder/bin/clang"
 }
 
 # Whether tools/clang.sh writes for lanes what rattle writes for a proved slh_width that answers them.
 writes_what_is_proved() {
     local lanes=$1
-    noting "$work/by-$lanes" "$lanes" ll && asks "$here/crates/slh_width/out/rlib" "$work/by-$lanes" || return
-    "$here/tools/kit.py" width "$lanes" "$work/width-$lanes" && noting "$work/of-$lanes" 8 as-proved || return
+    noting "$work/by-$lanes" "$lanes" && asks "$here/crates/slh_width/out/rlib" "$work/by-$lanes" || return
+    "$here/tools/kit.py" width "$lanes" "$work/width-$lanes" && noting "$work/of-$lanes" 8 || return
     # Where the answer is another one, clang.sh refuses the module, and has written down what it found.
     asks "$work/width-$lanes" "$work/of-$lanes"
-    sed -n "$answers" "$work/of-$lanes/noted" >"$work/proved" && [ -s "$work/proved" ] &&
-        sed -n "$answers" "$work/by-$lanes/noted" | diff - "$work/proved"
+    sed -n "$answers" "$work/of-$lanes/found" >"$work/proved" && [ -s "$work/proved" ] &&
+        sed -n "$answers" "$work/by-$lanes/written" | diff - "$work/proved"
 }
 
-# Whether all else of the module is as it was.
+# Whether all else of the module is as it was, with vectors of so many lanes.
 changes_nothing_else() {
-    noting "$work/as-proved" 4 as-proved && asks "$here/crates/slh_width/out/rlib" "$work/as-proved" || return
-    diff "$work/as-proved/noted" "$work/by-4/noted" >"$work/changes"
-    [ "$(grep -c '^< ' "$work/changes")" = 2 ] && [ "$(grep -c '^> ' "$work/changes")" = 2 ] &&
-        ! grep '^[<>] ' "$work/changes" | grep -v '^[<>]   store i8 [12], ptr %r[12], align 1$'
+    diff "$work/by-$1/found" "$work/by-$1/written" >"$work/changes"
+    [[ "$(grep -c '^< ' "$work/changes")$(grep -c '^> ' "$work/changes")" =~ ^(11|22)$ ]] &&
+        ! grep '^[<>] ' "$work/changes" | grep -v '^[<>]   store i8 [0-3], ptr %r[12], align 1$'
 }
 
 # Whether a module of a slh_width with other answers is refused, and nothing is built.
 refuses_another_module() {
     rm -f "$work/asks.o"
     "$here/tools/kit.py" toolchain "$work/refusing" x86-64-v2 4 || return
-    ! asks "$work/width-1" "$work/refusing" && [ ! -e "$work/asks.o" ]
+    ! asks "$work/width-${widths[0]}" "$work/refusing" && [ ! -e "$work/asks.o" ]
 }
 
-for width in 1 4 16; do one "what is written for $width lanes is proved" writes_what_is_proved "$width"; done
-one "nothing else is written" changes_nothing_else
+for width in "${widths[@]}"; do
+    one "what is written for $width lanes is proved" writes_what_is_proved "$width"
+    one "nothing else is written for $width lanes" changes_nothing_else "$width"
+done
 one "a module with other answers is refused" refuses_another_module
-for width in "${widths[@]}"; do lanes "$width"; done
+if [ "$*" != --written ] || [ "${SLH_SEED-}" = all ]; then
+    for width in "${widths[@]}"; do lanes "$width"; done
+fi
 end_counts

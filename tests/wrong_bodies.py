@@ -37,6 +37,7 @@ import time
 sys.dont_write_bytecode = True
 sys.path.append(os.path.join(os.path.dirname(os.path.dirname(os.path.abspath(__file__))), "tools"))
 import kit
+from counts import count, counts, end_counts
 from edit_sums import files, sum_of, text_of
 from kit import ROOT, USES
 
@@ -282,12 +283,11 @@ def main():
     elif asked.gate is not None:
         stale = [it for it in stale if it not in tried]
     for it, why in failed.items():
-        print(f"{name_of(*it)}: {why}")
+        count("failed", f"{name_of(*it)}: {' '.join(why.split())}")
     for it in [it for it in stale if it not in failed]:
-        print(f"{name_of(*it)} is not as tests/wrong_bodies.txt lists it: run tests/wrong_bodies.py --write {name_of(*it)}")
-    faults = len({*failed, *stale})
-    print(f"{len({*looked_at, *tried}) - faults} passed, {faults} failed")
-    sys.exit(1 if faults else 0)
+        count("failed", f"{name_of(*it)} is not as tests/wrong_bodies.txt lists it: run tests/wrong_bodies.py --write {name_of(*it)}")
+    counts["passed"] = len({*looked_at, *tried}) - counts["failed"]
+    end_counts()
 
 
 if __name__ == "__main__":
