@@ -1,31 +1,33 @@
 /*
  * SLH-DSA (FIPS 205, August 2024) with SHA-2: keys, signing and verifying for the six SHA-2 parameter sets.
  *
+ * SPDX-License-Identifier: MIT OR Apache-2.0
+ *
  *   slh_keygen, slh_public            to make a secret key, and to give away its public key
- *   slh_check                         to look at a secret key that comes from elsewhere, once
- *   slh_sign, slh_verify              to sign and verify a message that stands in memory whole
+ *   slh_check                         to check a secret key that comes from elsewhere, once
+ *   slh_sign, slh_verify              to sign and verify a message in memory
  *   slh_hash_sign_digest, slh_hash_verify_digest
- *                                     the same for a message that is read in pieces: you compute its digest
- *   slh_hash_sign, slh_hash_verify    the same with the message, of which these compute the digest
+ *                                     to sign and verify a message that is read in pieces: you compute its digest
+ *   slh_hash_sign, slh_hash_verify    to sign and verify the digest of a message in memory, which these compute
  *   slh_sign_twice, slh_hash_sign_digest_twice, slh_hash_sign_twice
  *                                     to sign two times and compare, if memory or the processor may fail
  *   slh_sign_jobs, slh_sign_start, slh_answer_place, slh_sign_job, slh_sign_join
- *                                     to have one signature computed by threads or processes of your own
+ *                                     to compute one signature by threads or processes of your own
  *   slh_keygen_jobs, slh_keygen_job, slh_keygen_join
- *                                     the same for a key
- *   slh_erase                         to overwrite seeds, keys and answers in buffers of your own
- *   slh_level                         to ask for which level of processors the code is that runs
+ *                                     to compute one key by them
+ *   slh_erase                         to overwrite seeds, keys and answers in your buffers
+ *   slh_level                         to ask for the x86-64 level of the code that runs
  *   slh_lengths, slh_refusal_name, slh_refusal_text, slh_version
  *                                     lengths by a set's number, the name of a refusal and a sentence for it, the
  *                                     library's version
  *
- * slh_verify.h, which this header includes, declares what verifies, the numbers and the lengths.
+ * slh_verify.h, which this header includes, declares the calls that verify, the numbers and the lengths.
  *
  *
  * Duties of the caller, which nothing checks
  *
- * - Each pointer to bytes is followed by their number. It points to that many bytes, which may be read, and for an
- *   output also written, until the call returns. Where the number is 0 the pointer may be null. No number is above
+ * - The number of bytes follows each pointer to bytes. The pointer points to that many bytes, which may be read, and
+ *   for an output also written, until the call returns. It may be null if the number is 0. No number is above
  *   PTRDIFF_MAX.
  * - A pointer to one number (slh_lengths, slh_sign_jobs, slh_answer_place, slh_keygen_jobs) is not null, and is aligned
  *   as its type.
@@ -34,30 +36,30 @@
  * - Seeds and randomizers are n fresh bytes from a source that is fit for keys: this library draws none. A randomizer
  *   of n bytes is FIPS 205's opt_rand; one of 0 bytes makes the deterministic variant (section 9.2).
  *
- * All else is tested: any number may stand for a set, a pre-hash function or a refusal, and any length is taken.
+ * The calls check everything else: the numbers of sets, pre-hash functions and refusals, and all lengths.
  *
- * No call allocates memory or keeps anything of its arguments. Any number of threads may be in any of the calls at
- * once. Nothing is claimed of the time that a call takes.
+ * No call allocates memory or stores anything of its arguments. Any number of threads may be in any of the calls at
+ * once. Nothing is claimed about the time of a call.
  *
- * A call that takes a secret key, seeds or answers clears before it returns what it left in the stack below its caller
- * and in the registers that a call need not keep. This is tested (docs/DUTIES.md, "What a call leaves"). Left to the
- * caller are buffers of his own (slh_erase), what the frame of a signal, swap or a core dump keeps, and the stack of
- * the module for WebAssembly. The portable slh.c (docs/FIRMWARE.md) allocates memory, and erases that alone.
+ * A call that takes a secret key, seeds or answers clears its traces before it returns. These are the stack below its
+ * caller, and the registers that a call need not preserve. This is tested (SECURITY.md, "What a call leaves"). The
+ * caller has to erase his buffers (slh_erase), copies by signals, swap or core dumps, and the stack of the module for
+ * WebAssembly. The portable slh.c (docs/MACHINES.md) allocates memory, and erases only that.
  *
  *
- * Arguments stand in this order, as far as a call has them:
+ * Calls take their arguments in this order:
  *
  *   1  set             5  message       9  job
  *   2  function        6  context       10 answers
  *   3  levels          7  randomizer    11 scratch
  *   4  key or seeds    8  start         12 output or signature
  *
- * The seeds are SK.seed, SK.prf and PK.seed, in this order. A digest stands in place of the message.
+ * The seeds are SK.seed, SK.prf and PK.seed, in this order. A digest takes the place of the message.
  *
  *
- * Each call but slh_version, slh_level, slh_erase and slh_refusal_text returns SLH_DONE (0), SLH_INVALID (30, only
- * slh_check and the verify calls), or a refusal's number. What is not valid is judged in this order, and the number of
- * the first is returned:
+ * Each call returns SLH_DONE (0), SLH_INVALID (30, only slh_check and the verify calls), or a refusal's number.
+ * Exceptions are slh_version, slh_level, slh_erase and slh_refusal_text. Calls check their arguments in this order, and
+ * return the number of the first fault:
  *
  *   SLH_NO_SUCH_REFUSAL        slh_refusal_name alone: the number is not a result's
  *   SLH_NO_SUCH_SET            the number is not a set's
@@ -69,14 +71,14 @@
  *   SLH_BAD_DIGEST_LENGTH      the digest has another length than the function's digests
  *   SLH_BAD_RANDOMIZER_LENGTH  the randomizer has neither 0 nor n bytes
  *   SLH_BAD_START_LENGTH       the start has another length than the set's
- *   SLH_BAD_OUTPUT_LENGTH      the output has another length than what is written
+ *   SLH_BAD_OUTPUT_LENGTH      the output has another length than the bytes to write
  *   SLH_BAD_ANSWERS_LENGTH     the answers have another length than those of all jobs
  *   SLH_BAD_START              the start does not have its tag under this key
  *   SLH_ANSWERS_DISAGREE       the answers don't fit together
  *   SLH_CONTEXT_TOO_LONG       signing under a context of over 255 bytes
  *   SLH_FAULT                  two computations of one signature differ (the calls whose names end in _twice)
  *
- * An output is written where SLH_DONE is returned, and is as it was for every other number; only scratch is zeros after
+ * An output is written if SLH_DONE is returned. For every other number it is unchanged; only scratch is zeros after
  * SLH_FAULT. Test for SLH_DONE.
  */
 #ifndef SLH_H
@@ -118,8 +120,8 @@ uint32_t slh_lengths(uint32_t set, size_t *pk_len, size_t *sk_len, size_t *sig_l
 
 /*
  * To make a key: writes the secret key of the seeds SK.seed, SK.prf and PK.seed, n fresh random bytes each, into the 4n
- * bytes of sk. This is Algorithm 18. The standard's slh_keygen (Algorithm 21) draws the seeds, which here you do. The
- * seeds are as secret as the key.
+ * bytes of sk. This is Algorithm 18. The standard's slh_keygen (Algorithm 21) draws the seeds; here the caller does.
+ * The seeds are as secret as the key.
  * Returns: SLH_DONE; SLH_NO_SUCH_SET, SLH_BAD_SEED_LENGTH, SLH_BAD_OUTPUT_LENGTH.
  */
 SLH_MUST_USE SLH_API
@@ -127,22 +129,22 @@ uint32_t slh_keygen(uint32_t set, const uint8_t *sk_seed, size_t sk_seed_len, co
                     size_t sk_prf_len, const uint8_t *pk_seed, size_t pk_seed_len, uint8_t *sk, size_t sk_len);
 
 /*
- * To give away what verifies: writes the public key of a secret key of 4n bytes, its last 2n bytes, into pk.
+ * To publish a key: writes the public key of a secret key of 4n bytes, its last 2n bytes, into pk.
  * Returns: SLH_DONE; SLH_NO_SUCH_SET, SLH_BAD_LENGTH, SLH_BAD_OUTPUT_LENGTH.
  */
 SLH_MUST_USE SLH_API
 uint32_t slh_public(uint32_t set, const uint8_t *sk, size_t sk_len, uint8_t *pk, size_t pk_len);
 
 /*
- * To look at a secret key that comes from elsewhere, or from slh_keygen_join, once: whether its PK.root is the root
- * that its seeds give. The other calls test the length of a key alone. This takes as long as slh_keygen.
- * Returns: SLH_DONE where it is, SLH_INVALID where it is not; SLH_NO_SUCH_SET, SLH_BAD_LENGTH.
+ * To check once a secret key from elsewhere, or from slh_keygen_join: whether its PK.root is the root that its seeds
+ * give. The other calls check only the length of a key. This takes as long as slh_keygen.
+ * Returns: SLH_DONE if it is, SLH_INVALID if it is not; SLH_NO_SUCH_SET, SLH_BAD_LENGTH.
  */
 SLH_MUST_USE SLH_API
 uint32_t slh_check(uint32_t set, const uint8_t *sk, size_t sk_len);
 
 /*
- * To sign a message that stands in memory whole, in the pure form (Algorithm 22). sk has 4n bytes, the context at most
+ * To sign a message in memory, in the pure form (Algorithm 22). sk has 4n bytes, the context at most
  * 255 (most use none), the randomizer n fresh random bytes or none, and sig as many as a signature of the set.
  * Returns: SLH_DONE; SLH_NO_SUCH_SET, SLH_BAD_LENGTH, SLH_BAD_RANDOMIZER_LENGTH, SLH_BAD_OUTPUT_LENGTH,
  * SLH_CONTEXT_TOO_LONG.
@@ -153,9 +155,9 @@ uint32_t slh_sign(uint32_t set, const uint8_t *sk, size_t sk_len, const uint8_t 
                   size_t sig_len);
 
 /*
- * To sign a message that is read in pieces: compute its digest under the pre-hash function, and hand that in (Algorithm
- * 23 after its pre-hash). Digests have the lengths that slh_hash_verify_digest takes, all else those of slh_sign. A
- * function weaker than the set makes a weaker signature: docs/DUTIES.md has a table.
+ * To sign a message that is read in pieces: compute its digest under the pre-hash function, and pass that (Algorithm 23
+ * after its pre-hash). Digests have the lengths that slh_hash_verify_digest takes. The other lengths are those of
+ * slh_sign. A function weaker than the set makes a weaker signature: docs/LIBRARY.md has a table.
  * Returns: SLH_DONE; SLH_NO_SUCH_SET, SLH_NO_SUCH_FUNCTION, SLH_BAD_LENGTH, SLH_BAD_DIGEST_LENGTH,
  * SLH_BAD_RANDOMIZER_LENGTH, SLH_BAD_OUTPUT_LENGTH, SLH_CONTEXT_TOO_LONG.
  */
@@ -165,8 +167,8 @@ uint32_t slh_hash_sign_digest(uint32_t set, uint32_t function, const uint8_t *sk
                               const uint8_t *randomizer, size_t randomizer_len, uint8_t *sig, size_t sig_len);
 
 /*
- * To sign a message in memory by its digest, which this computes under the pre-hash function (Algorithm 23): for those
- * who verify by slh_hash_verify_digest. The lengths are those of slh_sign.
+ * To sign a message in memory by its digest, which this computes under the pre-hash function (Algorithm 23). A device
+ * can then verify by slh_hash_verify_digest. The lengths are those of slh_sign.
  * Returns: SLH_DONE; SLH_NO_SUCH_SET, SLH_NO_SUCH_FUNCTION, SLH_BAD_LENGTH, SLH_BAD_RANDOMIZER_LENGTH,
  * SLH_BAD_OUTPUT_LENGTH, SLH_CONTEXT_TOO_LONG.
  */
@@ -177,9 +179,9 @@ uint32_t slh_hash_sign(uint32_t set, uint32_t function, const uint8_t *sk, size_
 
 /*
  * To sign as slh_sign does, and to find a computation that went wrong: signs two times into the two halves of scratch,
- * compares all bytes, and copies the signature to sig only if both are the same. scratch has 2 * sig_len bytes, and is
+ * compares all bytes, and copies the signature to sig only if both are equal. scratch has 2 * sig_len bytes, and is
  * zeros after SLH_DONE and SLH_FAULT. SLH_FAULT means that the two signatures differ: memory or the processor failed.
- * Nothing of either is kept. This takes twice the time of slh_sign.
+ * Both are overwritten then. This takes twice the time of slh_sign.
  * Returns: SLH_DONE; SLH_NO_SUCH_SET, SLH_BAD_LENGTH, SLH_BAD_RANDOMIZER_LENGTH, SLH_BAD_OUTPUT_LENGTH (also for
  * scratch), SLH_CONTEXT_TOO_LONG, SLH_FAULT.
  */
@@ -209,32 +211,31 @@ uint32_t slh_hash_sign_twice(uint32_t set, uint32_t function, const uint8_t *sk,
                              size_t sig_len);
 
 /*
- * To print what a refusal is: writes the name of its number, as "BadLength", in ASCII and without a zero byte inside,
- * and zero bytes from there to the end of name, at least one. SLH_MAX_NAME bytes are enough for each name. SLH_DONE and
- * SLH_INVALID are not refusals.
- * Returns: SLH_DONE; SLH_NO_SUCH_REFUSAL, SLH_BAD_OUTPUT_LENGTH where name is too short.
+ * To print a refusal: writes the name of its number, as "BadLength", in ASCII, and zero bytes from there to the end of
+ * name, at least one. SLH_MAX_NAME bytes are enough for each name. SLH_DONE and SLH_INVALID are not refusals.
+ * Returns: SLH_DONE; SLH_NO_SUCH_REFUSAL, SLH_BAD_OUTPUT_LENGTH if name is too short.
  */
 SLH_API
 uint32_t slh_refusal_name(uint32_t refusal, char *name, size_t name_len);
 
 /*
- * To tell a person what a result means: a sentence in English for each result's number, without its number and name,
- * and "this number is no result of the library" for any other. The bytes are the library's, and never change.
+ * To explain a result to a person: a sentence in English for each result's number, without its number and name. For any
+ * other number it is "this number is no result of the library". The library owns the bytes, and they never change.
  */
 SLH_MUST_USE SLH_API
 const char *slh_refusal_text(uint32_t result);
 
 /*
- * To overwrite what is secret in a buffer of your own once it is no longer needed, as seeds, keys and answers: writes
- * zeros into n bytes. A compiler can't leave it out, as it may leave out a memset before the end of a function.
+ * To overwrite seeds, keys and answers in your buffers once you no longer need them: writes zeros into n bytes. A
+ * compiler can't omit it, as it may omit a memset before the end of a function.
  */
 SLH_API
 void slh_erase(void *bytes, size_t n);
 
 /*
- * To ask which code runs: 2, 3 or 4 for that of the level x86-64-v2, x86-64-v3 or x86-64-v4, the best that processor
- * and system have. 0 where the library has one level alone: on ARM, and in libslh-v2.a, libslh-v3.a and libslh-v4.a.
- * All give the same bytes.
+ * To ask which code runs: 2, 3 or 4 for that of x86-64-v2, x86-64-v3 or x86-64-v4, the best level that processor and
+ * system have. 0 if the library has only one level: on ARM, and in libslh-v2.a, libslh-v3.a and libslh-v4.a. All give
+ * equal bytes.
  */
 SLH_MUST_USE SLH_API
 uint32_t slh_level(void);
@@ -243,57 +244,55 @@ uint32_t slh_level(void);
  * One signature, or one key, by threads of your own.
  *
  * Each XMSS tree of a signature is cut into 2^xmss_levels ranges of its leaves, and each FORS tree into 2^fors_levels.
- * A range is a job, and what it writes is its answer. slh_sign_start makes the start, a few bytes that all jobs of this
- * signature are given; slh_sign_job writes the answer of one job, in any thread or process and in any order;
- * slh_sign_join makes the signature of the answers of all jobs, which stand end to end in one buffer. The set, the
- * levels, the key and the start are the same in all these calls. The signature is the one that slh_sign makes.
+ * A range is a job, and its result is its answer. slh_sign_start makes the start, a few bytes that all jobs of this
+ * signature get. slh_sign_job writes the answer of one job, in any thread or process and in any order. slh_sign_join
+ * makes the signature of the answers of all jobs, which are end to end in one buffer. Pass equal sets, levels, keys and
+ * starts to all these calls. The signature is that of slh_sign.
  *
- * Answers are secret. They hold whole one-time keys: one answer that somebody reads is the key lost. Keep them as the
- * secret key is kept, also on the way from one process to another, and erase them once they are joined.
+ * Answers are secret. They contain whole one-time keys: an answer that leaks costs the key. Protect answers as you
+ * protect the secret key, also between processes, and erase them after they are joined.
  *
  * The start is no secret: R is a part of the signature, the digest follows from R, the public key and the message, and
- * the third part is a tag. But who writes the start chooses what is signed. So slh_sign_job and slh_sign_join refuse
- * (SLH_BAD_START) each start that does not have its tag under this key. slh_sign_start and slh_hash_sign_start give it.
+ * the third part is a tag. But its writer chooses the message that is signed. So slh_sign_job and slh_sign_join refuse
+ * (SLH_BAD_START) each start that does not have its tag under this key. slh_sign_start and slh_hash_sign_start write
+ * it.
  *
- * Answers may be any bytes. What slh_sign_join writes is a valid signature, under this key, of the message that the
- * start was made of, whatever the answers are. It writes nothing unless they fit together:
+ * Answers may be any bytes. For any answers, slh_sign_join writes a valid signature, under this key, of the start's
+ * message, or it writes nothing. It writes only if the answers fit together:
  *
  * - The node of each answer has its tag.
- * - In every tree the root that the ranges give is the root that the signing leaf's key and path give. A one-time key
- *   that has signed two different roots, a wrong one and the right one, lets anyone forge with it. So the two are
- *   compared in every tree before anything is written, and the roots that were compared are those that are signed.
+ * - In every tree the root from the ranges equals the root from the signing leaf's key and path. If a one-time key
+ *   signs two different roots, a wrong one and the right one, anyone can forge with it. So the two are compared in
+ *   every tree before anything is written, and the compared roots are the signed ones.
  * - The root of the top tree is PK.root.
  *
  * A tag is HMAC with the hash function of the set (FIPS 205, section 11.2) under SK.prf || SK.seed || PK.seed || 1, cut
- * to n bytes. Its text has the kind of what is tagged, the number of the encoding, those of the set and, for a start,
- * PK.root, R and the digest; for a node the start (in signing), the levels, the job and the node. No two different
- * things have one text. So a start or an answer that was made under another key or set, of another R or digest, or for
- * another cutting or job has another tag, unless two values of HMAC are the same. Tests try that none are; it is not
- * proved.
+ * to n bytes. Its text has the kind of the tagged thing, the number of the encoding and those of the set. For a start,
+ * PK.root, R and the digest follow; for a node the start (in signing), the levels, the job and the node. Two different
+ * things never have one text. So another key, set, R, digest, cutting or job gives another tag, unless two values of
+ * HMAC are equal by chance. Tests try that none are; it is not proved.
  *
- * Bytes of an answer that the signature doesn't need are not looked at.
- *
- * What stands where in an answer is no promise: it may be otherwise in the next version of this library. The number of
- * the encoding is in the text of every tag, so a version with another one refuses these starts and answers as it
- * refuses those of another key.
+ * Bytes of an answer that the signature doesn't need are not read. The layout of an answer may change with the next
+ * version. The number of the encoding is in the text of every tag, so a version with another one refuses these starts
+ * and answers.
  *
  *
  * Faults
  *
- * A job tags its node itself: one that is computed wrongly inside a job, by bad memory or a bad processor, is tagged as
- * a right one is. Of 300 random bit flips inside jobs, tried once, 227 gave a signature that is wrong but valid: it
- * verifies, and a one-time key has signed a wrong value. The same holds for slh_sign, and for any library that computes
- * each node once. Verifying before release finds few of them.
+ * A job tags its node: a node that is computed wrongly inside a job, by bad memory or a bad processor, gets a right
+ * tag. Among 300 random bit flips inside jobs, tried once, 227 gave a signature that is wrong but valid: it verifies,
+ * and a one-time key has signed a wrong value. slh_sign has this weakness, too, and any library that computes each node
+ * once. Verifying before release finds few of these faults.
  *
- * Who fears faults runs each job twice, on different processors, and compares the bytes of the two answers before
- * joining: docs/JOBS.md shows it. To try again after a fault in the deterministic variant is the worst case: the
- * same message takes the same one-time keys again, with other values to sign. Give each signature a fresh randomizer.
+ * If you must survive faults, run each job twice, on different processors, and compare the bytes of the two answers
+ * before joining: SECURITY.md shows it. Signing again after a fault in the deterministic variant is the worst case:
+ * the message takes its one-time keys again, with other values to sign. Pass a fresh randomizer for each signature.
  */
 
 /*
- * To plan a signature's jobs: how many it has, the length of its start and that of the answers of all jobs, in bytes.
- * Levels go from 0 to 8, and at most to the height of the trees: 9, 3, 9, 3, 8, 4 of the XMSS trees and 12, 6, 14, 8,
- * 14, 9 of the FORS trees, in the order of the sets. A few jobs for each thread are enough.
+ * To plan a signature's jobs: their number, the length of the start and that of the answers of all jobs, in bytes.
+ * Levels go from 0 to 8, and at most to the height of the trees. In the order of the sets, this height is 9, 3, 9, 3,
+ * 8, 4 for XMSS trees and 12, 6, 14, 8, 14, 9 for FORS trees. A few jobs for each thread are enough.
  * Returns: SLH_DONE; SLH_NO_SUCH_SET, SLH_BAD_CUTTING.
  */
 SLH_MUST_USE SLH_API
@@ -301,7 +300,7 @@ uint32_t slh_sign_jobs(uint32_t set, uint32_t xmss_levels, uint32_t fors_levels,
                        size_t *answers_len);
 
 /*
- * To find the room of a job's answer: where it begins among the answers of all jobs, and its length, in bytes. Jobs are
+ * To find the place of a job's answer: its offset in the answers of all jobs, and its length, in bytes. Jobs are
  * numbered from 0.
  * Returns: SLH_DONE; SLH_NO_SUCH_SET, SLH_BAD_CUTTING, SLH_NO_SUCH_JOB.
  */
@@ -333,8 +332,8 @@ uint32_t slh_hash_sign_start(uint32_t set, uint32_t function, const uint8_t *sk,
 
 /*
  * To do one job of the signature that start begins, in any thread: writes its answer, of the length that
- * slh_answer_place tells. What is written follows from the arguments alone. SLH_BAD_START where the start does not have
- * its tag under this key.
+ * slh_answer_place writes. Equal arguments give equal bytes. SLH_BAD_START if the start does not have its tag under
+ * this key.
  * Returns: SLH_DONE; SLH_NO_SUCH_SET, SLH_BAD_CUTTING, SLH_NO_SUCH_JOB, SLH_BAD_LENGTH, SLH_BAD_START_LENGTH,
  * SLH_BAD_OUTPUT_LENGTH, SLH_BAD_START.
  */
@@ -343,10 +342,9 @@ uint32_t slh_sign_job(uint32_t set, uint32_t xmss_levels, uint32_t fors_levels, 
                       const uint8_t *start, size_t start_len, uint32_t job, uint8_t *answer, size_t answer_len);
 
 /*
- * To make the signature that start begins, from the answers of all its jobs. Where each answer is what slh_sign_job
- * writes, it is that of slh_sign or slh_hash_sign. SLH_BAD_START where the start does not have its tag under this key,
- * SLH_ANSWERS_DISAGREE where the answers don't fit together; under a key of slh_keygen, answers that are what
- * slh_sign_job writes always do.
+ * To make the signature that start begins, from the answers of all its jobs. If each answer is that of slh_sign_job,
+ * the signature is that of slh_sign or slh_hash_sign. SLH_BAD_START if the start does not have its tag under this key,
+ * SLH_ANSWERS_DISAGREE if the answers don't fit together. Under a key of slh_keygen, answers of slh_sign_job always do.
  * Returns: SLH_DONE; SLH_NO_SUCH_SET, SLH_BAD_CUTTING, SLH_BAD_LENGTH, SLH_BAD_START_LENGTH, SLH_BAD_OUTPUT_LENGTH,
  * SLH_BAD_ANSWERS_LENGTH, SLH_BAD_START, SLH_ANSWERS_DISAGREE.
  */
@@ -356,9 +354,9 @@ uint32_t slh_sign_join(uint32_t set, uint32_t xmss_levels, uint32_t fors_levels,
                        uint8_t *sig, size_t sig_len);
 
 /*
- * To plan a key's jobs: how many its generation has, where the XMSS tree of the top layer is cut into 2^xmss_levels
- * ranges, and the length of each answer, 2n bytes. The answer of job i begins at i times this length. These answers are
- * nodes of the tree of public keys and their tags, and hold no values of one-time keys.
+ * To plan a key's jobs: their number, and the length of each answer, 2n bytes. The XMSS tree of the top layer is cut
+ * into 2^xmss_levels ranges. The answer of job i begins at i times this length. These answers are nodes of the tree of
+ * public keys and their tags, and contain no values of one-time keys.
  * Returns: SLH_DONE; SLH_NO_SUCH_SET, SLH_BAD_CUTTING.
  */
 SLH_MUST_USE SLH_API
@@ -374,9 +372,9 @@ uint32_t slh_keygen_job(uint32_t set, uint32_t xmss_levels, const uint8_t *sk_se
                         uint32_t job, uint8_t *answer, size_t answer_len);
 
 /*
- * To make the secret key of these seeds, from the answers of all jobs, into the 4n bytes of sk. Where each answer is
- * what slh_keygen_job writes, it is that of slh_keygen. SLH_ANSWERS_DISAGREE where a node does not have the tag of its
- * job under these seeds and levels. A node that was computed wrongly has it: call slh_check on the key that is made.
+ * To make the secret key of these seeds, from the answers of all jobs, into the 4n bytes of sk. If each answer is that
+ * of slh_keygen_job, the key is that of slh_keygen. SLH_ANSWERS_DISAGREE if a node does not have the tag of its job
+ * under these seeds and levels. A node that was computed wrongly has that tag: call slh_check on the new key.
  * Returns: SLH_DONE; SLH_NO_SUCH_SET, SLH_BAD_CUTTING, SLH_BAD_SEED_LENGTH, SLH_BAD_OUTPUT_LENGTH,
  * SLH_BAD_ANSWERS_LENGTH, SLH_ANSWERS_DISAGREE.
  */

@@ -1,4 +1,4 @@
-/*
+/* SPDX-License-Identifier: MIT OR Apache-2.0
  * SLH-DSA (FIPS 205) with SHA-2 for C++17 and later: types over slh.h, which describes calls, lengths and refusals.
  *
  *   const auto secret = slh::SecretKey::generate(SLH_DSA_SHA2_128F);
@@ -16,52 +16,52 @@
 #include <sys/random.h>
 #endif
 namespace slh {
-using Bytes = std::vector<std::uint8_t>;
+using Bytes = std::vector<uint8_t>;
 /* Bytes that a call reads, as of a vector, std::array, string or span: a pointer and a length, which own nothing. */
 struct View {
-    const std::uint8_t *data = nullptr;
-    std::size_t size = 0;
+    const uint8_t *data = nullptr;
+    size_t size = 0;
     View() = default;
-    View(const void *bytes, std::size_t count) : data(static_cast<const std::uint8_t *>(bytes)), size(count) {}
+    View(const void *bytes, size_t count) : data(static_cast<const uint8_t *>(bytes)), size(count) {}
     View(const char *text) : View(text, std::char_traits<char>::length(text)) {} /* up to the first zero byte */
-    template <std::size_t N> View(char (&)[N]) = delete;                         /* write View(array, count) */
+    template <size_t N> View(char (&)[N]) = delete;                         /* write View(array, count) */
     template <class T, class = std::enable_if_t<!std::is_array_v<T> && sizeof *std::data(std::declval<T &>()) == 1>>
     View(const T &bytes) : View(std::data(bytes), std::size(bytes)) {}
 };
 
 /* A refusal. what() is its number and name, and the lengths if it is of a key or a randomizer; text() is a sentence. */
 struct Error : std::runtime_error {
-    const std::uint32_t number;
-    explicit Error(std::uint32_t result, const std::string &more = {})
+    const uint32_t number;
+    explicit Error(uint32_t result, const std::string &more = {})
         : std::runtime_error(std::to_string(result) + " " + name(result) + more), number(result) {}
     const char *text() const noexcept { return slh_refusal_text(number); }
-    static std::string name(std::uint32_t number) {
+    static std::string name(uint32_t number) {
         char name[SLH_MAX_NAME] = "";
         return slh_refusal_name(number, name, sizeof name) == SLH_DONE ? name : "NoSuchRefusal";
     }
 };
 
 /* Calls a function of slh.h with numbers, and with the pointer and the length of each View and of each output. */
-inline std::tuple<std::uint32_t> arguments(std::uint32_t number) { return {number}; }
-inline std::tuple<const std::uint8_t *, std::size_t> arguments(View read) { return {read.data, read.size}; }
-inline std::tuple<std::uint8_t *, std::size_t> arguments(Bytes &written) { return {written.data(), written.size()}; }
+inline std::tuple<uint32_t> arguments(uint32_t number) { return {number}; }
+inline std::tuple<const uint8_t *, size_t> arguments(View read) { return {read.data, read.size}; }
+inline std::tuple<uint8_t *, size_t> arguments(Bytes &written) { return {written.data(), written.size()}; }
 template <class F, class... T> bool call(F function, T &&...it) {
-    const std::uint32_t result = std::apply(function, std::tuple_cat(arguments(it)...));
+    const uint32_t result = std::apply(function, std::tuple_cat(arguments(it)...));
     return result == SLH_DONE || (result == SLH_INVALID ? false : throw Error(result));
 }
 
 struct Lengths {
-    std::size_t public_key, secret_key, signature, n;
+    size_t public_key, secret_key, signature, n;
     explicit Lengths(slh_set set) { call([&] { return slh_lengths(set, &public_key, &secret_key, &signature, &n); }); }
-    static View expect(std::size_t length, View given, std::uint32_t refusal = SLH_BAD_LENGTH) {
+    static View expect(size_t length, View given, uint32_t refusal = SLH_BAD_LENGTH) {
         const std::string more = std::to_string(length) + " bytes expected, " + std::to_string(given.size) + " given";
         return given.size == length ? given : throw Error(refusal, ": " + more);
     }
 };
 
 /* Fills bytes with fresh random ones that are fit for keys, or throws. A system without getentropy needs another. */
-using Fill = void (*)(std::uint8_t *bytes, std::size_t size);
-inline void system_random(std::uint8_t *bytes, std::size_t size) {
+using Fill = void (*)(uint8_t *bytes, size_t size);
+inline void system_random(uint8_t *bytes, size_t size) {
 #if __has_include(<sys/random.h>)
     if (getentropy(bytes, size) == 0) return;
 #endif
@@ -102,7 +102,7 @@ public:
     static SecretKey generate(slh_set set, Fill fill = system_random) {
         const SecretKey seeds(set, 3 * Lengths(set).n);
         fill(seeds.bytes_->data(), seeds.bytes_->size());
-        const auto seed = [&, n = Lengths(set).n](std::size_t at) { return View(seeds.bytes_->data() + at * n, n); };
+        const auto seed = [&, n = Lengths(set).n](size_t at) { return View(seeds.bytes_->data() + at * n, n); };
         return keygen(set, seed(0), seed(1), seed(2));
     }
     static SecretKey keygen(slh_set set, View sk_seed, View sk_prf, View pk_seed) {
@@ -131,7 +131,7 @@ private:
     struct Erase { void operator()(Bytes *it) const { slh_erase(it->data(), it->size()), delete it; } };
     slh_set set_;
     std::unique_ptr<Bytes, Erase> bytes_; /* Their length never changes, so no copy stays behind. */
-    SecretKey(slh_set set, std::size_t size) : set_(set), bytes_(new Bytes(size)) {}
+    SecretKey(slh_set set, size_t size) : set_(set), bytes_(new Bytes(size)) {}
     template <class Once, class Twice, class Verify, class... Id>
     Bytes made(const Options &how, View message, Once once, Twice twice, Verify verify, Id... id) const {
         const Lengths lengths(set_);

@@ -1,24 +1,28 @@
 /*
  * Verifying signatures of SLH-DSA (FIPS 205, August 2024) with SHA-2, for the six SHA-2 parameter sets.
  *
- *   slh_verify               a message that stands in memory whole
+ * SPDX-License-Identifier: MIT OR Apache-2.0
+ *
+ *   slh_verify               a whole message in memory
  *   slh_hash_verify_digest   an image that is read in pieces: hash it yourself, and hand in the digest
  *   slh_hash_verify          a message in memory that was signed by its digest
  *
- * A signature is valid where one of them returns SLH_DONE, and nowhere else. Test for SLH_DONE:
+ * A signature is valid where one of them returns SLH_DONE, and nowhere else. Test for SLH_DONE. The hardened calls, for
+ * boot loaders, return other numbers, which SLH_IS_VALID tests:
  *
  *   if (slh_verify(SLH_DSA_SHA2_128F, pk, sizeof pk, msg, msg_len, NULL, 0, sig, sig_len) != SLH_DONE) return reject();
  *
- * Duties of the caller, which nothing checks: each pointer is followed by the number of its bytes, at most PTRDIFF_MAX;
- * it points to that many, which may be read until the call returns, and which nothing else writes to meanwhile. Where
- * the number is 0 the pointer may be null. All else is tested: any number may stand for a set or a function, any length
- * is taken, and the bytes may be any.
+ * Duties of the caller, which nothing checks: the number of bytes, at most PTRDIFF_MAX, follows each pointer. The
+ * pointer points to that many bytes. They may be read until the call returns, and nothing else writes to them. If the
+ * number is 0, the pointer may be null. The calls check everything else: sets, functions, lengths and bytes may be any.
  *
- * No call allocates memory or keeps anything of its arguments. Any number of threads may be in any of the calls at
- * once. Of the portable C (docs/FIRMWARE.md) slh.c allocates the memory of a call, and slh_verify.c takes one call at a
- * time.
+ * No call allocates memory or stores anything of its arguments. Any number of threads may be in any of the calls at
+ * once. In the portable C (docs/MACHINES.md), slh.c allocates the memory of a call. There slh_verify.c has memory for
+ * one call: a second call at that time returns SLH_NO_MEMORY.
  *
- * lib/libslh_verify.a has the calls of this header alone, for firmware. slh.h has these and all others.
+ * lib/libslh_verify.a has only the calls of this header, for firmware. slh.h has all calls. For boards with pointers of
+ * 32 bits libslh_verify_128.a leaves out SHA-512. It refuses all sets except 128s and 128f (SLH_NO_SUCH_SET), and in
+ * slh_hash_verify the functions made of SHA-512 (SLH_NO_SUCH_FUNCTION).
  */
 #ifndef SLH_VERIFY_H
 #define SLH_VERIFY_H
@@ -26,14 +30,14 @@
 #include <stddef.h>
 #include <stdint.h>
 
-/* The version of this header: three numbers, the number that slh_version returns of the same version, and the text. */
+/* The version of this header: three numbers, the number that slh_version returns for it, and the text. */
 #define SLH_VERSION_MAJOR 0
-#define SLH_VERSION_MINOR 10
+#define SLH_VERSION_MINOR 11
 #define SLH_VERSION_PATCH 0
 #define SLH_VERSION_NUMBER (1000000 * SLH_VERSION_MAJOR + 1000 * SLH_VERSION_MINOR + SLH_VERSION_PATCH)
-#define SLH_VERSION "0.10.0"
+#define SLH_VERSION "0.11.0"
 
-/* Stands before each call whose result has to be looked at. A compiler that can warns where that is not done. */
+/* Marks each call whose result has to be checked: compilers that can do so warn if it is ignored. */
 #if defined(__cplusplus) && __cplusplus >= 201703L
 #define SLH_MUST_USE [[nodiscard]]
 #elif !defined(__cplusplus) && defined(__STDC_VERSION__) && __STDC_VERSION__ >= 202311L
@@ -44,7 +48,7 @@
 #define SLH_MUST_USE
 #endif
 
-/* Stands before each call: it is to be found in a shared object, whatever visibility the program is compiled with. */
+/* Marks each call: a shared object exports it, whatever visibility the program is compiled with. */
 #ifndef SLH_API
 #if defined(__GNUC__)
 #define SLH_API __attribute__((visibility("default")))
@@ -78,10 +82,10 @@ enum slh_function {
 };
 
 /*
- * What the calls of this header and of slh.h return. SLH_INVALID is not 1, and no call returns 1: calls of OpenSSL and
- * BoringSSL return 1 for a valid signature, and a caller who keeps their test `== 1` would, if SLH_INVALID were 1,
- * accept exactly the forgeries. SLH_NO_MEMORY is of the portable C alone (docs/FIRMWARE.md): malloc refused the memory
- * of the call, or the arguments do not fit into the device's. It is told before all else, and nothing is written.
+ * The results of the calls of this header and of slh.h. No call returns 1. OpenSSL and BoringSSL return 1 for a valid
+ * signature: if SLH_INVALID were 1, their test `== 1` would accept exactly the forgeries. Only the portable C returns
+ * SLH_NO_MEMORY (docs/MACHINES.md): malloc refused the memory of the call, the arguments do not fit into the device's
+ * memory, or another call uses it. This is checked first, and nothing is written.
  */
 enum slh_result {
     SLH_DONE = 0,
@@ -133,8 +137,9 @@ enum slh_result {
 #define SLH_MAX_SIGNATURE 49856
 
 /*
- * The memory that the portable slh_verify.c takes for a set in bytes (docs/FIRMWARE.md): its signature, a context, a
- * digest or a message of 64 bytes, the stack and the constants of the proved code. A longer message takes as many more.
+ * The bytes of memory that the portable slh_verify.c needs for a set (docs/MACHINES.md). They are for its signature, a
+ * context, a digest or a message of 64 bytes, the stack and the constants of the proved code. Add the further bytes of
+ * a longer message.
  */
 #define SLH_VERIFY_MEMORY_FOR(signature, message) (13856 + ((signature) + 15) / 16 * 16 + ((message) + 15) / 16 * 16)
 #define SLH_DSA_SHA2_128S_VERIFY_MEMORY SLH_VERIFY_MEMORY_FOR(SLH_DSA_SHA2_128S_SIGNATURE, 0)
@@ -149,18 +154,18 @@ enum slh_result {
 #define SLH_MAX_CONTEXT 255
 
 /*
- * To ask which version of the library the program runs with: 1,000,000 times the first number, 1,000 times the second,
- * and the third. Where it is not SLH_VERSION_NUMBER, the library is of another version than this header.
+ * To ask for the version of the library that the program runs with: 1,000,000 times the first number, 1,000 times the
+ * second, and the third. If it is not SLH_VERSION_NUMBER, the library and this header have different versions.
  */
 SLH_MUST_USE SLH_API
 uint32_t slh_version(void);
 
 /*
- * To verify a message that stands in memory whole, in the pure form (Algorithm 24). The public key has 2n bytes, and
- * the context at most 255; most use none. Bytes of another length than the set's signatures, and a context of over 255
- * bytes, are no valid signature.
- * Returns: SLH_DONE where the signature is valid, SLH_INVALID where it is not; SLH_NO_SUCH_SET, SLH_BAD_LENGTH (of the
- * key). What is wrong first, in this order, is told.
+ * To verify a whole message in memory, in the pure form (Algorithm 24). The public key has 2n bytes. The context has at
+ * most 255 bytes, and mostly none. A signature of another length than the set's is invalid, and so is any signature
+ * under a context of over 255 bytes.
+ * Returns: SLH_DONE if the signature is valid, SLH_INVALID if it is not; or the first refusal in this order:
+ * SLH_NO_SUCH_SET, SLH_BAD_LENGTH (of the key).
  */
 SLH_MUST_USE SLH_API
 uint32_t slh_verify(uint32_t set, const uint8_t *pk, size_t pk_len, const uint8_t *msg, size_t msg_len,
@@ -168,11 +173,11 @@ uint32_t slh_verify(uint32_t set, const uint8_t *pk, size_t pk_len, const uint8_
 
 /*
  * To verify a message that is read in pieces, as an image that goes to flash: compute its digest under the pre-hash
- * function, and hand that in (Algorithm 25 after its pre-hash). A digest has 28 bytes for SHA2-224 and SHA2-512/224, 32
- * for SHA2-256 and SHA2-512/256, 48 for SHA2-384, 64 for SHA2-512. Only messages that were signed in the pre-hash form
- * verify so. The other lengths are those of slh_verify.
- * Returns: SLH_DONE where the signature is valid, SLH_INVALID where it is not; SLH_NO_SUCH_SET, SLH_NO_SUCH_FUNCTION,
- * SLH_BAD_LENGTH (of the key), SLH_BAD_DIGEST_LENGTH, in this order.
+ * function, and pass that (Algorithm 25 after its pre-hash). A digest has 28 bytes for SHA2-224 and SHA2-512/224, 32
+ * for SHA2-256 and SHA2-512/256, 48 for SHA2-384, 64 for SHA2-512. Only signatures of the pre-hash form are valid. The
+ * other lengths are those of slh_verify.
+ * Returns: SLH_DONE if the signature is valid, SLH_INVALID if it is not; or the first refusal in this order:
+ * SLH_NO_SUCH_SET, SLH_NO_SUCH_FUNCTION, SLH_BAD_LENGTH (of the key), SLH_BAD_DIGEST_LENGTH.
  */
 SLH_MUST_USE SLH_API
 uint32_t slh_hash_verify_digest(uint32_t set, uint32_t function, const uint8_t *pk, size_t pk_len,
@@ -182,12 +187,51 @@ uint32_t slh_hash_verify_digest(uint32_t set, uint32_t function, const uint8_t *
 /*
  * To verify a message in memory that was signed by its digest (Algorithm 25): this computes the digest under the
  * pre-hash function. The lengths are those of slh_verify.
- * Returns: SLH_DONE where the signature is valid, SLH_INVALID where it is not; SLH_NO_SUCH_SET, SLH_NO_SUCH_FUNCTION,
- * SLH_BAD_LENGTH (of the key), in this order.
+ * Returns: SLH_DONE if the signature is valid, SLH_INVALID if it is not; or the first refusal in this order:
+ * SLH_NO_SUCH_SET, SLH_NO_SUCH_FUNCTION, SLH_BAD_LENGTH (of the key).
  */
 SLH_MUST_USE SLH_API
 uint32_t slh_hash_verify(uint32_t set, uint32_t function, const uint8_t *pk, size_t pk_len, const uint8_t *msg,
                          size_t msg_len, const uint8_t *ctx, size_t ctx_len, const uint8_t *sig, size_t sig_len);
+
+/*
+ * What the hardened calls return. Each number is the sum of two halves, and each half comes from its own comparison
+ * with PK.root: a fault that turns one comparison gives neither number. SLH_IS_VALID tests a variable, which it reads
+ * three times, so that a test that is skipped does not decide. Write it as the whole condition of an `if` that boots,
+ * with nothing that boots behind it. `volatile` keeps both writes:
+ *
+ *   volatile uint32_t verdict = SLH_HARDENED_INVALID;
+ *   verdict = slh_hash_verify_digest_hardened(SLH_DSA_SHA2_128S, SLH_SHA2_256, pk, sizeof pk, digest, sizeof digest,
+ *                                             NULL, 0, sig, sig_len);
+ *   if (SLH_IS_VALID(verdict)) boot();
+ *   stop();
+ */
+#define SLH_HARDENED_VALID 0x79d617a4u
+#define SLH_HARDENED_INVALID 0x7c91d87fu
+#define SLH_READ_AGAIN(verdict) (*(const volatile uint32_t *)&(verdict))
+#define SLH_IS_VALID(verdict)                                                                                          \
+    (SLH_READ_AGAIN(verdict) == SLH_HARDENED_VALID && SLH_READ_AGAIN(verdict) >> 16 == SLH_HARDENED_VALID >> 16 &&     \
+     (SLH_READ_AGAIN(verdict) & 0xffffu) == (SLH_HARDENED_VALID & 0xffffu))
+
+/*
+ * To verify as slh_verify does, on a machine that an attacker disturbs, as by a pulse on its supply. One comparison
+ * that is turned does not turn the verdict. docs/MACHINES.md lists the faults that were tried, and the processor. No
+ * other fault is claimed to be harmless.
+ * Returns: SLH_HARDENED_VALID if slh_verify returns SLH_DONE, and else SLH_HARDENED_INVALID. slh_verify tells why it
+ * refuses a call.
+ */
+SLH_MUST_USE SLH_API
+uint32_t slh_verify_hardened(uint32_t set, const uint8_t *pk, size_t pk_len, const uint8_t *msg, size_t msg_len,
+                             const uint8_t *ctx, size_t ctx_len, const uint8_t *sig, size_t sig_len);
+
+/*
+ * To verify as slh_hash_verify_digest does, on such a machine.
+ * Returns: SLH_HARDENED_VALID if slh_hash_verify_digest returns SLH_DONE, and else SLH_HARDENED_INVALID.
+ */
+SLH_MUST_USE SLH_API
+uint32_t slh_hash_verify_digest_hardened(uint32_t set, uint32_t function, const uint8_t *pk, size_t pk_len,
+                                         const uint8_t *digest, size_t digest_len, const uint8_t *ctx, size_t ctx_len,
+                                         const uint8_t *sig, size_t sig_len);
 
 #ifdef __cplusplus
 }
