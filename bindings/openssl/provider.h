@@ -13,7 +13,7 @@
 
 enum { MOST_WORKERS = 64, PRIVATE = OSSL_KEYMGMT_SELECT_PRIVATE_KEY, PUBLIC = OSSL_KEYMGMT_SELECT_PUBLIC_KEY };
 
-/* An entry of a table of functions. The compiler tells where a function is of another type than OpenSSL calls. */
+/* An entry of a table of functions. The compiler reports a function whose type is not the one that OpenSSL calls. */
 #define ENTRY(NAME, name, function) {OSSL_FUNC_##NAME, (void (*)(void))(1 ? (function) : (OSSL_FUNC_##name##_fn *)0)}
 #define OF_KEYS(NAME, name, function) ENTRY(KEYMGMT_##NAME, keymgmt_##name, function)
 #define OF_SIGNATURES(NAME, name, function) ENTRY(SIGNATURE_##NAME, signature_##name, function)
@@ -50,8 +50,8 @@ static inline size_t sk_len(const struct key *it) { return 4 * it->set->n; }
 static inline size_t pk_len(const struct key *it) { return 2 * it->set->n; }
 static inline const uint8_t *pk(const struct key *it) { return it->sk + pk_len(it); }
 
-/* What a caller chose for signatures under a key. encoding is 1 in the pure form, and 0 in the internal one, for test
-   vectors, whose message is M' as it is. The pieces of a message are held until it is over. */
+/* The options of a caller for signatures under a key. encoding is 1 in the pure form. It is 0 in the internal form, for
+   test vectors, whose message is M' as it is. The pieces of a message are held until it is over. */
 struct signature {
     struct provider *prov;
     const struct set *set;
