@@ -1,5 +1,5 @@
 -- Files that are read.
-use Rattle.std.specs.Prelude.{◌≡◌, ⊤, ℕ, ◌+◌, ◌<◌, ◌≤◌, ◌^◌, List, length, take, IfSome}
+use Rattle.std.specs.Prelude.{◌≡◌, ⊤, ℕ, ◌+◌, ◌<◌, ◌≤◌, ◌^◌, List, length, take, IfSome, ◌⊎◌, Result, MatchResult}
 use Rattle.slh_core.specs.PreHash.{Digest, PH}
 use Rattle.slh_core.specs.declared.pre_hash.PreHash.{PreHash}
 use Rattle.slh_io.specs.Devices.{FilesState, Grew}
@@ -34,6 +34,18 @@ RefusesFile old new path NoMemory = ⊤
 RefusesFile old new path FileTooLong = IfSome (old.bytes_at path) (λ whole. file_limit < length whole)
 RefusesFile old new path ReadFailed = Grew old.failures new.failures
 RefusesFile old new path fault = ⊥
+
+-- The refusals of runs in which a read of a file may have failed. If a signature can't be read, `verify` still reads the
+-- message, and reports one that is too long, or want of memory.
+abbrev pub AdmitsFailure : Fault → Type 0
+AdmitsFailure ReadFailed = ⊤
+AdmitsFailure FileTooLong = ⊤
+AdmitsFailure NoMemory = ⊤
+AdmitsFailure fault = ⊥
+
+-- the files are as they were, unless a read failed
+abbrev pub AreKeptUnlessFailed : {T : Type 0} → FilesState → FilesState → Result T Fault → Type 0
+AreKeptUnlessFailed old new r = MatchResult r (λ _. new ≡ old) (λ fault. (new ≡ old) ⊎ AdmitsFailure fault)
 
 -- after a read, also one that failed, the files have the same bytes and no fewer failures
 abbrev pub IsLater : FilesState → FilesState → Type 0

@@ -3,6 +3,7 @@ use Rattle.std.specs.Prelude.{◌≡◌, ◌⊎◌, ⊤, ℕ, List}
 use Rattle.std.specs.Io.KnownBytes.{Appends}
 use Rattle.clap.specs.Words.{Text}
 use Rattle.slh_io.specs.Devices.{FilesState, Grew, LetsThrough, SinkState, SourceState}
+use Rattle.slh_tool.specs.Reading.{AdmitsFailure}
 use Rattle.slh_tool.specs.Replies.{IsRefusal, IsReply}
 use Rattle.slh_tool.specs.Requests.{AreBad, AskHelp, Asked, Asks}
 use Rattle.slh_tool.specs.declared.fault.Fault.{Fault}
@@ -21,6 +22,11 @@ RefusesWords words fault = ⊥
 -- the refusal that the arguments, the files and the input give
 abbrev pub Refuses : List Text → FilesState → FilesState → SourceState → SourceState → Fault → Type 0
 Refuses words before after old new fault = ((a : Asked) × Asks words a × IsRefusal a before after old new fault) ⊎ RefusesWords words fault
+
+-- No read failed, and the files are as they were. Or a read failed and the refusal may say so, of a file or of the input.
+abbrev pub FailsOnlyAsRefused : FilesState → FilesState → SourceState → SourceState → Fault → Type 0
+FailsOnlyAsRefused before after old new fault = ((after ≡ before) × (new.failures ≡ old.failures))
+    ⊎ (AdmitsFailure fault × ((after ≡ before) ⊎ (new.failures ≡ old.failures)))
 
 -- a sink got a text, or the prefix of it that was written before a write failed
 abbrev pub IsTold : SinkState → SinkState → Text → Type 0

@@ -1,5 +1,5 @@
 -- The seeds of a key on the standard input.
-use Rattle.std.specs.Prelude.{◌≡◌, ℕ, ◌+◌, ◌-◌, ◌*◌, ◌<◌, ◌≤◌, if◌then◌else◌, List, [], ◌∷◌, length, take, drop, Option, Some, None}
+use Rattle.std.specs.Prelude.{◌≡◌, ◌⊎◌, ℕ, ◌+◌, ◌-◌, ◌*◌, ◌<◌, ◌≤◌, if◌then◌else◌, List, [], ◌∷◌, length, take, drop, Option, Some, None, Result, MatchResult}
 use Rattle.std.specs.Io.KnownBytes.{Consumes, IsAtEnd}
 use Rattle.std.specs.Result.{result_ok}
 use Rattle.std.specs.Str.{bytes_eq}
@@ -37,3 +37,8 @@ abbrev pub RefusesSeeds : ParamSet → SourceState → SourceState → Fault →
 RefusesSeeds set old new BadSeeds = (bytes : List ℕ) × IsInput old new (seeds_limit set) bytes × (seeds_of set bytes ≡ None)
 RefusesSeeds set old new ReadFailed = Grew old.failures new.failures
 RefusesSeeds set old new fault = ⊥
+
+-- the input has failed no more often, unless a failed read of it is the refusal
+abbrev pub IsUnfailedUnlessRefused : {T : Type 0} → SourceState → SourceState → Result T Fault → Type 0
+IsUnfailedUnlessRefused old new r =
+    MatchResult r (λ _. new.failures ≡ old.failures) (λ fault. (new.failures ≡ old.failures) ⊎ (fault ≡ ReadFailed))

@@ -6,7 +6,7 @@ ghost use Rattle.slh_params.specs.Params.{sig_len};
 ghost use Rattle.slh_params.specs.ParamSet.{params};
 ghost use Rattle.slh_par.specs.declared.fault.ParFault.TheVariants.{Stopped};
 ghost use Rattle.slh_tool.specs.Contents.{IsContentOf, formatted};
-ghost use Rattle.slh_tool.specs.Reading.{RefusesFile};
+ghost use Rattle.slh_tool.specs.Reading.{AreKeptUnlessFailed, RefusesFile};
 
 use super::fault::Fault;
 use super::reading::{digest_file, read_file};
@@ -34,7 +34,7 @@ pub(crate) fn content_of<A: Allocator, F: Files>(
 ) -> Result<Content<A>, Fault>
     ensures done { IfOk result (IsContentOf (F.state files.old) path.now form) }
     ensures refused { IfErr result (RefusesFile (F.state files.old) (F.state files.new) path.now) }
-    ensures kept { OnOk result (F.state files.new ≡ F.state files.old) }
+    ensures kept { AreKeptUnlessFailed (F.state files.old) (F.state files.new) result }
 {
     match form {
         Form::Pure => Ok(Content::Message(read_file(alloc, files, path)?)),

@@ -8,6 +8,7 @@ ghost use Rattle.slh_params.specs.ParamSet.{params};
 ghost use Rattle.slh_tool.specs.Keys.{IsGeneratedFrom, RefusesSeedsOf, key_of_seeds};
 ghost use Rattle.slh_tool.specs.Replies.{RefusesKeygen, ShowsRoot, WritesKey, limit_of_set};
 ghost use Rattle.slh_tool.specs.Requests.{keygen_asked};
+ghost use Rattle.slh_tool.specs.Seeds.{IsUnfailedUnlessRefused};
 ghost use Rattle.slh_tool.specs.declared.fault.Fault.TheVariants.{NoMemory};
 
 use super::cuts::{cutting_of, workers_of};
@@ -33,6 +34,7 @@ pub(crate) fn root<A: Allocator, S: Source>(
     ensures refused { IfErr result (RefusesSeedsOf name.now (S.state input.old) (S.state input.new)) }
     ensures at_most { TakesAtMost (S.state input.old).left (S.state input.new).left
         (limit_of_set (set_of_label name.now)) }
+    ensures unfailed { IsUnfailedUnlessRefused (S.state input.old) (S.state input.new) result }
 {
     let key = generated(name, input)?;
     Ok(root_line(alloc, &key)?)
@@ -51,6 +53,7 @@ pub(crate) fn keygen<R: Threads + Sync, A: Allocator + Clone + Send + Sync, S: S
     ensures refused { IfErr result (RefusesKeygen (keygen_asked words.entry) (S.state input.old) (S.state input.new)) }
     ensures at_most { TakesAtMost (S.state input.old).left (S.state input.new).left
         (limit_of_set (set_of_label words.entry.set.now)) }
+    ensures unfailed { IsUnfailedUnlessRefused (S.state input.old) (S.state input.new) result }
 {
     let Some(set) = ParamSet::from_label(words.set.as_bytes()) else {
         return Err(Fault::UnknownSet);
@@ -97,6 +100,7 @@ fn generated<S: Source>(name: &str, input: &mut S) -> Result<SecretKey, Fault>
     ensures refused { IfErr result (RefusesSeedsOf name.now (S.state input.old) (S.state input.new)) }
     ensures at_most { TakesAtMost (S.state input.old).left (S.state input.new).left
         (limit_of_set (set_of_label name.now)) }
+    ensures unfailed { IsUnfailedUnlessRefused (S.state input.old) (S.state input.new) result }
 {
     let Some(set) = ParamSet::from_label(name.as_bytes()) else {
         return Err(Fault::UnknownSet);

@@ -1,9 +1,10 @@
 //! Key files as input, and the commands `public`, `upgrade` and `check`.
-ghost use Rattle.std.specs.Prelude.{◌≡◌, IfOk, IfErr, OnOk, string_bytes};
+ghost use Rattle.std.specs.Prelude.{◌≡◌, IfOk, IfErr, string_bytes};
 ghost use Rattle.slh_key_files.specs.declared.key_kind.KeyKind.TheVariants.{Public, Secret};
 ghost use Rattle.slh_key_files.specs.KeyFile.{any_key_text};
 ghost use Rattle.slh_key_files.specs.declared.fault.FileFault.TheVariants.{NoMemory};
 ghost use Rattle.slh_tool.specs.Keys.{HoldsAnyKey, HoldsKey, RefusesAnyKey, RefusesKey};
+ghost use Rattle.slh_tool.specs.Reading.{AreKeptUnlessFailed};
 ghost use Rattle.slh_tool.specs.Replies.{ChecksKey, UpgradesKey, WritesPublic};
 
 use super::fault::Fault;
@@ -24,7 +25,7 @@ pub(crate) fn secret_key<A: Allocator, F: Files>(
 ) -> Result<SecretKey, Fault>
     ensures done { IfOk result (HoldsKey Secret (F.state files.old) path.now) }
     ensures refused { IfErr result (RefusesKey Secret (F.state files.old) (F.state files.new) path.now) }
-    ensures kept { OnOk result (F.state files.new ≡ F.state files.old) }
+    ensures kept { AreKeptUnlessFailed (F.state files.old) (F.state files.new) result }
 {
     let bytes = read_key_file(alloc, files, path)?;
     Ok(read_secret(bytes.as_slice())?)
@@ -38,7 +39,7 @@ pub(crate) fn public_key<A: Allocator, F: Files>(
 ) -> Result<PublicKey, Fault>
     ensures done { IfOk result (HoldsKey Public (F.state files.old) path.now) }
     ensures refused { IfErr result (RefusesKey Public (F.state files.old) (F.state files.new) path.now) }
-    ensures kept { OnOk result (F.state files.new ≡ F.state files.old) }
+    ensures kept { AreKeptUnlessFailed (F.state files.old) (F.state files.new) result }
 {
     let bytes = read_key_file(alloc, files, path)?;
     Ok(read_public(bytes.as_slice())?)
@@ -53,7 +54,7 @@ pub(crate) fn public<A: Allocator + Clone, F: Files>(
 ) -> Result<String<A>, Fault>
     ensures done { IfOk result (λ s. WritesPublic path.now (F.state files.old) (string_bytes s)) }
     ensures refused { IfErr result (RefusesKey Secret (F.state files.old) (F.state files.new) path.now) }
-    ensures kept { OnOk result (F.state files.new ≡ F.state files.old) }
+    ensures kept { AreKeptUnlessFailed (F.state files.old) (F.state files.new) result }
 {
     let key = secret_key(alloc.clone()?, files, path)?;
     let Ok(text) = write_public(alloc, &key.public()) else {
@@ -71,7 +72,7 @@ pub(crate) fn upgrade<A: Allocator + Clone, F: Files>(
 ) -> Result<String<A>, Fault>
     ensures done { IfOk result (λ s. UpgradesKey path.now (F.state files.old) (string_bytes s)) }
     ensures refused { IfErr result (RefusesAnyKey (F.state files.old) (F.state files.new) path.now) }
-    ensures kept { OnOk result (F.state files.new ≡ F.state files.old) }
+    ensures kept { AreKeptUnlessFailed (F.state files.old) (F.state files.new) result }
 {
     let key = any_key(alloc.clone()?, files, path)?;
     let Ok(text) = key_text(alloc, &key) else {
@@ -84,7 +85,7 @@ pub(crate) fn upgrade<A: Allocator + Clone, F: Files>(
 fn any_key<A: Allocator, F: Files>(alloc: A, files: &mut F, path: &str) -> Result<AnyKey, Fault>
     ensures done { IfOk result (HoldsAnyKey (F.state files.old) path.now) }
     ensures refused { IfErr result (RefusesAnyKey (F.state files.old) (F.state files.new) path.now) }
-    ensures kept { OnOk result (F.state files.new ≡ F.state files.old) }
+    ensures kept { AreKeptUnlessFailed (F.state files.old) (F.state files.new) result }
 {
     let bytes = read_key_file(alloc, files, path)?;
     Ok(read_key(bytes.as_slice())?)
@@ -110,7 +111,7 @@ pub(crate) fn check<A: Allocator + Clone, F: Files>(
 ) -> Result<Reply<A>, Fault>
     ensures done { IfOk result (λ r. ChecksKey path.now (F.state files.old) r.status r.output.items) }
     ensures refused { IfErr result (RefusesKey Secret (F.state files.old) (F.state files.new) path.now) }
-    ensures kept { OnOk result (F.state files.new ≡ F.state files.old) }
+    ensures kept { AreKeptUnlessFailed (F.state files.old) (F.state files.new) result }
 {
     let key = secret_key(alloc.clone()?, files, path)?;
     Ok(Reply::verdict(alloc, check_pair(&key), "consistent\n", "inconsistent\n")?)

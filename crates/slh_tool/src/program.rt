@@ -1,12 +1,14 @@
 //! The program: takes the arguments, runs the command, and writes the reply or the refusal.
-ghost use Rattle.std.specs.Prelude.{◌≡◌, ◌≢◌, ◌⊎◌, map, IfOk, IfErr, string_bytes, Some, OnOk};
+ghost use Rattle.std.specs.Prelude.{◌≡◌, ◌≢◌, ◌⊎◌, map, IfOk, IfErr, string_bytes, Some};
 ghost use Rattle.std.specs.Io.KnownBytes.{Appends};
 ghost use Rattle.clap.specs.Words.{Text};
 ghost use Rattle.slh_io.specs.Devices.{TakesAtMost};
 ghost use Rattle.slh_tool.specs.Faults.{line};
+ghost use Rattle.slh_tool.specs.Reading.{AreKeptUnlessFailed};
 ghost use Rattle.slh_tool.specs.Replies.{IsRefusal, IsReply, input_limit, words_limit};
 ghost use Rattle.slh_tool.specs.Requests.{asked};
-ghost use Rattle.slh_tool.specs.Runs.{BreaksOff, IsTold, Refuses, Replies};
+ghost use Rattle.slh_tool.specs.Runs.{BreaksOff, FailsOnlyAsRefused, IsTold, Refuses, Replies};
+ghost use Rattle.slh_tool.specs.Seeds.{IsUnfailedUnlessRefused};
 ghost use Rattle.slh_tool.specs.declared.fault.Fault.{Fault};
 ghost use Rattle.slh_tool.specs.declared.fault.Fault.TheVariants.{WriteFailed};
 
@@ -28,8 +30,9 @@ use std::thread::Threads;
 /// Runs the command of the arguments after the program's name, and gives the exit status: 0 for done, valid,
 /// consistent or all tests passed, 1 for invalid, inconsistent or a failed test, 2 for refused.
 ///
-/// `clap` and `serde_json` take their memory from the runtime, and all else takes it from `alloc`. Each of several
-/// workers of `keygen`, `sign` and `vectors` runs in another thread. These wait only for the threads that they started.
+/// `clap`, `serde_json` and the tests of a vector file take their memory from the runtime, and all else takes it from
+/// `alloc`. Each of several workers of `keygen`, `sign` and `vectors` runs in another thread. These wait only for the
+/// threads that they started.
 pub fn command<
     R: AllocGlobal + Threads + Sync,
     A: Allocator + Clone + Send + Sync,
@@ -51,15 +54,19 @@ pub fn command<
         × Replies (map string_bytes words.now) (F.state files.old) (S.state input.old) (S.state input.new) result text
         × Appends (O.state output.old).contents (O.state output.new).contents text
         × (errors.new ≡ errors.old) }
-    // The refusal has its cause, and nothing was written; or a write failed, after a prefix of the answer was written.
+    // The refusal has its cause, and nothing was written; or a write failed, after a prefix of the answer was written. No
+    // read failed, unless the refusal is one that admits it.
     ensures refused { result ≡ 2 → (fault : Fault) × IsTold (E.state errors.old) (E.state errors.new) (line fault)
+        × FailsOnlyAsRefused (F.state files.old) (F.state files.new) (S.state input.old) (S.state input.new) fault
         × ((Refuses (map string_bytes words.now) (F.state files.old) (F.state files.new)
         (S.state input.old) (S.state input.new) fault
         × (output.new ≡ output.old))
         ⊎ ((fault ≡ WriteFailed) × BreaksOff (O.state output.old) (O.state output.new)
         (Replies (map string_bytes words.now) (F.state files.old) (S.state input.old) (S.state input.new)))) }
-    // A run that is not refused has met no failure of a file, and the files are as they were.
+    // A run that is not refused has met no failure, and the files are as they were.
     ensures files { result ≢ 2 → F.state files.new ≡ F.state files.old }
+    ensures input { result ≢ 2 → (S.state input.new).failures ≡ (S.state input.old).failures }
+    ensures output { result ≢ 2 → (O.state output.new).failures ≡ (O.state output.old).failures }
     // The command takes only the input that it reads, and none if the arguments are refused or ask for help.
     ensures at_most { TakesAtMost (S.state input.old).left (S.state input.new).left
         (words_limit (map string_bytes words.now)) }
@@ -95,7 +102,10 @@ fn respond<
         (S.state input.old) (S.state input.new)) }
     ensures at_most { TakesAtMost (S.state input.old).left (S.state input.new).left
         (words_limit (map string_bytes words.now)) }
-    ensures kept { OnOk result (F.state files.new ≡ F.state files.old) }
+    ensures kept { AreKeptUnlessFailed (F.state files.old) (F.state files.new) result }
+    ensures unfailed { IsUnfailedUnlessRefused (S.state input.old) (S.state input.new) result }
+    ensures one { (F.state files.new ≡ F.state files.old)
+        ⊎ ((S.state input.new).failures ≡ (S.state input.old).failures) }
 {
     match parsed(rt.alloc(), words) {
         Ok(request) => run(rt, alloc, request, files, input),
@@ -127,7 +137,10 @@ fn run<R: AllocGlobal + Threads + Sync, A: Allocator + Clone + Send + Sync, F: F
         (S.state input.old) (S.state input.new)) }
     ensures at_most { TakesAtMost (S.state input.old).left (S.state input.new).left
         (input_limit (Some (asked request.entry))) }
-    ensures kept { OnOk result (F.state files.new ≡ F.state files.old) }
+    ensures kept { AreKeptUnlessFailed (F.state files.old) (F.state files.new) result }
+    ensures unfailed { IsUnfailedUnlessRefused (S.state input.old) (S.state input.new) result }
+    ensures one { (F.state files.new ≡ F.state files.old)
+        ⊎ ((S.state input.new).failures ≡ (S.state input.old).failures) }
 {
     match request {
         Request::Params(Some(name)) => Ok(Reply::text(named_set(alloc, name)?)),

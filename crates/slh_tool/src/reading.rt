@@ -6,7 +6,7 @@ ghost use Rattle.slh_core.specs.Verifying.{IsVerifierOf};
 ghost use Rattle.slh_core.specs.declared.pre_hash.PreHash.{PreHash};
 ghost use Rattle.slh_io.specs.Devices.{CountsFailure, EndsBy, HasPart};
 ghost use Rattle.slh_key_files.specs.KeyFile.{AreReadAlike, IsKeyFront};
-ghost use Rattle.slh_tool.specs.Reading.{IsDigestOfFile, IsFile, IsFrontOfFile, IsFrontOfKeyFile, IsLater, RefusesFile, file_limit};
+ghost use Rattle.slh_tool.specs.Reading.{AdmitsFailure, AreKeptUnlessFailed, IsDigestOfFile, IsFile, IsFrontOfFile, IsFrontOfKeyFile, IsLater, RefusesFile, file_limit};
 
 use super::fault::Fault;
 use slh_core::{MessageDigest, PreHash, PreHasher, Verifier};
@@ -105,7 +105,8 @@ pub(crate) fn read_through<F: Files, R: Receiver>(
     ensures done { OnOk result ((whole : List ℕ) × IsFile (F.state files.old) path.now whole
         × R.has_received receiver.old receiver.new whole) }
     ensures refused { IfErr result (RefusesFile (F.state files.old) (F.state files.new) path.now) }
-    ensures kept { OnOk result (F.state files.new ≡ F.state files.old) }
+    ensures kept { AreKeptUnlessFailed (F.state files.old) (F.state files.new) result }
+    ensures admits { IfErr result AdmitsFailure }
     ensures later { IsLater (F.state files.old) (F.state files.new) }
 {
     let mut piece = [0; PIECE];
@@ -131,7 +132,7 @@ pub(crate) fn read_file<A: Allocator, F: Files>(
 ) -> Result<Vec<u8, A>, Fault>
     ensures done { IfOk result (λ bytes. IsFile (F.state files.old) path.now bytes.items) }
     ensures refused { IfErr result (RefusesFile (F.state files.old) (F.state files.new) path.now) }
-    ensures kept { OnOk result (F.state files.new ≡ F.state files.old) }
+    ensures kept { AreKeptUnlessFailed (F.state files.old) (F.state files.new) result }
 {
     read_front(alloc, files, path, FILE_LIMIT)
 }
@@ -146,7 +147,7 @@ pub(crate) fn read_front<A: Allocator, F: Files>(
     requires most { most ≤ file_limit }
     ensures done { IfOk result (λ bytes. IsFrontOfFile (F.state files.old) path.now most bytes.items) }
     ensures refused { IfErr result (RefusesFile (F.state files.old) (F.state files.new) path.now) }
-    ensures kept { OnOk result (F.state files.new ≡ F.state files.old) }
+    ensures kept { AreKeptUnlessFailed (F.state files.old) (F.state files.new) result }
     ensures later { IsLater (F.state files.old) (F.state files.new) }
 {
     let mut front = Front {
@@ -161,7 +162,8 @@ pub(crate) fn read_front<A: Allocator, F: Files>(
 pub(crate) fn read_past<F: Files>(files: &mut F, path: &str) -> Result<(), Fault>
     ensures done { OnOk result ((whole : List ℕ) × IsFile (F.state files.old) path.now whole) }
     ensures refused { IfErr result (RefusesFile (F.state files.old) (F.state files.new) path.now) }
-    ensures kept { OnOk result (F.state files.new ≡ F.state files.old) }
+    ensures kept { AreKeptUnlessFailed (F.state files.old) (F.state files.new) result }
+    ensures admits { IfErr result AdmitsFailure }
 {
     read_through(files, path, &mut Nothing)
 }
@@ -174,7 +176,7 @@ pub(crate) fn read_key_file<A: Allocator, F: Files>(
 ) -> Result<Vec<u8, A>, Fault>
     ensures done { IfOk result (λ bytes. IsFrontOfKeyFile (F.state files.old) path.now bytes.items) }
     ensures refused { IfErr result (RefusesFile (F.state files.old) (F.state files.new) path.now) }
-    ensures kept { OnOk result (F.state files.new ≡ F.state files.old) }
+    ensures kept { AreKeptUnlessFailed (F.state files.old) (F.state files.new) result }
 {
     let mut front = KeyFront {
         bytes: Vec::new(alloc),
@@ -191,7 +193,7 @@ pub(crate) fn digest_file<F: Files>(
 ) -> Result<MessageDigest, Fault>
     ensures done { IfOk result (λ digest. IsDigestOfFile (F.state files.old) path.now function digest) }
     ensures refused { IfErr result (RefusesFile (F.state files.old) (F.state files.new) path.now) }
-    ensures kept { OnOk result (F.state files.new ≡ F.state files.old) }
+    ensures kept { AreKeptUnlessFailed (F.state files.old) (F.state files.new) result }
 {
     let mut hasher = PreHasher::new(function);
     read_through(files, path, &mut hasher)?;

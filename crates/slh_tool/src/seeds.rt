@@ -2,7 +2,7 @@
 ghost use Rattle.std.specs.Prelude.{◌≡◌, ◌*◌, length, option_map, IfSome, IfOk, IfErr};
 ghost use Rattle.slh_io.specs.Devices.{TakesAtMost};
 ghost use Rattle.slh_params.specs.ParamSet.{params};
-ghost use Rattle.slh_tool.specs.Seeds.{AreSeeds, RefusesSeeds, seeds_limit, seeds_of, without_line_feed};
+ghost use Rattle.slh_tool.specs.Seeds.{AreSeeds, IsUnfailedUnlessRefused, RefusesSeeds, seeds_limit, seeds_of, without_line_feed};
 
 use super::fault::Fault;
 use arrayvec::ArrayVec;
@@ -19,6 +19,7 @@ pub(crate) fn read_seeds<S: Source>(set: ParamSet, input: &mut S) -> Result<Seed
     ensures len { IfOk result (λ v. length v.items ≡ 3 * (params set).n) }
     ensures refused { IfErr result (RefusesSeeds set (S.state input.old) (S.state input.new)) }
     ensures at_most { TakesAtMost (S.state input.old).left (S.state input.new).left (seeds_limit set) }
+    ensures unfailed { IsUnfailedUnlessRefused (S.state input.old) (S.state input.new) result }
 {
     let mut room = [0; 194];
     let room = &mut room[..6 * set.n() + 2];

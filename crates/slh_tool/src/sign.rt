@@ -3,6 +3,7 @@ ghost use Rattle.std.specs.Prelude.{◌≡◌, ◌<◌, ◌≤◌, ◌⊎◌, If
 ghost use Rattle.slh_params.specs.ParamSet.{params};
 ghost use Rattle.slh_tool.specs.Contents.{formatted};
 ghost use Rattle.slh_tool.specs.Options.{signature_of};
+ghost use Rattle.slh_tool.specs.Reading.{AreKeptUnlessFailed};
 ghost use Rattle.slh_tool.specs.Replies.{RefusesSign, RefusesSigning, SignsMessage, SignsWith};
 ghost use Rattle.slh_tool.specs.Requests.{sign_asked};
 ghost use Rattle.slh_tool.specs.declared.fault.Fault.TheVariants.{ContextTooLong, NoMemory};
@@ -29,7 +30,7 @@ pub(crate) fn sign_file<R: Threads + Sync, A: Allocator + Clone + Send + Sync, F
 ) -> Result<Vec<u8, A>, Fault>
     ensures done { IfOk result (λ bytes. SignsMessage (sign_asked words.entry) (F.state files.old) bytes.items) }
     ensures refused { IfErr result (RefusesSign (sign_asked words.entry) (F.state files.old) (F.state files.new)) }
-    ensures kept { OnOk result (F.state files.new ≡ F.state files.old) }
+    ensures kept { AreKeptUnlessFailed (F.state files.old) (F.state files.new) result }
 {
     let key = secret_key(alloc.clone()?, files, words.key)?;
     sign_with(rt, alloc, words, files, &key)
@@ -46,7 +47,7 @@ fn sign_with<R: Threads + Sync, A: Allocator + Clone + Send + Sync, F: Files>(
     ensures done { IfOk result (λ bytes. SignsWith (sign_asked words.entry) (F.state files.old) key.now bytes.items) }
     ensures refused { IfErr result (RefusesSigning (sign_asked words.entry) key.now.set
         (F.state files.old) (F.state files.new)) }
-    ensures kept { OnOk result (F.state files.new ≡ F.state files.old) }
+    ensures kept { AreKeptUnlessFailed (F.state files.old) (F.state files.new) result }
 {
     let form = form_and_context(alloc.clone()?, words.form)?;
     let Some(random) = random_of(key.set(), words) else {
@@ -102,7 +103,8 @@ fn signature_of<R: Threads + Sync, A: Allocator + Clone + Send + Sync>(
     Ok(first)
 }
 
-/// The signature, computed once. It is never inlined, so that the compiler cannot take one computation for both.
+/// The signature, computed once. It is never inlined: two calls that take memory and start threads are not joined to
+/// one.
 #[inline(never)]
 fn signed_once<R: Threads + Sync, A: Allocator + Clone + Send + Sync>(
     rt: &R,

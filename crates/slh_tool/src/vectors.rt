@@ -1,9 +1,10 @@
 //! The command `vectors`.
-ghost use Rattle.std.specs.Prelude.{◌≡◌, IfErr, IfOk, length, OnOk};
+ghost use Rattle.std.specs.Prelude.{◌≡◌, IfErr, IfOk, length};
 ghost use Rattle.slh_tool.specs.TestRuns.{IsStatus, RefusesVectors, RunsVectors};
 ghost use Rattle.slh_tool.specs.declared.fault.Fault.TheVariants.{NoMemory};
 ghost use Rattle.slh_vectors.specs.Cases.{views};
 ghost use Rattle.slh_vectors.specs.Report.{report_text};
+ghost use Rattle.slh_tool.specs.Reading.{AreKeptUnlessFailed};
 
 use super::fault::Fault;
 use super::reading::read_file;
@@ -23,7 +24,7 @@ pub(crate) fn run_file<
 >(rt: &R, alloc: A, path: &str, workers: Workers, files: &mut F) -> Result<Reply<A>, Fault>
     ensures done { IfOk result (λ r. RunsVectors path.now (F.state files.old) r.status r.output.items) }
     ensures refused { IfErr result (RefusesVectors path.now (F.state files.old) (F.state files.new)) }
-    ensures kept { OnOk result (F.state files.new ≡ F.state files.old) }
+    ensures kept { AreKeptUnlessFailed (F.state files.old) (F.state files.new) result }
 {
     let bytes = read_file(alloc.clone()?, files, path)?;
     let tests = read_vectors(rt.alloc(), bytes.as_slice())?;

@@ -1,10 +1,10 @@
 //! The command `verify` (FIPS 205, section 10.3).
-ghost use Rattle.std.specs.Prelude.{◌≡◌, ◌↔◌, IsTrue, IfOk, IfErr, OnOk};
+ghost use Rattle.std.specs.Prelude.{◌≡◌, ◌↔◌, IsTrue, IfOk, IfErr};
 ghost use Rattle.slh_params.specs.Params.{sig_len};
 ghost use Rattle.slh_params.specs.ParamSet.{params};
 ghost use Rattle.slh_core.specs.declared.form.Form.TheVariants as forms;
 ghost use Rattle.slh_tool.specs.Options.{HasForm};
-ghost use Rattle.slh_tool.specs.Reading.{IsFrontOfFile, IsLater, RefusesFile};
+ghost use Rattle.slh_tool.specs.Reading.{AreKeptUnlessFailed, IsFrontOfFile, IsLater, RefusesFile};
 ghost use Rattle.slh_tool.specs.Replies.{IsValidIn, JudgesFiles, JudgesMessage, JudgesWith, RefusesFiles, RefusesVerify, RefusesVerifying, VerifiesMessage};
 ghost use Rattle.slh_tool.specs.Requests.{verify_asked};
 
@@ -28,7 +28,7 @@ pub(crate) fn verify_file<A: Allocator + Clone, F: Files>(
     ensures done { IfOk result (λ r. VerifiesMessage (verify_asked words.entry)
         (F.state files.old) r.status r.output.items) }
     ensures refused { IfErr result (RefusesVerify (verify_asked words.entry) (F.state files.old) (F.state files.new)) }
-    ensures kept { OnOk result (F.state files.new ≡ F.state files.old) }
+    ensures kept { AreKeptUnlessFailed (F.state files.old) (F.state files.new) result }
 {
     let key = public_key(alloc.clone()?, files, words.key)?;
     let answer = verify_with(alloc.clone()?, words, files, &key)?;
@@ -45,7 +45,7 @@ fn verify_with<A: Allocator + Clone, F: Files>(
     ensures done { IfOk result (JudgesWith (verify_asked words.entry) (F.state files.old) key.now) }
     ensures refused { IfErr result (RefusesVerifying (verify_asked words.entry)
         (F.state files.old) (F.state files.new)) }
-    ensures kept { OnOk result (F.state files.new ≡ F.state files.old) }
+    ensures kept { AreKeptUnlessFailed (F.state files.old) (F.state files.new) result }
 {
     let FormAndContext { form, context } = form_and_context(alloc.clone()?, words.form)?;
     let context = context.as_slice();
@@ -67,7 +67,7 @@ fn verify_pure<A: Allocator, F: Files>(
     ensures done { IfOk result (JudgesFiles (verify_asked words.entry)
         (F.state files.old) key.now context.now forms.Pure) }
     ensures refused { IfErr result (RefusesFiles (verify_asked words.entry) (F.state files.old) (F.state files.new)) }
-    ensures kept { OnOk result (F.state files.new ≡ F.state files.old) }
+    ensures kept { AreKeptUnlessFailed (F.state files.old) (F.state files.new) result }
 {
     match signature_in(alloc, words, files, key) {
         Ok(signature) => verdict_on(files, words.message, context, signature.as_slice(), key),
@@ -88,7 +88,7 @@ fn verdict_on<F: Files>(
 ) -> Result<bool, Fault>
     ensures done { IfOk result (JudgesMessage (F.state files.old) path.now key.now context.now signature.now) }
     ensures refused { IfErr result (RefusesFile (F.state files.old) (F.state files.new) path.now) }
-    ensures kept { OnOk result (F.state files.new ≡ F.state files.old) }
+    ensures kept { AreKeptUnlessFailed (F.state files.old) (F.state files.new) result }
 {
     let mut verifier = Verifier::new(context, signature, key);
     read_through(files, path, &mut verifier)?;
@@ -107,7 +107,7 @@ fn verify_digest<A: Allocator, F: Files>(
     ensures done { IfOk result (JudgesFiles (verify_asked words.entry)
         (F.state files.old) key.now context.now (forms.PreHash function)) }
     ensures refused { IfErr result (RefusesFiles (verify_asked words.entry) (F.state files.old) (F.state files.new)) }
-    ensures kept { OnOk result (F.state files.new ≡ F.state files.old) }
+    ensures kept { AreKeptUnlessFailed (F.state files.old) (F.state files.new) result }
 {
     let digest = digest_file(files, words.message, function)?;
     let signature = signature_in(alloc, words, files, key)?;
@@ -125,7 +125,7 @@ fn signature_in<A: Allocator, F: Files>(
     ensures done { IfOk result (λ bytes. IsFrontOfFile (F.state files.old) words.entry.signature.now
         (sig_len (params key.now.set)) bytes.items) }
     ensures refused { IfErr result (RefusesFile (F.state files.old) (F.state files.new) words.entry.signature.now) }
-    ensures kept { OnOk result (F.state files.new ≡ F.state files.old) }
+    ensures kept { AreKeptUnlessFailed (F.state files.old) (F.state files.new) result }
     ensures later { IsLater (F.state files.old) (F.state files.new) }
 {
     read_front(alloc, files, words.signature, key.set().sig_len())
