@@ -158,13 +158,9 @@ measures() {
         count "the stack on aarch64, and numbers of the documents" "$here/tools/numbers.py" --check "aarch64=$prefix"
     fi
     [[ $target != windows-* ]] || { name=$target-v$(best_level) && local run=$work/run_wine; }
-    if [ -f "$here/c/exports/depths/$name.h" ]; then
-        one "the program that measures depths on $target compiles" measures_depths "$lib/libslh.a" \
-            "$work/depths.exe" "$cc" "${linked[@]}" -I "$prefix/include"
-        count "each call on $target clears as deep as it goes" $run "$work/depths.exe" "$(shifts_of "$name")" few
-    else
-        skip "the depths of calls on $target" "tools/depths.sh has not measured them"
-    fi
+    one "the program that measures depths on $target compiles" measures_depths "$lib/libslh.a" \
+        "$work/depths.exe" "$cc" "${linked[@]}" -I "$prefix/include"
+    count "each call on $target clears as deep as it goes" $run "$work/depths.exe" "$(shifts_of "$name")" few
     one "the program that searches for secrets compiles" "$cc" -std=c11 -O2 "${strict[@]}" "${linked[@]}" \
         -I "$prefix/include" -o "$work/erase.exe" "$here/tests/library_erase.c" "$lib/libslh.a"
     count "what calls on $target leave" $run "$work/erase.exe" ${some[@]+2 4 6}
