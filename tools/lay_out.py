@@ -40,12 +40,14 @@ PARAMETER = rf"(?:{NUMBER}|ptr) {WORDS}{V}"
 SEVERAL = "(?:{0}(?:, {0})*)?"
 KNOWN = r"(?:, !(?:noundef|range) !\d+)*"
 ALIGNED = rf", align \d+{KNOWN}"
-# Calls of LLVM's own, and of what the kit puts round exports for WebAssembly: none takes a pointer or a number of bytes.
-PLAIN_CALLS = r"@__rattle_(?:enter|leave|trap)|@llvm\.(?:trap|frameaddress\.p0)|@llvm\.(?:cttz|ctlz|ctpop|bswap|bitreverse|fshl|fshr|umin|umax|smin|smax|uadd\.sat|usub\.sat)\.\w+"
+# Calls of LLVM, and of the kit's code round exports for WebAssembly: none takes a pointer or a number of bytes.
+OF_NUMBERS = "cttz|ctlz|ctpop|bswap|bitreverse|fshl|fshr|umin|umax|smin|smax|uadd\\.sat|usub\\.sat"
+PLAIN_CALLS = rf"@__rattle_(?:enter|leave|trap)|@llvm\.(?:trap|frameaddress\.p0)|@llvm\.(?:{OF_NUMBERS})\.\w+"
 
 # Lines that mean the same with pointers of 32 bits.
 KEPT = [
-    rf"{V} = (?:add|sub|mul|udiv|urem|and|or|xor|shl|lshr|ashr)(?: nuw| nsw| exact| disjoint)* {NUMBER} {OPERAND}, {OPERAND}",
+    rf"{V} = (?:add|sub|mul|udiv|urem|and|or|xor|shl|lshr|ashr)(?: nuw| nsw| exact| disjoint)* "
+    rf"{NUMBER} {OPERAND}, {OPERAND}",
     rf"{V} = (?:zext|sext|trunc)(?: nneg| nuw| nsw)* {NUMBER} {OPERAND} to {NUMBER}",
     rf"{V} = icmp (?:samesign )?\w+ {NUMBER} {OPERAND}, {OPERAND}",
     rf"{V} = icmp (?:eq|ne) ptr {POINTER}, (?:{POINTER}|null)",
@@ -60,8 +62,7 @@ KEPT = [
     rf"{V} = load (?:{NUMBER}|ptr), ptr {POINTER}{ALIGNED}",
     rf"store {NUMBER} {OPERAND}, ptr {POINTER}, align \d+",
     rf"store ptr {POINTER}, ptr {POINTER}, align 8",
-    rf"br label {V}",
-    rf"br i1 {OPERAND}, label {V}, label {V}",
+    rf"br label {V}", rf"br i1 {OPERAND}, label {V}, label {V}",
     rf"switch {INTEGER} {OPERAND}, label {V} \[",
     rf"{INTEGER} -?\d+, label {V}",
     r"\]",
@@ -74,10 +75,12 @@ LABEL = re.compile(r"[\w.$-]+:(?: +; .*)?")
 
 MEMORY = re.compile(rf"(call void @llvm\.mem(?:set\.p0|cpy\.p0\.p0|move\.p0\.p0))\.i64"
                     rf"\((ptr {POINTER}, (?:i8 {OPERAND}|ptr {POINTER})), i64 (\d+|{V})(, i1 false\))")
-DEFINE = re.compile(rf"(define (?:internal )?{RESULT} {GLOBAL}\({SEVERAL.format(PARAMETER)}\)) (#\d+(?: \w+)*|[a-z ]+) \{{")
+DEFINE = re.compile(rf"(define (?:internal )?{RESULT} {GLOBAL}\({SEVERAL.format(PARAMETER)}\)) "
+                    rf"(#\d+(?: \w+)*|[a-z ]+) \{{")
 CALLED = re.compile(rf"(?:{V} = )?call {RESULT} ({GLOBAL})\(")
 # What a module has besides functions.
-HEAD = re.compile(rf"{GLOBAL} = (?:private |internal )?unnamed_addr constant \[\d+ x i8\] (?:zeroinitializer|c\".*\"), align \d+"
+HEAD = re.compile(rf"{GLOBAL} = (?:private |internal )?unnamed_addr constant \[\d+ x i8\] "
+                  r"(?:zeroinitializer|c\".*\"), align \d+"
                   r"|![\w.]+ = .*|attributes #\d+ = \{ (?:.* )?\}|declare .*|; .*|")
 LEFT_OUT = re.compile(r"source_filename = .*|target (?:datalayout|triple) = .*|declare void @llvm\.mem\w+\.p0.*")
 ABOUT_MACHINE = re.compile(r' "(?:probe-stack|stack-probe-size|target-cpu|target-features|frame-pointer)"="[^"]*"')
@@ -147,8 +150,8 @@ class Layout:
     def line(self, text):
         """A line as it is for 32 bits: one or several."""
         rules = [(rf"({V}) = alloca ptr, align 8", self.slot),
-                 (rf"({V}) = load \{{ ({INTEGER}|ptr), ({INTEGER}|ptr) \}}, ptr ({POINTER}), align \d+{KNOWN}", self.pair),
-                 (rf"({V}) = ptrtoaddr ptr ({POINTER}) to i64", self.address), (MEMORY, self.bytes)]
+                 (rf"({V}) = load \{{ ({INTEGER}|ptr), ({INTEGER}|ptr) \}}, ptr ({POINTER}), align \d+{KNOWN}",
+                  self.pair), (rf"({V}) = ptrtoaddr ptr ({POINTER}) to i64", self.address), (MEMORY, self.bytes)]
         rules += [(rf"store ptr ({POINTER}), ptr ({POINTER}), align 8", self.noisy)] if self.noise else []
         for shape, rule in rules:
             found = re.fullmatch(shape, text)
@@ -159,7 +162,8 @@ class Layout:
         return [text]
 
 
-ACCESS = re.compile(rf"{V} = load ({NUMBER}|ptr), ptr ({POINTER})|store ({NUMBER}|ptr) {OPERAND[:-1]}|{GLOBAL}), ptr ({POINTER})")
+ACCESS = re.compile(rf"{V} = load ({NUMBER}|ptr), ptr ({POINTER})|"
+                    rf"store ({NUMBER}|ptr) {OPERAND[:-1]}|{GLOBAL}), ptr ({POINTER})")
 STEP = re.compile(rf"({V}) = getelementptr (?:inbounds |nuw |nusw )*i8, ptr ({POINTER}), i64 (\d+)")
 
 

@@ -30,7 +30,8 @@ PROVED = "/* ---- The proved code, as wasm2c writes it. ---- */\n\n"
 VERIFY_CALLS = ["hash_verify", "hash_verify_digest", "hash_verify_digest_hardened", "verify", "verify_hardened",
                 "version"]
 FILES = {
-    "slh.c": ["head.c", "machine.h", "taken_memory.c", "parts.h", "verify_calls.c", "calls.c", "../exports/refusal_text.c"],
+    "slh.c": ["head.c", "machine.h", "taken_memory.c", "parts.h", "verify_calls.c", "calls.c",
+              "../exports/refusal_text.c"],
     "slh_verify.c": ["verify_head.c", "machine.h", "fixed_memory.c", "parts.h", "verify_calls.c"],
 }
 # The functions that call themselves, and how many calls of each are open at once at most. A FORS tree has the height a,
@@ -135,8 +136,8 @@ KEEPS = re.compile(r"(j\d+) = (l\d+); STACK_POINTER\(m\) = \1;")
 
 
 def is_unchanged(local, body):
-    """Whether a local has what was read into it until it is written to the stack pointer: its two assignments before are
-    its begin and that. Where the function has a loop, there is none behind, either."""
+    """Whether a local has what was read into it until it is written to the stack pointer: its two assignments before
+    are its begin and that. Where the function has a loop, there is none behind, either."""
     assigned = [it.start() for it in re.finditer(rf"\b{local} = ", body)]
     written = max(it.start() for it in KEEPS.finditer(body) if it[2] == local)
     return sum(it < written for it in assigned) == 2 and (len(assigned) == 2 or not LOOP.search(body))
@@ -256,7 +257,8 @@ def file_of(text, parts):
         refuse(f"a function is missing: {', '.join(sorted(COMPARISONS))}")
     numbers, code = module_as_c(text, sorted(exports) if has_all else VERIFY_CALLS)
     head, machine, *rest = parts
-    return "\n".join([head_of(head), numbers, source(machine), code if has_all else leaving_out(code), *map(source, rest)])
+    code = code if has_all else leaving_out(code)
+    return "\n".join([head_of(head), numbers, source(machine), code, *map(source, rest)])
 
 
 def program():

@@ -1,6 +1,6 @@
 /*
- * For a library of one level: exports.c calls the proved export by the name slh_NAME_proved. One that takes no secrets
- * has its own name, and is no business of exports.c, where pointers have 64 bits.
+ * For a library of one level: exports.c calls the proved export by the name slh_NAME_proved. Where pointers have 64
+ * bits, an export that takes no secrets has the name of its call, and exports.c does not wrap it.
  */
 #ifndef SLH_ONE_LEVEL_H
 #define SLH_ONE_LEVEL_H

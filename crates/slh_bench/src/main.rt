@@ -2,8 +2,8 @@
 //! functions below them. `tests/benches/benchmark.py` runs it, and `tests/benches/count_calls.py` does so under a
 //! profiler.
 //!
-//! Its arguments are a task, a number of runs and a set's name. It prints the nanoseconds of the shortest run; one of
-//! `sha256` or `sha512` hashes 65536 bytes. Without these three it prints nothing. The tasks are
+//! Its arguments are a task, a number of runs and a set's name. It prints the nanoseconds of the shortest run. A
+//! run of `sha256` or `sha512` hashes 65536 bytes. Without these three it prints nothing. The tasks are
 //!
 //! - in one thread `keygen`, `sign`, `verify`, `sha256` and `sha512`;
 //! - by several workers `keygen_par`, `sign_par`, `verify_all` (of 64 signatures) and `independent` (that many threads,

@@ -58,7 +58,7 @@ fn join_arguments(
 /// answers, the written bytes are a valid signature of the message of `start`, under this key. Refused, with nothing
 /// written, by `sign_join_rules`: a number of no set, levels that are not valid, a key, a start, an output or answers
 /// of another length. Then it is refused if the start does not have its tag under this key, and then if the answers
-/// don't fit together.
+/// don't fit together. Right answers don't, either, under a key whose PK.root is not the root that its seeds give.
 #[unsafe(no_mangle)]
 pub extern "C" fn slh_sign_join(
     set: u32,

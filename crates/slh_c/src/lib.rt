@@ -4,7 +4,8 @@
 //!
 //! Each call tests its numbers and lengths in the order of its rules (`specs/Rules`), and returns the number of the
 //! first that is not met. Else it calls `slh_core` or `slh_jobs`, and returns `DONE` or `INVALID`, or that a start does
-//! not have its tag or that answers don't fit together.
+//! not have its tag, that answers don't fit together or that two runs differ. The hardened calls return two numbers of
+//! their own.
 #![tactic(auto)]
 
 mod cuttings;

@@ -9,6 +9,12 @@ pub const DONE: u32 = 0;
 /// valid signature: a test `== 1` that was written for them would accept exactly the forgeries.
 pub const INVALID: u32 = 30;
 
+/// A law: the results that are no refusals have these numbers.
+pub fn results_have_numbers()
+    ensures done { DONE ≡ 0 }
+    ensures invalid { INVALID ≡ 30 }
+{}
+
 /// Why a call is refused.
 #[derive(Clone, Copy)]
 pub enum Refusal {

@@ -1,9 +1,10 @@
-//! Exports that sign two times, so that one fault of memory or of the processor gives no signature (ours). If a
-//! one-time key signs a value that was computed wrongly, it signs the right one another time, and then anyone can forge
-//! (SECURITY.md, "Faults"). Both signatures are proved to be equal, so only a machine that fails returns `Fault`.
+//! Exports that sign two times, so that a fault of memory or of the processor in one of the runs gives no signature
+//! (ours). If a one-time key signs a value that was computed wrongly, it signs the right one another time, and then
+//! anyone can forge (SECURITY.md, "Faults"). Both signatures are proved to be equal, so only a machine that fails
+//! returns `Fault`.
 //!
 //! Each run is a call of its own with the caller's arguments, and writes to another half of `scratch`. So a value that
-//! is wrong in one run is not read in the other.
+//! is wrong in one run is not read in the other. A wrong bit of an argument is read in both, and is not found.
 ghost use Rattle.std.specs.Prelude.{◌≡◌, ◌≢◌, ◌↔◌, IsTrue, length, replicate};
 ghost use Rattle.slh_core.specs.Keys.{public_of, IsGeneratedKey};
 ghost use Rattle.slh_core.specs.Messages.{pure_message, pre_hash_message};

@@ -1,4 +1,4 @@
-//! Exports whose verdict one fault of the machine does not turn (FIPS 205, section 10.3).
+//! Exports that verify with a hardened verdict, made of two comparisons (FIPS 205, section 10.3).
 ghost use Rattle.std.specs.Prelude.{◌≡◌, ◌≢◌, ◌↔◌, ◌≤◌, length};
 ghost use Rattle.slh_params.specs.Params.{pk_len};
 ghost use Rattle.slh_params.specs.ParamSet.{params};
@@ -13,6 +13,12 @@ use crate::numbers::{function_of, set_of};
 use slh_core::{
     HARDENED_INVALID, HARDENED_VALID, MessageDigest, hash_verify_digest_hardened, verify_hardened,
 };
+
+/// A law: the verdicts have these numbers, which `slh_verify.h` has.
+pub fn verdicts_have_numbers()
+    ensures valid { HARDENED_VALID ≡ 2044073892 }
+    ensures invalid { HARDENED_INVALID ≡ 2089932927 }
+{}
 
 /// The hardened verdict on a signature of a message under a context: `HARDENED_VALID` if and only if `slh_verify` returns
 /// `DONE`, and else `HARDENED_INVALID`, also where that refuses its arguments.

@@ -14,7 +14,7 @@
 use core::ffi::{c_char, c_void};
 
 /// `slh_version` of the version that these declarations are of.
-pub const SLH_VERSION_NUMBER: u32 = 11_000;
+pub const SLH_VERSION_NUMBER: u32 = 11_001;
 
 /// The number of the set SLH-DSA-SHA2-128s.
 pub const SLH_DSA_SHA2_128S: u32 = 1;
@@ -368,7 +368,7 @@ extern "C" {
         sig: *const u8,
         sig_len: usize,
     ) -> u32;
-    /// The verdict of `slh_verify` as one of two numbers far apart, which a single fault does not turn.
+    /// The verdict of `slh_verify` as one of two numbers, each made of two comparisons.
     #[must_use]
     pub fn slh_verify_hardened(
         set: u32,
