@@ -11,7 +11,8 @@ counters from http://127.0.0.1:PORT/metrics:
   slh_signing_seconds_total   seconds in reading, signing, verifying and writing, of all processes
 
 QUEUE may be a pipe that never ends. At its end the program ends, with status 1 if something failed. A process that is
-lost ends it, too: then the files in work are named as failures.
+lost ends it, too: then each file that was taken from the queue and not signed is named as a failure. The others stay
+in the queue: no name is read before it is needed.
 """
 import concurrent.futures
 import multiprocessing
@@ -74,7 +75,14 @@ def sign_all(executor, paths, most):
 
     for path in paths:
         room.acquire()
-        executor.submit(sign, path).add_done_callback(done(path))
+        try:
+            future = executor.submit(sign, path)
+        except concurrent.futures.BrokenExecutor as fault:
+            future = concurrent.futures.Future()
+            future.set_exception(fault)
+            count(path, future)
+            raise
+        future.add_done_callback(done(path))
 
 
 def main():
@@ -93,7 +101,8 @@ def main():
     is_whole = True
     with concurrent.futures.ProcessPoolExecutor(processes, spawn, begin, sys.argv[1:2]) as executor:
         try:
-            sign_all(executor, (os.fsdecode(it.rstrip(b"\n")) for it in sys.stdin.buffer), 2 * processes)
+            with open(0, "rb", buffering=0, closefd=False) as queue:
+                sign_all(executor, (os.fsdecode(it.rstrip(b"\n")) for it in queue), 2 * processes)
         except concurrent.futures.BrokenExecutor as fault:
             print(f"sign_queue.py: it ends early: {fault}", file=sys.stderr)
             is_whole = False

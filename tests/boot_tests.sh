@@ -69,6 +69,17 @@ make_image() {
     head -c $((SLOT - $(stat -c %s "$file"))) "$work/empty" >>"$file"
 }
 
+# What a command leaves that failed, an empty file, and an image without a header are not packed.
+packs_no_part() (
+    pack=$here/examples/boot_pack.py out=$work/packed
+    cd "$work" && : >nothing && head -c 7856 /dev/zero >zeros && "$pack" header 1.2.0 zeros headed || exit
+    ! "$pack" header 1.2.0 nothing "$out" || exit
+    for pair in "zeros zeros" "nothing zeros" "headed nothing" "headed headed"; do
+        ! "$pack" trailer $pair "$out" || { echo "packed: $pair" && exit 1; }
+    done
+    [ ! -e "$out" ] && "$pack" trailer headed zeros "$out"
+)
+
 # Copies a file to another, in which the bytes from a place on are others, in hex.
 with_bytes() {
     cp "$1" "$2" && xxd -r -p <<<"$4" | dd of="$2" bs=1 seek="$3" conv=notrunc status=none && ! cmp -s "$1" "$2"
@@ -122,6 +133,9 @@ make_images() {
         with_bytes "$work/a120" "$work/a120-trailer" $((end + 2)) ffff
 }
 
+if can_run "images for the boot loader" python3; then
+    one "what a failed command leaves is not packed" packs_no_part
+fi
 if can_run "the boot loader" openssl xxd python3 && one "the keys are made" make_keys; then
     if can_run "the boot loader on Cortex-M" arm-none-eabi-gcc qemu-system-arm; then
         boots_on thumbv7em

@@ -44,6 +44,26 @@ damaged_is_not_packaged() {
     done
 }
 
+# Where a tool fails, on which a date hangs, there is no package: TOOL.
+none_without() {
+    mkdir -p "$work/without $1" && printf '#!/bin/sh\nexit 1\n' >"$work/without $1/$1" &&
+        chmod +x "$work/without $1/$1" &&
+        ! env -u SOURCE_DATE_EPOCH PATH="$work/without $1:$PATH" "$here/tools/debian.sh" "$dist" "$work/no $1" &&
+        [ -z "$(ls "$work/no $1")" ]
+}
+
+# A maintainer is named as he is, also with what sed takes for a command.
+names_the_maintainer() {
+    DEBFULLNAME='Q&A / \1' DEBEMAIL=q@a.example "$here/tools/debian.sh" "$dist" "$work/named" &&
+        [ "$(dpkg-deb -f "$work"/named/slh_*.deb Maintainer)" = 'Q&A / \1 <q@a.example>' ]
+}
+
+# On a full disk the status tells it, and no part of a package is left.
+leaves_no_part() {
+    mkdir -p "$work/full" && unshare -rm bash -c 'mount -t tmpfs -o size=300k none "$2" || exit 3
+        ! "$0" "$1" "$2" && [ -z "$(ls "$2")" ]' "$here/tools/debian.sh" "$dist" "$work/full"
+}
+
 no_error_of_lintian() {
     lintian --fail-on error "$debs"/*.deb
 }
@@ -229,7 +249,7 @@ zsh_completes() {
     timeout 60 zsh -f <<END
 zmodload zsh/zpty
 zpty shell zsh -f -i
-zpty -w shell 'PS1=; fpath=($unpacked/usr/share/zsh/vendor-completions \$fpath); autoload -Uz compinit; compinit -D'
+zpty -w shell 'PS1=; fpath=($unpacked/usr/share/zsh/vendor-completions \$fpath); autoload -Uz compinit; compinit -u -D'
 zpty -w shell 'show() { print -r -- "<<\$BUFFER>>" }; zle -N show; bindkey "^X" show; print read""y'
 zpty -r -m shell found '*ready*'
 zpty -n -w shell \$'$1\t\x18'
@@ -239,7 +259,7 @@ END
 }
 
 completes_in_zsh() {
-    cd "$files" || return
+    cd "$files" && touch public_key.h || return
     [ "$(zsh_completes 'slh ver')" = "slh verify " ] &&
         [ "$(zsh_completes 'slh help ver')" = "slh help verify " ] &&
         [ "$(zsh_completes 'slh sign --me')" = "slh sign --message " ] &&
@@ -267,6 +287,9 @@ if [ $few = yes ]; then
 fi
 one "made again they are the same bits" are_the_same_bits
 one "a damaged file is not packaged" damaged_is_not_packaged
+if [ -e "$here/.git" ]; then one "without git's answer there is none" none_without git; fi
+one "without a date there is none" none_without date
+one "a maintainer of any name is written" names_the_maintainer
 if command -v lintian >/dev/null; then
     one "lintian finds no error" no_error_of_lintian
 else
@@ -274,6 +297,7 @@ else
 fi
 mkdir "$files" && cp "$dist/BUILD" "$debs/"
 if can_mount; then
+    one "on a full disk no part is left" leaves_no_part
     one "slh signs and verifies where it is installed" signs_and_verifies
     one "slh has the values of the vectors there" has_the_vectors_values
     one "slh runs the build for the processor's level" runs_the_level "$(best_level)"

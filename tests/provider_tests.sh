@@ -684,6 +684,13 @@ has_tool() {
     command -v "$2" >/dev/null || { skip "$1" "there is no $2" && return 1; }
 }
 
+# The configuration names the module, also below a folder whose name has what sed takes for a command.
+names_its_module() {
+    local odd="$work/a & b|c"
+    mkdir -p "$odd" && cp -r "$prefix/include" "$prefix/lib" "$odd/" && "$here/bindings/openssl/build.sh" "$odd" &&
+        grep -qxF "module = $odd/lib/ossl-modules/slh.so" "$odd/etc/slh.cnf"
+}
+
 count_module() {
     local compiler
     for compiler in gcc clang; do
@@ -691,6 +698,7 @@ count_module() {
         one "no warning by $compiler" compiles_without_warnings $compiler
     done
     one "it exports two functions" exports_two
+    one "its configuration names it" names_its_module
     one "it keeps nothing outside of its contexts" has_no_state
     one "it has less than 750 lines" is_small
     count "through EVP" "${run[@]}" "$work/tests" calls "$modules"

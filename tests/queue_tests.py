@@ -23,6 +23,7 @@ import urllib.request
 
 sys.dont_write_bytecode = True
 import counts
+from counts import expect
 
 here = counts.HERE
 python = "/usr/bin/python3" if os.path.exists("/usr/bin/python3") else sys.executable
@@ -41,20 +42,6 @@ from prometheus_client.parser import text_string_to_metric_families
 for it in text_string_to_metric_families(sys.stdin.read()):
     for sample in it.samples:
         if sample.name.startswith("slh_"): print(it.type, sample.name, sample.value)"""
-
-
-def tell(name, test, *arguments):
-    """Runs a test, and counts it."""
-    try:
-        test(*arguments)
-        counts.count("passed", f"{name}: yes")
-    except Exception as fault:
-        counts.count("failed", f"{type(fault).__name__}: {fault}\n{name}: no")
-
-
-def expect(is_so, what):
-    if not is_so:
-        raise AssertionError(what)
 
 
 def run(*words, **more):
@@ -76,7 +63,7 @@ def small_disk(path):
     """A file system without room for a signature. It gives whether this user can mount one."""
     path.mkdir()
     mount = ["mount", "-t", "tmpfs", "-o", "size=12k", "none", path]
-    is_there = subprocess.run(mount, stderr=subprocess.DEVNULL).returncode == 0
+    is_there = shutil.which("mount") is not None and subprocess.run(mount, stderr=subprocess.DEVNULL).returncode == 0
     try:
         yield is_there
     finally:
@@ -166,14 +153,34 @@ class Example:
         with self.start() as process:
             self.feed(process, files[0])
             self.scraped(process, 1, 0)
-            for child in children_of(process.pid):
-                with contextlib.suppress(OSError):
-                    if b"resource_tracker" not in pathlib.Path(f"/proc/{child}/cmdline").read_bytes():
-                        os.kill(child, signal.SIGKILL)
+            self.end_signers(process)
             with contextlib.suppress(BrokenPipeError):
                 self.feed(process, *files[1:])
             out, err = process.communicate(timeout=60)
             expect(process.returncode == 1, f"{process.returncode} {out} {err[-900:]}")
+
+    def names_a_loss(self):
+        """If the processes that sign are ended by force, each file is signed, named, or left in the queue."""
+        files, (queue, feeding) = self.files(range(200, 210)), os.pipe()
+        words = list(map(str, [*self.words, self.work / self.key, self.port, PROCESSES]))
+        with subprocess.Popen(words, stdin=queue, stdout=subprocess.PIPE, stderr=subprocess.PIPE) as process:
+            os.write(feeding, os.fsencode(files[0]) + b"\n")
+            self.scraped(process, 1, 0)
+            self.end_signers(process)
+            os.write(feeding, b"".join(os.fsencode(it) + b"\n" for it in files[1:]))
+            os.close(feeding)
+            out, err = process.communicate(timeout=60)
+        with open(queue, "rb") as rest:
+            left = rest.read().splitlines()
+        lost = [it.name for it in files if not it.with_name(it.name + ".sig").exists()
+                and f"{it}: " not in err.decode() and os.fsencode(it) not in left]
+        expect(process.returncode == 1 and not lost, f"{process.returncode} {out} {lost}: {err[-300:]}")
+
+    def end_signers(self, process):
+        for child in children_of(process.pid):
+            with contextlib.suppress(OSError):
+                if b"resource_tracker" not in pathlib.Path(f"/proc/{child}/cmdline").read_bytes():
+                    os.kill(child, signal.SIGKILL)
 
     def refuses_keys(self):
         bad = self.work / "bad"
@@ -194,10 +201,12 @@ class Example:
 
     def all(self):
         for name in "signs ends_well tells_a_loss refuses_keys".split():
-            tell(f"{self.name}: {name.replace('_', ' ')}", getattr(self, name))
+            counts.run(f"{self.name}: {name.replace('_', ' ')}", getattr(self, name))
+        if self.name == "Python":
+            counts.run(f"{self.name}: names a loss", self.names_a_loss)
         with small_disk(self.work / "disk") as is_there:
             name = f"{self.name}: leaves no part"
-            tell(name, self.leaves_no_part) if is_there else counts.skip(name, "a tmpfs can't be mounted")
+            counts.run(name, self.leaves_no_part) if is_there else counts.skip(name, "a tmpfs can't be mounted")
 
 
 def installed(work, release, words):

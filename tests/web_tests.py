@@ -28,6 +28,7 @@ import time
 
 sys.dont_write_bytecode = True
 import counts
+from counts import expect
 
 here = counts.HERE
 LABELS = ["128s", "128f", "192s", "192f", "256s", "256f"]
@@ -50,20 +51,6 @@ async function answersOf() {
 }
 const answers = await answersOf().catch((error) => [String(error)]);
 """
-
-
-def tell(name, test, *arguments):
-    """Runs a test, and counts it."""
-    try:
-        test(*arguments)
-        counts.count("passed", f"{name}: yes")
-    except Exception as fault:
-        counts.count("failed", f"{type(fault).__name__}: {fault}\n{name}: no")
-
-
-def expect(is_so, what):
-    if not is_so:
-        raise AssertionError(what)
 
 
 class QuietHandler(http.server.SimpleHTTPRequestHandler):
@@ -442,21 +429,21 @@ class Tests:
 
     def run(self, few, module):
         for label in LABELS[1:2] if few else LABELS:
-            tell(f"signatures of {label}", self.of_vectors, label)
+            counts.run(f"signatures of {label}", self.of_vectors, label)
         if few:
             return
-        tell("damaged signatures are invalid", self.damaged)
-        tell("keys of each kind", self.keys)
-        tell("a secret key and a PEM file are named", self.other_keys)
-        tell("the browsers that work are named", self.other_browsers)
-        tell("files that are dropped", self.dropped)
-        tell("a large file has its progress shown", self.large)
-        tell("the keyboard reaches all", self.by_keyboard)
-        tell("a screen reader is told all", self.for_readers)
-        tell("nothing is thrown", self.no_faults)
-        tell("nothing is sent", self.sends_nothing)
-        tell("a page without its module judges nothing", self.without_module)
-        tell("the package for JavaScript signs and verifies here", self.package, module)
+        counts.run("damaged signatures are invalid", self.damaged)
+        counts.run("keys of each kind", self.keys)
+        counts.run("a secret key and a PEM file are named", self.other_keys)
+        counts.run("the browsers that work are named", self.other_browsers)
+        counts.run("files that are dropped", self.dropped)
+        counts.run("a large file has its progress shown", self.large)
+        counts.run("the keyboard reaches all", self.by_keyboard)
+        counts.run("a screen reader is told all", self.for_readers)
+        counts.run("nothing is thrown", self.no_faults)
+        counts.run("nothing is sent", self.sends_nothing)
+        counts.run("a page without its module judges nothing", self.without_module)
+        counts.run("the package for JavaScript signs and verifies here", self.package, module)
 
     def screenshot(self, path):
         self.says(self.files(self.test))
@@ -479,10 +466,23 @@ def main():
     page.parent.mkdir()
     subprocess.run([here / "tools" / "web_page.sh", release or here / "dist", page], check=True)
     try:
+        counts.run("a page that can't be made is told", tells_faults, release, work)
         with_browser("chromium", Browser, page, work, lambda tests: in_chromium(tests, few, module, words.screenshot))
         with_browser("firefox-esr", Firefox, page, work, lambda tests: in_firefox(tests, few))
     finally:
         shutil.rmtree(work, ignore_errors=True)
+
+
+def tells_faults(release, work):
+    """Without base64, and on a full disk, the status tells it, and there is no page."""
+    stub, page = work / "stub" / "base64", work / "none.html"
+    stub.parent.mkdir()
+    stub.write_text("#!/bin/sh\nexit 1\n")
+    stub.chmod(0o755)
+    for environment, path in ({"PATH": f"{stub.parent}:{os.environ['PATH']}"}, page), ({}, "/dev/full"):
+        words = [here / "tools" / "web_page.sh", release or here / "dist", path]
+        done = subprocess.run(words, env=os.environ | environment, stderr=subprocess.DEVNULL)
+        expect(done.returncode == 1 and not page.exists(), f"{path}: status {done.returncode}")
 
 
 def with_browser(command, kind, page, work, run):
@@ -506,8 +506,8 @@ def in_chromium(tests, few, module, screenshot):
 
 def in_firefox(tests, few):
     for label in ["128f"] if few else LABELS:
-        tell(f"Firefox: verdicts of {label}", tests.of_vectors, label)
-    tell("Firefox: damaged", tests.damaged)
+        counts.run(f"Firefox: verdicts of {label}", tests.of_vectors, label)
+    counts.run("Firefox: damaged", tests.damaged)
 
 
 main()

@@ -36,13 +36,21 @@ dist=$(cd "$dist" && pwd)
 work=$(mktemp -d)
 trap 'rm -rf "$work"' EXIT
 
-# The second of the last commit: not of another repository, in which an unpacked tarball may be.
-last_commit() { [ -e "$here/.git" ] && git -C "$here" log -1 --format=%ct 2>/dev/null; }
+# The second of the last commit, where this is a clone: not of another repository, in which an unpacked tarball may be.
+date_of_files() {
+    if [ -e "$here/.git" ]; then git -C "$here" log -1 --format=%ct; else stat -c %Y "$here/CHANGELOG.md"; fi
+}
 
-export SOURCE_DATE_EPOCH=${SOURCE_DATE_EPOCH:-$(last_commit || stat -c %Y "$here/CHANGELOG.md")}
+[ -n "${SOURCE_DATE_EPOCH-}" ] || SOURCE_DATE_EPOCH=$(date_of_files) || {
+    echo "tools/debian.sh: git does not tell the last commit: set SOURCE_DATE_EPOCH" >&2
+    exit 1
+}
+export SOURCE_DATE_EPOCH
+dated=$(LC_ALL=C date -R -u -d "@$SOURCE_DATE_EPOCH")
 upstream=$(sed -n 's/^version //p' "$dist/BUILD")
 version=$upstream-1
 maintainer="${DEBFULLNAME:-Pipitscreen maintainers} <${DEBEMAIL:-maintainers@users.noreply.pipitscreen.example}>"
+escaped=$(sed 's|[\\/&]|\\&|g' <<<"$maintainer") # for sed
 lib=usr/lib/x86_64-linux-gnu
 
 # Begins a package: PACKAGE.
@@ -84,7 +92,7 @@ documents() {
     {
         echo "slh ($version) unstable; urgency=medium"
         printf '\n  * Packaged from the files of the release.\n\n'
-        echo " -- $maintainer  $(LC_ALL=C date -R -u -d "@$SOURCE_DATE_EPOCH")"
+        echo " -- $maintainer  $dated"
     } | gzip -9n | write "usr/share/doc/$1/changelog.Debian.gz"
     gzip -9n <"$here/CHANGELOG.md" | write "usr/share/doc/$1/changelog.gz"
     copyright | write "usr/share/doc/$1/copyright"
@@ -112,7 +120,7 @@ build() {
     [ $# = 0 ] || needs=$(needed "$@")
     size=$(du -k -s --apparent-size "$root/usr" | cut -f 1)
     (cd "$root" && find usr -type f -print0 | LC_ALL=C sort -z | xargs -0 md5sum) | write DEBIAN/md5sums
-    sed "s/@VERSION@/$version/; s/@MAINTAINER@/$maintainer/; s/@SIZE@/$size/; s/@SHLIBS@/$needs/" \
+    sed "s/@VERSION@/$version/; s/@MAINTAINER@/$escaped/; s/@SIZE@/$size/; s/@SHLIBS@/$needs/" \
         "$here/bindings/debian/$package.control" | write DEBIAN/control
     find "$root" -depth -exec touch -h -d "@$SOURCE_DATE_EPOCH" {} +
     dpkg-deb --root-owner-group -Zxz --build "$root" "$work/made" >&2
@@ -193,4 +201,8 @@ make_libslh0
 make_libslh_dev
 make_slh
 make_slh_openssl
-mv "$work"/made/*.deb "$folder/"
+made=("$work"/made/*.deb)
+mv "${made[@]}" "$folder/" || {
+    rm -f "${made[@]/#"$work/made"/"$folder"}"
+    exit 1
+}

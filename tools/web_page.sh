@@ -28,5 +28,8 @@ page=$(cat "$here/bindings/web/verify.html")
     echo "tools/web_page.sh: bindings/web/verify.html has no place for the module" >&2
     exit 1
 }
-printf '%s%s%s%s\n' "${page%%"$place"*}" "${place%</script>}" "$(base64 -w 0 "$dist/wasm32/slh.wasm")" \
-    "</script>${page#*"$place"}" >"$1"
+module=$(base64 -w 0 "$dist/wasm32/slh.wasm")
+printf '%s%s%s%s\n' "${page%%"$place"*}" "${place%</script>}" "$module" "</script>${page#*"$place"}" >"$1" || {
+    [ ! -f "$1" ] || rm "$1"
+    exit 1
+}

@@ -54,5 +54,6 @@ mkdir -p "$prefix/lib/ossl-modules"
     -o "$prefix/lib/ossl-modules/slh.so"
 mkdir -p "$prefix/etc"
 module=$(cd "$prefix/lib/ossl-modules" && pwd)/slh.so
+module=$(sed 's/[\\|&]/\\&/g' <<<"$module") # for sed
 sed "s|@MODULE@|$module|" "$here/slh.cnf.in" >"$prefix/etc/slh.cnf"
 echo "installed in $prefix: lib/ossl-modules/slh.so, etc/slh.cnf"
