@@ -38,23 +38,10 @@ import time
 
 sys.dont_write_bytecode = True
 import counts
+from counts import expect
 
 here = counts.HERE
 python = "/usr/bin/python3" if os.path.exists("/usr/bin/python3") else sys.executable
-
-
-def tell(name, test, *arguments):
-    """Runs a test, and counts it."""
-    try:
-        test(*arguments)
-        counts.count("passed", f"{name}: yes")
-    except Exception as fault:
-        counts.count("failed", f"{type(fault).__name__}: {fault}\n{name}: no")
-
-
-def expect(is_so, what):
-    if not is_so:
-        raise AssertionError(what)
 
 
 def vectors(label, **wanted):
@@ -730,7 +717,7 @@ def on_manifests(them):
             just_changed_is_not_known
             rights_are_those_of_files signs_beside two_at_once stopped_writes_none report_inside_is_refused
             full_outputs full_disk""".split():
-        tell("manifests: " + name.replace("_", " "), getattr(them, name))
+        counts.run("manifests: " + name.replace("_", " "), getattr(them, name))
 
 
 class Forks:
@@ -953,11 +940,11 @@ def at_places_of(them, few, is_all):
         places = [1 + at * (total - 1) // (most - 1) for at in range(most)]
         name, begun = f"{act} at {len(places)} of {total} places", time.monotonic()
         if act != "cut":
-            tell(name, them.each, act, places)
+            counts.run(name, them.each, act, places)
         elif not them.can_cut():
             counts.skip(name, "this user can't mount an ext4")
         else:
-            tell(name, them.each_cut, places)
+            counts.run(name, them.each_cut, places)
         print(f"that took {time.monotonic() - begun:.0f} s")
 
 
@@ -1043,19 +1030,19 @@ def main():
         runs = Runs(installed(work, release, words), work, program)
         if not has("tqdm"):
             return counts.skip("archives", "there is no python3-tqdm")
-        tell("an archive by threads", runs.by_threads)
+        counts.run("an archive by threads", runs.by_threads)
         with concurrent.futures.ThreadPoolExecutor(1) as beside:
             memory = beside.submit(of_bounded_memory, runs, 1000 if few else 100_000 if is_all else 5000)
             at_places(runs, few, is_all)
-            tell("memory does not grow with the files", memory.result)
+            counts.run("memory does not grow with the files", memory.result)
         if few:
             return
-        tell("a run by threads that is stopped goes on", runs.stopped, "stopped", "--threads", 1)
-        tell("a run that is ended by force goes on", runs.ended_by_force)
-        tell("reports are not mixed", runs.reports_are_not_mixed)
-        tell("the files of a list", runs.of_a_list)
-        tell("key files of other kinds are refused", runs.odd_keys_are_refused)
-        tell("files are signed by threads", runs.signs, "signed", "--threads", 2)
+        counts.run("a run by threads that is stopped goes on", runs.stopped, "stopped", "--threads", 1)
+        counts.run("a run that is ended by force goes on", runs.ended_by_force)
+        counts.run("reports are not mixed", runs.reports_are_not_mixed)
+        counts.run("the files of a list", runs.of_a_list)
+        counts.run("key files of other kinds are refused", runs.odd_keys_are_refused)
+        counts.run("files are signed by threads", runs.signs, "signed", "--threads", 2)
         on_manifests(Manifests(runs))
         if has("distributed"):
             on_the_cluster(runs, Cluster(work / "cluster_files"))
@@ -1067,11 +1054,11 @@ def main():
 
 def on_the_cluster(runs, cluster):
     try:
-        tell("a signature by jobs on the cluster", runs.by_jobs, cluster)
+        counts.run("a signature by jobs on the cluster", runs.by_jobs, cluster)
         there = "--cluster", cluster.address
-        tell("a run on the cluster that is stopped goes on", runs.stopped, "stopped on it", *there)
-        tell("files are signed on the cluster", runs.signs, "signed on it", *there)
-        tell("an archive on the cluster, of which a worker is killed", runs.on_a_cluster, cluster)
+        counts.run("a run on the cluster that is stopped goes on", runs.stopped, "stopped on it", *there)
+        counts.run("files are signed on the cluster", runs.signs, "signed on it", *there)
+        counts.run("an archive on the cluster, of which a worker is killed", runs.on_a_cluster, cluster)
     finally:
         cluster.end()
 

@@ -6,8 +6,8 @@
 # usage: tests/board.sh [--m0] FOLDER FILE [WORD..]     FILE is slh_verify.c or an archive, and FOLDER has its header
 #
 # The WORDs are more for the compiler. The status is that of the program: 0, or 1 after a trap; 2 where it does not
-# compile. Under the emulator each instruction takes a nanosecond. The timer of the first board has 25 MHz, and that of
-# the other 168.
+# compile, and 3 where the emulator takes no such processor. Under the emulator each instruction takes a nanosecond.
+# The timer of the first board has 25 MHz, and that of the other 168.
 set -euo pipefail
 here=$(cd "$(dirname "${BASH_SOURCE[0]}")/.." && pwd)
 processor=(-mcpu=cortex-m4) machine=(-M mps2-an386) megahertz=25 memory=()
@@ -45,9 +45,10 @@ END
 program=$work/board.elf
 arm-none-eabi-gcc "${processor[@]}" -mthumb -Os -std=c11 -Wall -Wextra -Werror -pedantic -ffunction-sections \
     -fdata-sections -nostartfiles --specs=nano.specs -Wl,--gc-sections -T "$work/board.ld" \
-    -I "$work" -I "$include" -DCONTEXT="$(image)" ${memory[@]+"${memory[@]}"} -DSLH_VERIFY_128 -DSLH_TRAP=trapped "$@" "$here/examples/board.c" "$file" \
-    -o "$program" || exit 2
-status=0
+    -I "$work" -I "$include" -DCONTEXT="$(image)" ${memory[@]+"${memory[@]}"} -DSLH_VERIFY_128 -DSLH_TRAP=trapped \
+    "$@" "$here/examples/board.c" "$file" -o "$program" || exit 2
+status=0 said=$(echo quit | qemu-system-arm "${machine[@]}" -display none -serial none -monitor stdio -S 2>&1) || :
+[[ $said != *"Invalid CPU"* ]] || exit 3
 # The emulator hands what the program says on to standard error.
 timeout 120 qemu-system-arm "${machine[@]}" -nographic -icount shift=0 -semihosting-config enable=on,target=native \
     -kernel "$program" </dev/null 2>&1 | awk -v megahertz=$megahertz '{ print }

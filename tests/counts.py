@@ -23,6 +23,27 @@ def skip(name, why):
     count("skipped", f"{name}: SKIPPED, since {why}")
 
 
+def tell(name, is_right):
+    """Counts a test, and prints its line."""
+    count("passed" if is_right else "failed", f"{name}: {'yes' if is_right else 'no'}")
+
+
+def run(name, test, *arguments):
+    """Runs a test, and counts it. It has failed if it raised something, which is printed before its line."""
+    try:
+        test(*arguments)
+    except Exception as fault:
+        print(f"{type(fault).__name__}: {fault}")
+        return tell(name, False)
+    tell(name, True)
+
+
+def expect(is_so, what):
+    """For a test that `run` runs: it has failed if this is not so."""
+    if not is_so:
+        raise AssertionError(what)
+
+
 def end_counts():
     """Prints the counts as the last line, and ends. The status is 0 where nothing failed, and something was run."""
     if not sum(counts.values()):

@@ -24,7 +24,8 @@ SETS = [f"SLH-DSA-SHA2-{it}" for it in ("128s", "128f", "192s", "192f", "256s", 
 
 def valid_tests():
     """The valid tests in the pure form, of all sets."""
-    tests = [it for file in sorted((HERE / "tests/vectors").glob("slh-dsa-*.json")) for it in json.loads(file.read_text())]
+    files = sorted((HERE / "tests/vectors").glob("slh-dsa-*.json"))
+    tests = [it for file in files for it in json.loads(file.read_text())]
     return [it for it in tests if it["kind"] == "verify" and it["form"] == "pure" and it["valid"]]
 
 

@@ -1,8 +1,8 @@
-"""What the answer to an edit of tests/wrong_bodies.py depends on, as a sum: the edit; the function that it turns and the
-texts that it changes; the proof of this function and the lemmas of its crate; the contracts of the functions that these
-name; the types and traits that all these name, in the crate and in those that it uses; the definitions that they cite;
-and the prover's logic. Comments and line breaks change no sum. A word that is a function's name elsewhere counts as a
-call, so a sum may also change for a text on which the answer does not depend.
+"""What the answer to an edit of tests/wrong_bodies.py depends on, as a sum: the edit; the function that it turns and
+the texts that it changes; the proof of this function and the lemmas of its crate; the contracts of the functions that
+these name; the types and traits that all these name, in the crate and in those that it uses; the definitions that they
+cite; and the prover's logic. Comments and line breaks change no sum. A word that is a function's name elsewhere counts
+as a call, so a sum may also change for a text on which the answer does not depend.
 
 The files are read as `rt fmt` lays them out.
 """
@@ -61,8 +61,8 @@ def without_comments(text):
 
 
 def plain(text):
-    """A text of a source file with a space for each line break and indent: a clause that is broken into lines changes no
-    proof. A line break in quotes is a part of the text, and one behind a comment ends it."""
+    """A text of a source file with a space for each line break and indent: a clause that is broken into lines changes
+    no proof. A line break in quotes is a part of the text, and one behind a comment ends it."""
     return BREAK.sub(lambda it: " " if it[0][0] == "\n" else it[0], text)
 
 
@@ -129,7 +129,8 @@ def chunks(crate, path):
         elif implementation or re.match(r"(?:pub(?:\(\w+\))? )?trait ", line):
             owner = implementation[2] if implementation else TYPE.match(line)[1]
             of_trait = not implementation or bool(implementation[1])
-            found += inner_chunks(crate, path, "\n".join(lines[start : number + 1]), lines[number + 1 : end - 1], owner, of_trait)
+            found += inner_chunks(crate, path, "\n".join(lines[start : number + 1]),
+                                  lines[number + 1 : end - 1], owner, of_trait)
         elif FUNCTION.match(line):
             contract, body = split_function(block)
             is_public = (FUNCTION.match(line)[1] or "").strip() == "pub"
@@ -156,7 +157,7 @@ def logic():
 
 
 def imported(text):
-    """The words that a text imports from definitions: of each its crate, module and name there, "" for a whole module."""
+    """The words that a text imports from definitions: of each its crate, module and name there ("" is the module)."""
     found = {}
     for crate, module, names in re.findall(r"use Rattle\.(\w+)\.specs\.([\w.]+)\.\{([^}]*)\}", text):
         for it in names.split(","):
@@ -173,7 +174,8 @@ def source_of(crate, module):
     the next name behind the module's."""
     names = module.strip(".").split(".")
     for count in range(len(names), 0, -1):
-        folder, part, end = ("src", names[1:count], ".rt") if names[0] == "declared" else ("specs", names[:count], ".antt")
+        is_declared = names[0] == "declared"
+        folder, part, end = ("src", names[1:count], ".rt") if is_declared else ("specs", names[:count], ".antt")
         path = f"{folder}/{'/'.join(part)}{end}"
         if os.path.isfile(os.path.join(ROOT, "crates", crate, path)):
             return path, "".join(names[count : count + 1])

@@ -42,18 +42,18 @@ KEPT = 20 * 1024
 VARIABLES = ["pk", "digest", "context", "signature", "context_len", "signature_len", "came"]
 
 
-class Machine(unicorn.Uc):
-    """A processor with a program in its memory, and a stack."""
+class Machine:
+    """A processor with a program in its memory, and a stack. What it does not define is Unicorn's."""
 
     def __init__(self, name, file):
         self.is_arm = name != "riscv32"
         if self.is_arm:
-            super().__init__(unicorn.UC_ARCH_ARM, unicorn.UC_MODE_THUMB | unicorn.UC_MODE_MCLASS)
+            self.emulator = unicorn.Uc(unicorn.UC_ARCH_ARM, unicorn.UC_MODE_THUMB | unicorn.UC_MODE_MCLASS)
             self.ctl_set_cpu_model(getattr(arm_const, f"UC_CPU_ARM_{name.upper().replace('-', '_')}"))
             self.pc, self.sp, self.link = (getattr(arm_const, f"UC_ARM_REG_{it}") for it in ("PC", "SP", "LR"))
             self.registers = [getattr(arm_const, f"UC_ARM_REG_R{it}") for it in range(13)] + [self.link]
         else:
-            super().__init__(unicorn.UC_ARCH_RISCV, unicorn.UC_MODE_RISCV32)
+            self.emulator = unicorn.Uc(unicorn.UC_ARCH_RISCV, unicorn.UC_MODE_RISCV32)
             self.pc, self.sp, self.link = (getattr(riscv_const, f"UC_RISCV_REG_{it}") for it in ("PC", "X2", "X1"))
             self.registers = [getattr(riscv_const, f"UC_RISCV_REG_X{it}") for it in range(1, 32) if it != 2]
         self.symbols = {}
@@ -66,6 +66,16 @@ class Machine(unicorn.Uc):
         self.end, self.counts = None, False
         for at in self.ends:
             self.hook_add(unicorn.UC_HOOK_CODE, self.stop_at, begin=at, end=at)
+
+    def __getattr__(self, name):
+        return getattr(self.emulator, name)
+
+    def forget(self):
+        """Forgets what was translated. In Unicorn 2.1 the call for that fails by a check of its own."""
+        try:
+            self.emulator.ctl_flush_tb()
+        except AssertionError:
+            self.emulator.ctl_remove_cache(self.low, self.high)
 
     def stop_at(self, _uc, at, _size, _data):
         self.end = self.ends.get(at)
@@ -105,7 +115,7 @@ class Machine(unicorn.Uc):
         translated for runs that count steps is not good for others."""
         if (steps > 0) != self.counts:
             self.counts = steps > 0
-            self.ctl_flush_tb()
+            self.forget()
         try:
             self.emu_start(self.place | self.is_arm, self.high, timeout=limit, count=steps)
         except unicorn.UcError:
@@ -134,11 +144,11 @@ def to_hash(machine, name, number):
             machine.emu_stop()
 
     hook = machine.hook_add(unicorn.UC_HOOK_CODE, entered, begin=place, end=place)
-    machine.ctl_flush_tb()
+    machine.forget()
     machine.begin(name)
     machine.go()
     machine.hook_del(hook)
-    machine.ctl_flush_tb()
+    machine.forget()
     return made
 
 

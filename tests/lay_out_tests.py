@@ -1,6 +1,6 @@
 #!/usr/bin/env python3
-"""Tests tools/lay_out.py, the layout of a proved module for pointers of 32 bits: each line that it writes anew, lines that
-it leaves as they are, and lines, functions and modules that it refuses.
+"""Tests tools/lay_out.py, the layout of a proved module for pointers of 32 bits: each line that it writes anew, lines
+that it leaves as they are, and lines, functions and modules that it refuses.
 
 usage: tests/lay_out_tests.py
 
@@ -136,10 +136,6 @@ def line(text, noise=False):
     return outcome(Layout(noise).line, text)
 
 
-def tell(name, is_good):
-    counts.count("passed" if is_good else "failed", f"{name}: {'yes' if is_good else 'no'}")
-
-
 def is_same(found, wanted):
     if found != wanted:
         print(f"found {found}\nfor   {wanted}")
@@ -148,24 +144,27 @@ def is_same(found, wanted):
 
 def main():
     for text, wanted in WRITTEN.items():
-        tell(f"written anew: {text}", is_same(line(text), wanted))
+        counts.tell(f"written anew: {text}", is_same(line(text), wanted))
     for text, wanted in NOISY.items():
-        tell(f"with noise: {text}", is_same(line(text, True), wanted))
+        counts.tell(f"with noise: {text}", is_same(line(text, True), wanted))
     for text in KEPT:
-        tell(f"left as it is: {text}", is_same(line(text), [text]))
+        counts.tell(f"left as it is: {text}", is_same(line(text), [text]))
     for text in REFUSED:
-        tell(f"refused: {text}", is_same(line(text), "refused"))
+        counts.tell(f"refused: {text}", is_same(line(text), "refused"))
     for body in GOOD_BODIES:
-        tell(f"laid out: {body.split(chr(10))[-1].strip()}", outcome(lay_out, MODULE.replace("BODY", body)) != "refused")
+        counts.tell(f"laid out: {body.split(chr(10))[-1].strip()}",
+                    outcome(lay_out, MODULE.replace("BODY", body)) != "refused")
     for body in BAD_BODIES:
-        tell(f"refused, a function with: {body.split(chr(10))[-1].strip()}",
+        counts.tell(f"refused, a function with: {body.split(chr(10))[-1].strip()}",
                     is_same(outcome(lay_out, MODULE.replace("BODY", body)), "refused"))
     for old, new in BAD_HEADS:
         text = MODULE.replace("BODY", SLOT).replace(old, new)
-        tell(f"refused, a module with: {new[:60]!r}", text != MODULE and is_same(outcome(lay_out, text), "refused"))
+        counts.tell(f"refused, a module with: {new[:60]!r}",
+                    text != MODULE and is_same(outcome(lay_out, text), "refused"))
     laid_out = lay_out(MODULE.replace("BODY", SLOT))
-    bounded = lay_out(MODULE.replace("BODY", SLOT).replace("i64 noundef %a1", "i64 noundef %a1, i64 noundef %a2"), lengths=True)
-    tell("a length of more than 32 bits traps", """start:
+    with_length = MODULE.replace("BODY", SLOT).replace("i64 noundef %a1", "i64 noundef %a1, i64 noundef %a2")
+    bounded = lay_out(with_length, lengths=True)
+    counts.tell("a length of more than 32 bits traps", """start:
   %narrow.1 = or i64 %a1, %a2
   %narrow.2 = icmp ult i64 %narrow.1, 4294967296
   br i1 %narrow.2, label %fits, label %too.long
@@ -175,12 +174,12 @@ too.long:
 fits:
 """ in bounded)
     internal = MODULE.replace("BODY", SLOT).replace("define ", "define internal ")
-    tell("but not of a function that is not exported", lay_out(internal, lengths=True) == lay_out(internal))
-    tell("no machine is named", not any(it in laid_out for it in ("target", "probe", "x86")))
+    counts.tell("but not of a function that is not exported", lay_out(internal, lengths=True) == lay_out(internal))
+    counts.tell("no machine is named", not any(it in laid_out for it in ("target", "probe", "x86")))
     for_machine = str(pathlib.Path(__file__).resolve().parent.parent / "tools/for_machine.sed")
     wide = subprocess.run(["sed", "-E", "-f", for_machine], input=MODULE, capture_output=True, text=True).stdout
-    tell("nor in a module for pointers of 64 bits", not any(it in wide for it in ("target", "probe", "x86")))
-    tell("of which the functions are as they were", "BODY" in wide and wide.count("\n") > MODULE.count("\n") - 4)
+    counts.tell("nor in a module for pointers of 64 bits", not any(it in wide for it in ("target", "probe", "x86")))
+    counts.tell("of which the functions are as they were", "BODY" in wide and wide.count("\n") > MODULE.count("\n") - 4)
     counts.end_counts()
 
 

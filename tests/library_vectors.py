@@ -169,7 +169,8 @@ def tag(sk, kind, record, *parts, encoding=ENCODING):
     """The tag of a start (1: PK.root, R and the digest) or of an answer (2: the start, levels, job and node)."""
     n, function = len(sk) // 4, "sha256" if len(sk) == 64 else "sha512"
     sk_seed, sk_prf, pk_seed = sk[:n], sk[n : 2 * n], sk[2 * n : 3 * n]
-    return hmac.digest(sk_prf + sk_seed + pk_seed + KEY_END, bytes([kind, encoding, *record]) + b"".join(parts), function)[:n]
+    key, message = sk_prf + sk_seed + pk_seed + KEY_END, bytes([kind, encoding, *record]) + b"".join(parts)
+    return hmac.digest(key, message, function)[:n]
 
 
 class Jobs:
@@ -211,7 +212,8 @@ class Jobs:
         ctypes.memmove(ctypes.byref(self.answers, at), some, len(some))
 
     def start_tag(self, encoding=ENCODING):
-        return tag(self.sk, 1, self.record, self.sk[-self.record[0] :], self.start.raw[: -self.record[0]], encoding=encoding)
+        n = self.record[0]
+        return tag(self.sk, 1, self.record, self.sk[-n:], self.start.raw[:-n], encoding=encoding)
 
     def tag(self, job, node, encoding=ENCODING):
         parts = self.start.raw, bytes(self.cut[1:]), job.to_bytes(4, "big"), node
@@ -267,7 +269,7 @@ def faults_pass(test):
 
 
 def other_encodings_are_refused(jobs):
-    """Whether a start with the tag of another encoding is refused by jobs and join, and an answer with such a tag by join."""
+    """Whether jobs and join refuse a start with the tag of another encoding, and join an answer with such a tag."""
     n, start = jobs.record[0], jobs.start.raw
     well = True
     for encoding in (ENCODING - 1, ENCODING + 1):

@@ -154,7 +154,7 @@ def check_comments():
     for fault in faults:
         print(fault)
     is_right = words > 40000 and not faults
-    counts.count("passed" if is_right else "failed", None if is_right else f"comments of {words} words: no")
+    counts.tell(f"comments of {words} words", is_right)
 
 
 def check_docs():
@@ -164,7 +164,7 @@ def check_docs():
     is_short = 0 < len(found) <= DOCS_PAGES and lines <= DOCS_LINES
     if not is_short:
         print(f"docs/ has {len(found)} pages, at most {DOCS_PAGES}, and {lines} lines, at most {DOCS_LINES}")
-    counts.count("passed" if is_short else "failed", None if is_short else "docs/ is short: no")
+    counts.tell("docs/ is short", is_short)
 
 
 def check_top():
@@ -177,7 +177,7 @@ def check_top():
     is_right = 0 < len(top) <= TOP_FOLDERS and not lacking
     if not is_right:
         print(f"{len(top)} folders at the top, at most {TOP_FOLDERS}; without a README: {lacking}")
-    counts.count("passed" if is_right else "failed", None if is_right else "the folders at the top: no")
+    counts.tell("the folders at the top", is_right)
 
 
 def missing_paths(text):
@@ -200,7 +200,7 @@ def check_paths():
     for fault in faults:
         print(f"{fault}, which is not there")
     is_right = len(files) > 400 and not faults
-    counts.count("passed" if is_right else "failed", None if is_right else f"paths that {len(files)} files name: no")
+    counts.tell(f"paths that {len(files)} files name", is_right)
 
 
 def head_of(text):
@@ -225,7 +225,7 @@ def check_heads():
     for fault in faults:
         print(fault)
     is_right = len(files) > 300 and not faults
-    counts.count("passed" if is_right else "failed", None if is_right else f"heads of {len(files)} files: no")
+    counts.tell(f"heads of {len(files)} files", is_right)
 
 
 def check(name):
@@ -243,7 +243,7 @@ def check(name):
         faults += ["its first line names no reader"] if lacks_reader(name, text) else []
     for fault in faults:
         print(f"{name}: {fault}")
-    counts.count("failed" if faults else "passed", f"{name}: no" if faults else None)
+    counts.tell(name, not faults)
 
 
 def check_contracts_page():
@@ -264,7 +264,7 @@ def check_contracts_page():
     is_right = not lost and found and 0 < int(found[1]) < int(found[2]) and "slh_jobs: sign_join" in visible
     if not is_right:
         print(f"without a target: {sorted(lost)[:5]}; found: {found and found[0]}; visible: {visible[:5]}")
-    counts.count("passed" if is_right else "failed", None if is_right else f"{name}: no")
+    counts.tell(name, is_right)
 
 
 def print_worst(names, most):

@@ -1,6 +1,6 @@
 #!/usr/bin/env python3
-"""Changes one bit of the first signature of `slh sign --twice` while the program makes the second one: the program has to
-refuse with 38 Fault and write nothing. Without --twice no run is refused, so the test would fail.
+"""Changes one bit of the first signature of `slh sign --twice` while the program makes the second one: the program has
+to refuse with 38 Fault and write nothing. Without --twice no run is refused, so the test would fail.
 
 usage: tests/program_faults.py [--dist DIST] [--once] [PROGRAM]
 
@@ -53,10 +53,6 @@ def disturbed(command, signature, pause):
     return out, child.returncode, err
 
 
-def tell(name, holds):
-    counts.count("passed" if holds else "failed", f"{name}: {'yes' if holds else 'no'}")
-
-
 def try_form(once, command, name):
     """Counts the runs that were refused as a fault. Any other run has to write the right signature."""
     begin = time.monotonic()
@@ -68,8 +64,8 @@ def try_form(once, command, name):
         wrong += ended not in ((b"", 2, b"slh: 38 Fault\n"), (signature, 0, b""))
         if refused == WANTED:
             break
-    tell(f"{name}: a signature that was changed between two runs is refused", refused == WANTED)
-    tell(f"{name}: no wrong signature is written", wrong == 0)
+    counts.tell(f"{name}: a signature that was changed between two runs is refused", refused == WANTED)
+    counts.tell(f"{name}: no wrong signature is written", wrong == 0)
 
 
 def main():

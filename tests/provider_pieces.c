@@ -8,6 +8,8 @@
  * calls the provider's own functions in any order, with no OpenSSL between, and compares each answer with a model. Freed
  * memory is searched for the message. The last line has the counts, and the status is 0 if nothing failed.
  */
+#include "provider_memory.h"
+
 #include <openssl/core_dispatch.h>
 #include <openssl/core_names.h>
 #include <openssl/err.h>
@@ -41,27 +43,10 @@ static void must(int holds, const char *what) {
 
 static unsigned unerased, looked_at;
 
-static void *take(size_t size, const char *file, int line) {
-    size_t *block = malloc(size + 16);
-    (void)file, (void)line;
-    if (block == NULL) return NULL;
-    *block = size;
-    return (char *)block + 16;
-}
-static void give_back(void *it, const char *file, int line) {
-    (void)file, (void)line;
-    if (it == NULL) return;
-    size_t size = *(size_t *)(void *)((char *)it - 16);
+static void look_at(const unsigned char *block, size_t size) {
     looked_at++;
     for (size_t at = 0; at + MARK <= size; at++)
-        if (memcmp((char *)it + at, msg, MARK) == 0) unerased++;
-    free((char *)it - 16);
-}
-static void *take_other(void *it, size_t size, const char *file, int line) {
-    void *other = take(size, file, line);
-    size_t had = it == NULL ? 0 : *(size_t *)(void *)((char *)it - 16);
-    if (it != NULL && other != NULL) memcpy(other, it, had < size ? had : size), give_back(it, file, line);
-    return other;
+        if (memcmp(block + at, msg, MARK) == 0) unerased++;
 }
 
 /* ---- signing and verifying ---- */

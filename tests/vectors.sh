@@ -3,7 +3,7 @@
 #
 # usage: tests/vectors.sh [--few] [--dist DIST] [VECTORS [PROGRAM]]
 #
-# VECTORS is a folder of vector files with one test per line (default: vectors), PROGRAM the program (default: the
+# VECTORS is a folder of vector files with one test per line (default: tests/vectors), PROGRAM the program (default: the
 # script slh at the top); --dist takes the one of a release. With --few the file smoke-128f.json alone is run. Each
 # file must pass whole: status 0, one line for each test and `passed P failed 0`. Then the first digit in the signature
 # of its last sign test is changed in a copy: that test must fail, and no other, with status 1. The last line has the

@@ -4,8 +4,8 @@
 usage: tests/wrong_bodies.py CRATE[/EDIT]..  all edits of these crates, or one of a crate
        tests/wrong_bodies.py --all          all edits
        tests/wrong_bodies.py --changed      each edit that is not as the list says
-       tests/wrong_bodies.py --gate [SEED]  these, and edits of some crates, drawn by SEED or at random, until they are a
-                                            thirty-second of all
+       tests/wrong_bodies.py --gate [SEED]  these, and edits of some crates, drawn by SEED or at random, until they are
+                                            a thirty-second of all
        --write with any of these            writes the list anew for each edit that was refused
 
 An edit is a file crates/NAME/wrong/EDIT.edit with lines
@@ -45,9 +45,11 @@ LIST = os.path.join(ROOT, "tests", "wrong_bodies.txt")
 PARTS = ("src", "specs", "proofs")
 SHARE = 32
 # What the prover says of a proof file that names what the edit took away, and of what only depends on a refused answer.
-NAMES = re.compile(r"(note: )?(\./)?proofs/.*(has no field|is not in scope|has no `|was not admitted|is no name|which was rejected)", re.S)
+NAMES = re.compile(r"(note: )?(\./)?proofs/.*"
+                   r"(has no field|is not in scope|has no `|was not admitted|is no name|which was rejected)", re.S)
 # How a message of the prover begins.
-HEAD = re.compile(r"((note|warning|help): )?\S+:\d+:\d+: |(fn|note:|warning:|help:|statements|by-macro:|rattle:) |(only|logic|holes)=")
+HEAD = re.compile(r"((note|warning|help): )?\S+:\d+:\d+: |"
+                  r"(fn|note:|warning:|help:|statements|by-macro:|rattle:) |(only|logic|holes)=")
 # What it says of a text that it could not read, where the error is of no declaration or of a name.
 UNREAD = re.compile(r"is not in scope|has no field|is no name|operand is missing|expected the end|cannot continue")
 
@@ -98,7 +100,8 @@ def read_edit(crate, path):
                 return refused, None, f"there is no file {file}"
             text = texts.get(file) or text_of(crate, file)
             if not old or text.count(old) != 1:
-                return refused, None, f"an 'old:' text stands in {file} {text.count(old) if old else 0} times, and not once"
+                number = text.count(old) if old else 0
+                return refused, None, f"an 'old:' text stands in {file} {number} times, and not once"
             texts[file], old = text.replace(old, rest), ""
         elif line.strip():
             return refused, None, f"a line begins neither with refused:, file:, old: nor new:: {line[:60]}"
@@ -121,7 +124,8 @@ def messages(said):
 def is_unread(message, changed):
     at = re.match(r"(?:\./)?(\S+?):\d+:\d+: error: (?:(`[^`]*`): )?(.*)", message, re.S)
     said = at and re.sub(r"`[^`]*`", "", at[3])
-    return bool(at) and (at[1] in changed or at[1].startswith(("src/", "specs/"))) and (not at[2] or bool(UNREAD.search(said)))
+    is_of_edit = bool(at) and (at[1] in changed or at[1].startswith(("src/", "specs/")))
+    return is_of_edit and (not at[2] or bool(UNREAD.search(said)))
 
 
 def verdict(status, said, refused, changed):
@@ -136,16 +140,19 @@ def verdict(status, said, refused, changed):
     missing = re.findall(r"^fn (\S+): (?:no proof|not proved)(?:: (it calls )?.*)?$", said, re.M)
     others = [name for name, calls in missing if not calls and not is_asked(name)]
     if others or not any(is_asked(name) for name, calls in missing if not calls):
-        return False, f"BAD EDIT: the proof of {', '.join(others) or 'no function'} is missing, and not that of {refused} alone"
-    told = [it for it in lines if re.match(r"(note: )?\S+:\d+:\d+:", it) and (": error" in it or it.startswith("note: "))]
+        missing = ", ".join(others) or "no function"
+        return False, f"BAD EDIT: the proof of {missing} is missing, and not that of {refused} alone"
+    told = [it for it in lines if re.match(r"(note: )?\S+:\d+:\d+:", it)]
+    told = [it for it in told if ": error" in it or it.startswith("note: ")]
     proofs = [it for it in told + re.findall(r"^fn .*did not prove.*$", said, re.M) if not NAMES.match(it)]
     if not proofs:
-        return False, f"BAD EDIT: only a proof file misses what the edit took away: {(told or lines)[0].partition(chr(10))[0][:300]}"
+        line = (told or lines)[0].partition("\n")[0][:300]
+        return False, f"BAD EDIT: only a proof file misses what the edit took away: {line}"
     return True, proofs[0].partition("\n")[0][:160]
 
 
 def reads_answers():
-    """Whether what the prover was seen to say is read as it was meant: of an edit that takes a call away, which an answer
+    """Whether what the prover was seen to say is read as it was meant: of an edit that takes a call away, which a proof
     names, nothing is known; of one that changes a value the function is refused."""
     at = "./proofs/t_stream/TStream/finish/Answers.antt"
     ends = "fn slh_hash::t_stream::TStream::finish: not proved\nonly=1 proved=0\n"
@@ -205,8 +212,8 @@ def try_edits(crate, some, kept):
 
 
 def try_all(runs, jobs):
-    """Tries the edits of each crate, so many at once, each over what a check of the crate as it is, and the edits before
-    it in its share, have kept."""
+    """Tries the edits of each crate, so many at once. Each is tried over what a check of the crate as it is, and the
+    edits before it in its share, have kept."""
     with tempfile.TemporaryDirectory(prefix="rt-edits-") as room, concurrent.futures.ThreadPoolExecutor(jobs) as pool:
 
         def begin(crate):
@@ -223,8 +230,9 @@ def try_all(runs, jobs):
             return found
 
         failed = dict(zip(runs, pool.map(begin, runs)))
-        found = [(crate, path, False, f"not tried: {why}") for crate, why in failed.items() if why for path in runs[crate]]
-        parts = [(it, part) for it in runs if not failed[it] for part in range(min(jobs, len(runs[it])))]
+        failed = {crate: why for crate, why in failed.items() if why}
+        found = [(crate, path, False, f"not tried: {why}") for crate, why in failed.items() for path in runs[crate]]
+        parts = [(it, part) for it in runs if it not in failed for part in range(min(jobs, len(runs[it])))]
         return found + [it for ran in pool.map(lambda it: go_on(*it), parts) for it in ran]
 
 
@@ -245,7 +253,8 @@ def arguments():
     parser.add_argument("crate", nargs="*", metavar="CRATE[/EDIT]", help="crates whose edits are tried, or edits")
     parser.add_argument("--all", action="store_true", help="all edits")
     parser.add_argument("--changed", action="store_true", help="the edits of each crate that is not as listed")
-    parser.add_argument("--gate", nargs="?", const=random.randrange(1_000_000), type=int, metavar="SEED", help="these, and edits of more crates until they are a thirty-second of all")
+    parser.add_argument("--gate", nargs="?", const=random.randrange(1_000_000), type=int, metavar="SEED",
+                        help="these, and edits of more crates until they are a thirty-second of all")
     parser.add_argument("--write", action="store_true", help="writes the list")
     parser.add_argument("--jobs", type=int, default=len(os.sched_getaffinity(0)), help="how many checks run at once")
     return parser.parse_args()
@@ -264,7 +273,8 @@ def edits_of(words):
 def main():
     asked, old = arguments(), listed()
     if not reads_answers():
-        sys.exit("tests/wrong_bodies.py: it takes an edit for refused of which nothing is known, or the other way round")
+        sys.exit("tests/wrong_bodies.py: it takes an edit for refused of which nothing is known, "
+                 "or the other way round")
     named = [(name, path) for name, some in edits_of(asked.crate).items() for path in some]
     looked_at = named or [(name, path) for name in USES for path in edits(name)]
     sums = {it: edit_sum(*it) for it in looked_at}
@@ -285,7 +295,8 @@ def main():
     for it, why in failed.items():
         count("failed", f"{name_of(*it)}: {' '.join(why.split())}")
     for it in [it for it in stale if it not in failed]:
-        count("failed", f"{name_of(*it)} is not as tests/wrong_bodies.txt lists it: run tests/wrong_bodies.py --write {name_of(*it)}")
+        alone = f"run tests/wrong_bodies.py --write {name_of(*it)}"
+        count("failed", f"{name_of(*it)} is not as tests/wrong_bodies.txt lists it: {alone}")
     counts["passed"] = len({*looked_at, *tried}) - counts["failed"]
     end_counts()
 

@@ -158,23 +158,39 @@ def portable_facts(folder, work):
     return facts
 
 
+def stand_ins(archive, work):
+    """An object with a function for each name that an archive asks for: ARM's linker has to know that it is one."""
+    names = sorted(set(re.findall(r"^ +U (\S+)$", run("arm-none-eabi-nm", archive), re.M)))
+    lines = [f".global {it}\n.type {it}, %function\n.thumb_func\n{it}: bx lr\n" for it in names]
+    (work / "names.s").write_text("".join([".syntax unified\n.thumb\n", *lines]))
+    run("arm-none-eabi-as", work / "names.s", "-o", work / "names.o")
+    return work / "names.o"
+
+
 def kept_for(target, call, archive, work):
     """The bytes that a board's linker keeps of an archive for one call, without what the archive asks for."""
-    linker, *words = LINKERS["riscv32imac" if BOARDS[target] is None else "thumbv7em"]
+    is_arm, kept = BOARDS[target] is not None, work / "kept"
+    linker, *words = LINKERS["thumbv7em" if is_arm else "riscv32imac"]
     if not shutil.which(linker):
         return None
-    run(linker, *words, "--gc-sections", "--unresolved-symbols=ignore-all", "-e", call, "-u", call, archive, "-o", work / "kept")
-    return code_of("size", work / "kept")
+    words += [f"--just-symbols={stand_ins(archive, work)}" if is_arm else "--unresolved-symbols=ignore-all"]
+    run(linker, *words, "--gc-sections", "-e", call, "-u", call, archive, "-o", kept)
+    return code_of("size", kept)
 
 
 def board_facts(target, folder, work):
     """The code of a board's archives, and of the larger one the stack and the instructions under an emulator."""
     files = {name: next(folder.rglob(name)) for name in ("libslh_verify.a", "libslh_verify_128.a")}
-    facts, how, said = {f"code of {target} {name}": code_of("size", it) for name, it in files.items()}, BOARDS[target], ""
+    facts = {f"code of {target} {name}": code_of("size", it) for name, it in files.items()}
+    how, said = BOARDS[target], ""
     kept = kept_for(target, "slh_hash_verify_digest", files["libslh_verify_128.a"], work)
     facts |= {} if kept is None else {f"{target} by digest": kept}
     if how is not None and all(map(shutil.which, ("arm-none-eabi-gcc", "qemu-system-arm"))):
-        said = run(HERE / "tests/board.sh", *how, HERE / "c/include", files["libslh_verify.a"])
+        try:
+            said = run(HERE / "tests/board.sh", *how, HERE / "c/include", files["libslh_verify.a"])
+        except subprocess.CalledProcessError as fault:
+            if fault.returncode != 3:  # the emulator takes no such processor
+                raise
     elif how is None and all(map(shutil.which, (RISCV[0], "qemu-riscv32"))):
         run(*RISCV, "-I", HERE / "c/include", HERE / "tests/bare_stack.c", files["libslh_verify.a"],
             "-o", work / "bare")

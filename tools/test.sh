@@ -152,7 +152,7 @@ plan_release() {
     [ "$few" = "" ] || return 0
     mapfile -t others < <(programs_here | tail -n +2)
     for other in ${others[@]+"${others[@]}"}; do
-        plan_parts "vectors ${other#"$here/"}" "" "tests/vectors.sh|vectors: by ${other#"$here/"}|1|1|"
+        plan_parts "tests/vectors ${other#"$here/"}" "" "tests/vectors.sh|vectors: by ${other#"$here/"}|1|1|"
     done
 }
 
