@@ -1,7 +1,7 @@
 #!/usr/bin/env python3
 """Writes docs/CONTRACTS.md from the sources: for each file of each crate the calls that other crates can use, the names
-of their clauses, and the wrong bodies that the prover has to refuse, as edits in must-fail/ (tried by `rt ci`) and wrong/
-(tried by tests/wrong_bodies.py). A private function is listed if an edit turns it. The script also writes the numbers
+of their clauses, and the wrong bodies that the prover has to refuse, as edits in must-fail/ (tried by `rt ci`) and
+wrong/ (tried by tests/wrong_bodies.py). A private function is listed if an edit turns it. The script also writes the numbers
 of lines of definitions into docs/PROVED.md. It checks that the code on crates/slh_examples/README.md is that of
 crates/slh_hello and crates/slh_examples, its lines those of crates.txt, and that the sources have the clauses that
 docs/PROVED.md names.
@@ -122,8 +122,8 @@ def line_of(name, is_public, clauses, wrong):
 
 
 def rows_of(crate):
-    """The section of a crate, "" if it has no calls: for each file a list of the functions that other crates can call, or
-    that an edit turns."""
+    """The section of a crate, "" if it has no calls: for each file a list of the functions that other crates can call,
+    or that an edit turns."""
     rows, turned = [], {}
     for edit, path, line in edits(crate):
         above = [name for number, name, _, _ in functions(crate, path) if number <= line]
@@ -177,7 +177,7 @@ def with_lines(page):
         return f"| `{row[1]}/specs` | {', '.join(f'{name} {count}' for name, count in zip(names, lines))} |"
 
     page = re.sub(r"^\| `(\w+)/specs` \| ([\w, ]+) \|", counted, page, flags=re.M)
-    return re.sub(r"\d+ lines in all", f"{sum(counts)} lines in all", page)
+    return re.sub(r"[\d,]+ lines in all", f"{sum(counts):,} lines in all", page)
 
 
 def missing_clauses():
@@ -186,7 +186,7 @@ def missing_clauses():
         text = page.read()
     crate_rows = re.findall(r"^\| (slh_\w+) \| .* \| (`.*`.*?) \|$", text, re.M)
     rows = re.findall(r"^\| (?:`(\w+)`|the one) of `([\w:]+)` \| `(\w+)/(src/[\w/]+\.rt)` \|", text, re.M)
-    if len(crate_rows) < 10 or len(rows) != 5:
+    if len(crate_rows) < 10 or len(rows) != 6:
         yield f"docs/PROVED.md has {len(crate_rows)} crates with clauses, {len(rows)} clauses of functions"
     for crate, named in crate_rows:
         known = {clause for path in sources(crate) for function in functions(crate, path) for clause in function[3]}

@@ -1,6 +1,6 @@
 #!/usr/bin/env python3
-"""Writes an HTML page of all contracts, with a search field and no server: each call as tools/contracts.py lists it, with
-its comment, its contract, and the wrong bodies that the prover refuses. Each word of a clause links to its definition,
+"""Writes an HTML page of all contracts, with a search field and no server: each call as tools/contracts.py lists it,
+with its comment, its contract, and the wrong bodies that the prover refuses. Each word of a clause links to its definition,
 and so do the words of definitions, down to a section of FIPS 205.
 
 usage: tools/contracts_page.py FILE      FILE#q=WORDS opens the page with these words in the search field

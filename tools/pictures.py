@@ -238,8 +238,8 @@ def draw_panel(picture, sets, places, height, panel):
 # In which column a crate stands. Its row follows from the crates above it.
 COLUMNS = {
     "slh": 2, "slh_c": 0, "slh_c_verify": 1, "slh_tool": 2, "slh_jobs": 0, "slh_par": 1.5, "slh_files": 4,
-    "slh_key_files": 4, "slh_vectors": 3, "slh_subtrees": 0.3, "slh_core": 1.5, "slh_workers": 2.8, "slh_io": 4, "slh_few": 0.7,
-    "slh_board": 2.8, "slh_lanes": 0.2, "slh_tree": 1.3, "slh_hash": 0.2, "slh_width": 2,
+    "slh_key_files": 4, "slh_vectors": 3, "slh_subtrees": 0.3, "slh_core": 1.5, "slh_workers": 2.8, "slh_io": 4,
+    "slh_few": 0.7, "slh_board": 2.8, "slh_lanes": 0.2, "slh_tree": 1.3, "slh_hash": 0.2, "slh_width": 2,
     "slh_params": 0.7,
 }
 
@@ -309,7 +309,8 @@ def kind_colour(touch):
 
 def board_steps():
     """The steps of the board's table, each of which has to follow from the words as the steps before it left them."""
-    steps = table("crates/slh_board/README.md", "step", "thread", "exchange", "finds", "`next` after", "`claim` returns")
+    columns = ["step", "thread", "exchange", "finds", "`next` after", "`claim` returns"]
+    steps = table("crates/slh_board/README.md", *columns)
     jobs = 1 + max(int(it) for it in re.findall(r"Job\((\d+)\)", " ".join(it["`claim` returns"] for it in steps)))
     words = 0
     for step in steps:
