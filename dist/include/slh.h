@@ -59,7 +59,7 @@
  *
  * Each call returns SLH_DONE (0), SLH_INVALID (30, only slh_check and the verify calls), or a refusal's number.
  * Exceptions are slh_version, slh_level, slh_erase and slh_refusal_text. Calls check their arguments in this order, and
- * return the number of the first fault:
+ * return the first number that applies:
  *
  *   SLH_NO_SUCH_REFUSAL        slh_refusal_name alone: the number is not a result's
  *   SLH_NO_SUCH_SET            the number is not a set's

@@ -33,9 +33,9 @@
 /* The version of this header: three numbers, the number that slh_version returns for it, and the text. */
 #define SLH_VERSION_MAJOR 0
 #define SLH_VERSION_MINOR 11
-#define SLH_VERSION_PATCH 0
+#define SLH_VERSION_PATCH 1
 #define SLH_VERSION_NUMBER (1000000 * SLH_VERSION_MAJOR + 1000 * SLH_VERSION_MINOR + SLH_VERSION_PATCH)
-#define SLH_VERSION "0.11.0"
+#define SLH_VERSION "0.11.1"
 
 /* Marks each call whose result has to be checked: compilers that can do so warn if it is ignored. */
 #if defined(__cplusplus) && __cplusplus >= 201703L
@@ -197,8 +197,8 @@ uint32_t slh_hash_verify(uint32_t set, uint32_t function, const uint8_t *pk, siz
 /*
  * What the hardened calls return. Each number is the sum of two halves, and each half comes from its own comparison
  * with PK.root: a fault that turns one comparison gives neither number. SLH_IS_VALID tests a variable, which it reads
- * three times, so that a test that is skipped does not decide. Write it as the whole condition of an `if` that boots,
- * with nothing that boots behind it. `volatile` keeps both writes:
+ * three times, so that a test that is skipped does not decide. Write it as the whole condition of the `if` that boots.
+ * No code behind that `if` may boot. `volatile` keeps both writes:
  *
  *   volatile uint32_t verdict = SLH_HARDENED_INVALID;
  *   verdict = slh_hash_verify_digest_hardened(SLH_DSA_SHA2_128S, SLH_SHA2_256, pk, sizeof pk, digest, sizeof digest,

@@ -1,5 +1,5 @@
 /*
- * SLH-DSA (FIPS 205) with SHA-2 as portable C: all calls of slh.h and slh_internal.h. Version 0.11.0.
+ * SLH-DSA (FIPS 205) with SHA-2 as portable C: all calls of slh.h and slh_internal.h. Version 0.11.1.
  *
  * SPDX-License-Identifier: MIT OR Apache-2.0
  *
@@ -38,7 +38,7 @@
 #define STOP(why) ((void)(why), abort())
 #define MEMORY_BYTES
 
-#define MODULE_VERSION 11000
+#define MODULE_VERSION 11001
 #define STACK_TOP UINT64_C(1048576)
 #define STACK_BYTES 60224
 #define CONSTANT_BYTES 2152

@@ -1,5 +1,5 @@
 /*
- * Verifying signatures of SLH-DSA (FIPS 205) with SHA-2 as portable C: the calls of slh_verify.h. Version 0.11.0.
+ * Verifying signatures of SLH-DSA (FIPS 205) with SHA-2 as portable C: the calls of slh_verify.h. Version 0.11.1.
  *
  * SPDX-License-Identifier: MIT OR Apache-2.0
  *
@@ -53,7 +53,7 @@
 #endif
 #define MEMORY_BYTES (SLH_VERIFY_MEMORY - 3 * 8)
 
-#define MODULE_VERSION 11000
+#define MODULE_VERSION 11001
 #define STACK_TOP UINT64_C(1048576)
 #define STACK_BYTES 8048
 #define CONSTANT_BYTES 1288
