@@ -1,5 +1,5 @@
--- Checkpoints of a key's chains, stored from the making of the key until it signs: ours. Each set has at most 16
--- checkpoints of a chain, so that those of a key are about as long as 16 WOTS+ signatures.
+-- Checkpoints of a key's chains, stored from the making of the key until it signs: ours. A chain has w of them if w is
+-- 4 or 16, and 16 if w is 256. So those of a key are as long as w or 16 WOTS+ signatures.
 use Rattle.std.specs.Prelude.{ℕ, ◌*◌, ◌/◌, ◌%◌, List}
 use Rattle.slh_params.specs.Params.{Params, ceil_div, w, len}
 use Rattle.slh_few.specs.Chunks.{end_to_end, chunk}

@@ -232,11 +232,44 @@ impl<'a> HashContext<'a> {
             result.items ≡ fors_pk_from_sig p pk_seed idx_tree idx_leaf md.now sig.now }
         ensures len { length result.items ≡ (params self.now.set).n }
     {
+        if self.lanes().is_none() {
+            return absorbed_roots(self, idx_tree, idx_leaf, md, sig);
+        }
         let mut buffer = [0; MOST_FORS_ROOTS_LEN];
         let roots = &mut buffer[..fors_roots_len(self.set)];
         self.put_fors_roots(idx_tree, idx_leaf, md, sig, roots);
         self.fors_pk(idx_tree, idx_leaf, roots)
     }
+}
+
+/// The public key that a signature of a digest gives (Algorithm 17). T absorbs the root of each tree as it is reached,
+/// so no buffer holds all.
+#[tactic(auto, unfolding(crate::specs::Trees::fors_joins_of))]
+fn absorbed_roots(
+    context: &HashContext,
+    idx_tree: u64,
+    idx_leaf: u32,
+    md: &[u8],
+    sig: &[u8],
+) -> Node
+    requires md { length md.now ≡ md_len (params context.now.set) }
+    requires sig { let p = params context.now.set in length sig.now ≡ p.k * fors_part_len p }
+    ensures value { let p = params context.now.set in let pk_seed = context.now.pk_seed.now in
+        result.items ≡ fors_pk_from_sig p pk_seed idx_tree idx_leaf md.now sig.now }
+    ensures len { length result.items ≡ (params context.now.set).n }
+{
+    let indices = fors_indices(context.set, md);
+    let mut stream = context.t_stream(&fors_adrs(idx_tree, idx_leaf, AdrsType::ForsRoots, 0, 0));
+    for j in 0..context.set.k() {
+        let at = ForsPlace {
+            idx_tree,
+            idx_leaf,
+            tree_no: j,
+        };
+        let tree = ForsJoins { context, at };
+        stream.absorb(&tree.root_at(indices[j as usize], sig));
+    }
+    stream.finish()
 }
 
 /// At least the length of the roots of all trees in any set: of 32 bytes each.

@@ -1,6 +1,6 @@
 //! WOTS+, XMSS, the hypertree and FORS (FIPS 205, sections 5 to 8).
 //!
-//! Nothing here takes memory or refuses anything: what a call needs is a condition of its contract.
+//! No call takes memory or refuses anything. The caller has to meet the conditions of its contract.
 //!
 //! A call over `Seeds` or `Public` makes a context and calls its method of the same name. The callers of several
 //! methods make one `HashContext` or `SigningContext`, and drop it before their own public call ends: no hash state

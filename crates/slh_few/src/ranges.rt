@@ -81,10 +81,11 @@ impl<'a> SigningContext<'a> {
         }
     }
 
-    /// The cover that `xmss_range` returns, of the tree over a place. Into `checkpoints` it writes checkpoints of the key
-    /// at the place, `key_checkpoints_len` bytes, from which `wots_sign_from_checkpoints` signs. If that leaf is in the
-    /// range, no chain is computed twice. If the seven others below its node of height 3 are in the range, too, all
-    /// eight are made at once.
+    /// The cover that `xmss_range` returns, of the tree over a place. This call also writes the checkpoints of the key
+    /// at the place into `checkpoints`, `key_checkpoints_len` bytes. `wots_sign_from_checkpoints` signs from them.
+    ///
+    /// If the key's leaf is in the range, no chain is computed twice. If the range has all eight leaves below the
+    /// leaf's node of height 3, the eight keys are made at once.
     pub fn xmss_range_with_checkpoints(
         &self,
         at: Place,

@@ -209,27 +209,24 @@ fn steps_left(set: ParamSet, digits: &ChainNumbers) -> ChainNumbers
     left
 }
 
-/// The public key of the chains of a key, each run on from its value and step by its number of steps: n bytes
-/// (Algorithm 8, lines 8 to 16). T absorbs each end as it is reached, so no buffer holds all.
-fn absorbed_ends(
-    context: &HashContext,
-    at: Place,
-    values: &[u8],
-    from: &ChainNumbers,
-    counts: &ChainNumbers,
-) -> Node
-    requires steps { (c : ℕ) → c < MOST_DIGITS → slice_index from.now c + slice_index counts.now c ≤ MOST_STEPS }
-    requires values { length values.now ≡ len (params context.now.set) * (params context.now.set).n }
+/// The public key that a signature of a message of n bytes gives (Algorithm 8). T absorbs the end of each chain as it is
+/// reached, so no buffer holds all.
+#[tactic(auto, using(crate::proofs::Checksum::chain_bounds))]
+fn absorbed_ends(context: &HashContext, at: Place, msg: &Node, sig: &[u8]) -> Node
+    requires msg { length msg.now.items ≡ (params context.now.set).n }
+    requires sig { length sig.now ≡ len (params context.now.set) * (params context.now.set).n }
     ensures value { let p = params context.now.set in let pk_seed = context.now.pk_seed.now in
-        result.items ≡ compressed_ends p pk_seed at (λ c. chain_of p pk_seed at c (chunk p.n values.now c)
-        (slice_index from.now c) (slice_index counts.now c)) }
+        result.items ≡ wots_pk_from_sig p pk_seed at msg.now.items sig.now }
     ensures len { length result.items ≡ (params context.now.set).n }
 {
-    let n = context.set.n();
+    let set = context.set;
+    let digits = digits_of(set, msg);
+    let last = set.w() - 1;
+    let n = set.n();
     let mut stream = context.t_stream(&wots_adrs(at, AdrsType::WotsPk, 0, 0));
-    for c in 0..context.set.len() {
-        let value = node_at(values, n, c);
-        stream.absorb(&run_chain(context, at, c as u32, value, from[c], counts[c]));
+    for c in 0..set.len() {
+        let value = node_at(sig, n, c);
+        stream.absorb(&run_chain(context, at, c as u32, value, digits[c], last - digits[c]));
     }
     stream.finish()
 }
@@ -244,12 +241,12 @@ impl<'a> HashContext<'a> {
             result.items ≡ wots_pk_from_sig p pk_seed at msg.now.items sig.now }
         ensures len { length result.items ≡ (params self.now.set).n }
     {
+        let Some(lanes) = self.lanes() else {
+            return absorbed_ends(self, at, msg, sig);
+        };
         let set = self.set;
         let digits = digits_of(set, msg);
         let left = steps_left(set, &digits);
-        let Some(lanes) = self.lanes() else {
-            return absorbed_ends(self, at, sig, &digits, &left);
-        };
         let mut buffer = [0; MOST_WOTS_SIG_LEN];
         let ends = &mut buffer[..wots_sig_len(set)];
         run_values(lanes, at, sig, &digits, &left, ends);
