@@ -105,7 +105,7 @@ calls() {
     printf 'T slh_%s\n' answer_place check hash_sign hash_sign_digest hash_sign_digest_twice hash_sign_start \
         hash_sign_twice hash_verify hash_verify_digest hash_verify_digest_hardened keygen keygen_job keygen_jobs \
         keygen_join lengths public refusal_name sign sign_internal sign_job sign_jobs sign_join sign_start sign_twice \
-        verify verify_hardened verify_internal version
+        verify verify_front verify_hardened verify_hashed verify_internal version
 }
 
 library_calls() {

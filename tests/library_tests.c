@@ -7,13 +7,15 @@
  */
 #include <slh_internal.h>
 
+#include "sha2_steps.h"
+
 #include <pthread.h>
 #include <stdio.h>
 #include <stdlib.h>
 #include <string.h>
 
 enum { SETS = 6, FUNCTIONS = 6, THREADS = 4, PAINT = 0xa5 };
-enum argument { SK_SEED, SK_PRF, PK_SEED, SK, PK, MSG, DIGEST, CTX, RANDOMIZER, SCRATCH, SIG, OUT, ARGUMENTS };
+enum argument { SK_SEED, SK_PRF, PK_SEED, SK, PK, MSG, DIGEST, HASH, CTX, RANDOMIZER, SCRATCH, SIG, OUT, ARGUMENTS };
 
 struct bytes {
     uint8_t *at;
@@ -82,6 +84,14 @@ static uint32_t hash_sign_digest_twice(const struct given *given) {
                                       BYTES(RANDOMIZER), BYTES(SCRATCH), BYTES(OUT));
 }
 
+static uint32_t verify_front(const struct given *given) {
+    return slh_verify_front(given->set, BYTES(PK), BYTES(CTX), BYTES(SIG), BYTES(OUT));
+}
+
+static uint32_t verify_hashed(const struct given *given) {
+    return slh_verify_hashed(given->set, BYTES(PK), BYTES(HASH), BYTES(SIG));
+}
+
 /* A call, whether it names a pre-hash function, its arguments, and which kind of bytes it writes (OUT for none). */
 static const struct call {
     const char *name;
@@ -109,7 +119,12 @@ static const struct call {
     {"hash_sign_digest_twice", hash_sign_digest_twice, 1, A(SK) | A(DIGEST) | A(CTX) | A(RANDOMIZER) | A(SCRATCH), SIG},
     {"hash_verify_digest", hash_verify_digest, 1, A(PK) | A(DIGEST) | A(CTX) | A(SIG), OUT},
 };
-enum { CALLS = sizeof calls / sizeof calls[0] };
+/* PURE is the place of `sign`. */
+enum { CALLS = sizeof calls / sizeof calls[0], PURE = 3 };
+
+/* The calls that verify by a hash of the caller. What the first writes is of no kind of `struct given`. */
+static const struct call fronts = {"verify_front", verify_front, 0, A(PK) | A(CTX) | A(SIG), SIG};
+static const struct call hashes = {"verify_hashed", verify_hashed, 0, A(PK) | A(HASH) | A(SIG), OUT};
 
 static int passed, failed;
 
@@ -195,6 +210,7 @@ static struct given in_rule(uint32_t set, uint32_t function) {
     given.of[PK] = painted(pk_len);
     given.of[MSG] = counted(100, 3);
     given.of[DIGEST] = counted(digest_lens[function - 1], 5);
+    given.of[HASH] = counted(n == 16 ? 32 : 64, 9);
     given.of[CTX] = counted(9, 11);
     given.of[RANDOMIZER] = counted(n, 40);
     given.of[SIG] = painted(sig_len);
@@ -220,7 +236,8 @@ static uint32_t result_of_length(const struct call *call, enum argument of) {
     case PK_SEED: return SLH_BAD_SEED_LENGTH;
     case SK:
     case PK: return SLH_BAD_LENGTH;
-    case DIGEST: return SLH_BAD_DIGEST_LENGTH;
+    case DIGEST:
+    case HASH: return SLH_BAD_DIGEST_LENGTH;
     case RANDOMIZER: return SLH_BAD_RANDOMIZER_LENGTH;
     case SCRATCH:
     case OUT: return SLH_BAD_OUTPUT_LENGTH;
@@ -329,6 +346,126 @@ static void round_trip(const struct call *signing, const struct call *verifying,
     for (int it = 0; it < ARGUMENTS; it++) free(blocks[it]);
 }
 
+/* The front as FIPS 205, section 11.2, and Algorithm 24 have it: R, the public key, 0, the length of the context and
+   the context. Of a signature shorter than R it has just the length. */
+static struct bytes wanted_front(const struct given *given) {
+    size_t n = given->of[RANDOMIZER].len, len = given->of[CTX].len;
+    struct bytes made = painted(3 * n + 2 + len);
+    if (given->of[SIG].len < n) return made;
+    memcpy(made.at, given->of[SIG].at, n);
+    memcpy(made.at + n, given->of[PK].at, 2 * n);
+    made.at[3 * n] = 0;
+    made.at[3 * n + 1] = (uint8_t)len;
+    if (len > 0) memcpy(made.at + 3 * n + 2, given->of[CTX].at, len);
+    return made;
+}
+
+/* What the two calls say of a message, by the hash of their front and the message: by SHA-256 for n = 16, else by
+   SHA-512. */
+static uint32_t by_pieces(const struct given *good) {
+    struct given given = *good;
+    unsigned bits = given.of[RANDOMIZER].len == 16 ? 32 : 64;
+    struct bytes wanted = wanted_front(good), text = painted(wanted.len + given.of[MSG].len);
+    uint64_t state[8];
+    given.of[OUT] = painted(wanted.len);
+    given.of[HASH] = painted(bits);
+    uint32_t result = verify_front(&given);
+    if (result == SLH_DONE) {
+        expect(memcmp(given.of[OUT].at, wanted.at, wanted.len) == 0, "bytes", "verify_front", good->set, wanted.len);
+        memcpy(text.at, given.of[OUT].at, wanted.len);
+        if (given.of[MSG].len > 0) memcpy(text.at + wanted.len, given.of[MSG].at, given.of[MSG].len);
+        sha2_first(state, bits);
+        sha2_end(state, bits, text.at, text.len, text.len, given.of[HASH].at);
+        result = verify_hashed(&given);
+    } else
+        expect(is_painted(given.of[OUT]), "unchanged", "verify_front", good->set, wanted.len);
+    struct bytes made[] = {wanted, text, given.of[OUT], given.of[HASH]};
+    for (size_t i = 0; i < sizeof made / sizeof made[0]; i++) free(made[i].at);
+    return result;
+}
+
+/* The two calls say what slh_verify says: of this message, context, signature and key, where one bit of one of them is
+   another, and where one of the first three has another length. */
+static void pieces_as_whole(const struct given *good) {
+    static const enum argument changed[] = {MSG, CTX, SIG, PK};
+    const size_t lens[] = {0, 1, 8, 9, 10, 100, 255, 256, good->of[SIG].len - 1, good->of[SIG].len + 1};
+    expect(verify(good) == SLH_DONE && by_pieces(good) == SLH_DONE, "valid", "verify_hashed", good->set, 0);
+    for (size_t i = 0; i < sizeof changed / sizeof changed[0]; i++) {
+        struct given given = *good;
+        struct bytes own = good->of[changed[i]];
+        const size_t places[] = {0, own.len / 2, own.len - 1};
+        given.of[changed[i]] = copy(own, own.len);
+        for (size_t at = 0; at < 3; at++) {
+            given.of[changed[i]].at[places[at]] ^= 1;
+            expect(verify(&given) == SLH_INVALID && by_pieces(&given) == SLH_INVALID, "another bit", "verify_hashed",
+                   good->set, i);
+            given.of[changed[i]].at[places[at]] ^= 1;
+        }
+        for (size_t l = 0; changed[i] != PK && l < sizeof lens / sizeof lens[0]; l++) {
+            free(given.of[changed[i]].at);
+            given.of[changed[i]] = copy(own, lens[l]);
+            uint32_t wanted = lens[l] == own.len ? SLH_DONE : SLH_INVALID;
+            expect(verify(&given) == wanted && by_pieces(&given) == wanted, "another length", "verify_hashed",
+                   good->set, lens[l]);
+        }
+        free(given.of[changed[i]].at);
+    }
+}
+
+/* The refusals of both calls, each and in their order: a set, then the key, then the front or the hash; and what is
+   invalid after them. */
+static void pieces_refused(const struct given *good) {
+    struct given given = *good;
+    given.of[OUT] = wanted_front(good);
+    size_t front = given.of[OUT].len, sig = good->of[SIG].len, hash = good->of[HASH].len;
+    const size_t fronts_of[] = {0, 1, front - 1, front + 1, front + 256};
+    const size_t hashes_of[] = {0, hash - 1, hash + 1, 96 - hash};
+    for (size_t i = 0; i < sizeof fronts_of / sizeof fronts_of[0]; i++)
+        expect_result(&fronts, &given, OUT, fronts_of[i], SLH_BAD_OUTPUT_LENGTH, "a front of another length");
+    for (size_t i = 0; i < sizeof hashes_of / sizeof hashes_of[0]; i++)
+        expect_result(&hashes, &given, HASH, hashes_of[i], SLH_BAD_DIGEST_LENGTH, "a hash of another length");
+    expect_result(&hashes, &given, ARGUMENTS, 0, SLH_INVALID, "another hash");
+    expect_result(&fronts, &given, CTX, 8, SLH_BAD_OUTPUT_LENGTH, "a shorter context than the front's");
+    const struct call *both[] = {&fronts, &hashes};
+    for (int i = 0; i < 2; i++) {
+        expect_result(both[i], &given, PK, good->of[PK].len - 1, SLH_BAD_LENGTH, "a shorter key");
+        expect_result(both[i], &given, PK, good->of[PK].len + 1, SLH_BAD_LENGTH, "a longer key");
+        expect_result(both[i], &given, PK, 0, SLH_BAD_LENGTH, "no key");
+        expect_result(both[i], &given, SIG, sig - 1, SLH_INVALID, "a shorter signature");
+        expect_result(both[i], &given, SIG, sig + 1, SLH_INVALID, "a longer signature");
+        expect_result(both[i], &given, SIG, 1, SLH_INVALID, "a signature shorter than R");
+        expect_result(both[i], &given, SIG, 0, SLH_INVALID, "no signature");
+        other_numbers(both[i], &given);
+
+        struct given wrong = given;
+        enum argument last = both[i] == &fronts ? OUT : HASH;
+        wrong.set = 0, wrong.of[PK].len--, wrong.of[SIG].len--, wrong.of[last].len--;
+        expect_result(both[i], &wrong, ARGUMENTS, 0, SLH_NO_SUCH_SET, "first refusal");
+        wrong.set = good->set;
+        expect_result(both[i], &wrong, ARGUMENTS, 0, SLH_BAD_LENGTH, "second refusal");
+        wrong.of[PK].len++;
+        expect_result(both[i], &wrong, ARGUMENTS, 0, last == OUT ? SLH_BAD_OUTPUT_LENGTH : SLH_BAD_DIGEST_LENGTH,
+                      "third refusal");
+        wrong.of[last].len++;
+        expect_result(both[i], &wrong, ARGUMENTS, 0, SLH_INVALID, "last");
+    }
+    free(given.of[OUT].at);
+}
+
+/* The longest context and none, for the fast sets: signed and found valid. */
+static void pieces_under_contexts(const struct given *good) {
+    const size_t lens[] = {255, 0};
+    for (size_t i = 0; i < 2; i++) {
+        struct given given = *good;
+        given.of[CTX] = copy(good->of[CTX], lens[i]);
+        given.of[OUT] = given.of[SIG] = painted(good->of[SIG].len);
+        expect(sign(&given) == SLH_DONE && verify(&given) == SLH_DONE && by_pieces(&given) == SLH_DONE, "a context",
+               "verify_hashed", good->set, lens[i]);
+        free(given.of[CTX].at);
+        free(given.of[SIG].at);
+    }
+}
+
 /* A call that signs two times writes the bytes of the call that signs once. */
 static void twice_is_once(const struct given *good) {
     uint32_t (*const pairs[][2])(const struct given *) = {
@@ -356,14 +493,18 @@ static void set_by_set(void) {
         for (int i = 0; i < CALLS; i++) {
             const struct call *call = &calls[i];
             good.of[OUT] = good.of[call->writes == OUT ? SIG : call->writes];
-            if (call->writes == SIG && call[1].takes & A(SIG) && (is_fast(set) || i == 3))
+            if (call->writes == SIG && call[1].takes & A(SIG) && (is_fast(set) || i == PURE))
                 round_trip(call, call + 1, &good);
-            else if (call->writes == OUT && call->takes & A(SIG) && !is_fast(set) && i != 4)
+            else if (call->writes == OUT && call->takes & A(SIG) && !is_fast(set) && i != PURE + 1)
                 continue; /* there is no signature of this form */
             other_lengths(call, &good);
             other_contexts(call, &good);
             other_numbers(call, &good);
             order(call, &good);
+            if (i != PURE) continue;
+            pieces_as_whole(&good);
+            pieces_refused(&good);
+            if (is_fast(set)) pieces_under_contexts(&good);
         }
         drop(good);
     }

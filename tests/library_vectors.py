@@ -21,7 +21,9 @@ Of each test the calls must do what the file states:
   pure and the pre-hash forms also the calls for jobs, the last job first, under two cuttings; the start and each answer
   have the tag that Python's hmac gives;
 - verify: the call of the test's form is done where `valid` is true, and else invalid. With a pre-hash function both. In
-  the pure form, and by the digest, the hardened call has the same verdict; through a program under the s sets alone;
+  the pure form, and by the digest, the hardened call has the same verdict; through a program under the s sets alone. In
+  the pure form slh_verify_front writes the bytes that FIPS 205 hashes before the message, and slh_verify_hashed has the
+  same verdict by Python's hash of these and the message;
 - a row of more.tsv: the key has the row's PK.root. The signature, where there is one, has the row's SHA-256. It is
   valid, and with the row's bit flipped invalid.
 
@@ -285,12 +287,31 @@ def other_encodings_are_refused(jobs):
     return well and jobs.join()[0] == DONE
 
 
+def by_own_hash(test, key, signature):
+    """The verdict on a signature of the pure form by Python's hash of the front and the message in pieces of 64 bytes,
+    or what slh_verify_front returns if it writes nothing. None if the front is not the standard's."""
+    number, n = SETS.index(test["set"]) + 1, len(key) // 2
+    message, context = bytes.fromhex(test["message"]), bytes.fromhex(test["context"])
+    front = painted(3 * n + 2 + len(context))
+    begun, wanted = call("slh_verify_front", number, key, context, signature, front), painted(len(front)).raw
+    if begun == DONE:
+        wanted = signature[:n] + key + bytes([0, len(context)]) + context
+    if front.raw != wanted:
+        return None
+    state = (hashlib.sha256 if n == 16 else hashlib.sha512)(front.raw)
+    for at in range(0, len(message), 64):
+        state.update(message[at : at + 64])
+    return begun if begun != DONE else call("slh_verify_hashed", number, key, state.digest(), signature)
+
+
 def verify_passes(test):
     wanted = DONE if test["valid"] else INVALID
     signature = bytes.fromhex(test["signature"])
     made = calls(test, "verify", bytes.fromhex(test["pk"]), signature)
     well = all(call(*it) == wanted for it in made)
     name, *arguments = made[-1]
+    if test["form"] == "pure" and not verify_only:
+        well &= by_own_hash(test, bytes.fromhex(test["pk"]), signature) == wanted
     if test["form"] == "internal" or (is_through and not test["set"].endswith("s")):
         return well
     return well and call(f"{name}_hardened", *arguments) == HARDENED[test["valid"]]

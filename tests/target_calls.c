@@ -100,6 +100,8 @@ static uint32_t run(const char *call) {
     CALL(slh_sign_twice, N(0), B(1), B(2), B(3), B(4), B(5), B(6));
     CALL(slh_hash_sign_twice, N(0), N(1), B(2), B(3), B(4), B(5), B(6), B(7));
     CALL(slh_hash_sign_digest_twice, N(0), N(1), B(2), B(3), B(4), B(5), B(6), B(7));
+    CALL(slh_verify_front, N(0), B(1), B(2), B(3), B(4));
+    CALL(slh_verify_hashed, N(0), B(1), B(2), B(3));
     CALL(slh_sign_internal, N(0), B(1), B(2), B(3), B(4));
     CALL(slh_verify_internal, N(0), B(1), B(2), B(3));
     CALL(slh_sign_jobs, N(0), N(1), N(2), W(3), S(4), S(5));

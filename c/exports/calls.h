@@ -99,6 +99,14 @@ OPEN(hash_verify_digest_hardened,
      (uint32_t set, uint32_t function, const uint8_t *pk, size_t pk_len, const uint8_t *digest, size_t digest_len,
       const uint8_t *ctx, size_t ctx_len, const uint8_t *sig, size_t sig_len),
      (set, function, pk, pk_len, digest, digest_len, ctx, ctx_len, sig, sig_len))
+OPEN(verify_front,
+     (uint32_t set, const uint8_t *pk, size_t pk_len, const uint8_t *ctx, size_t ctx_len, const uint8_t *sig,
+      size_t sig_len, uint8_t *front, size_t front_len),
+     (set, pk, pk_len, ctx, ctx_len, sig, sig_len, front, front_len))
+OPEN(verify_hashed,
+     (uint32_t set, const uint8_t *pk, size_t pk_len, const uint8_t *hash, size_t hash_len, const uint8_t *sig,
+      size_t sig_len),
+     (set, pk, pk_len, hash, hash_len, sig, sig_len))
 OPEN(verify_internal,
      (uint32_t set, const uint8_t *pk, size_t pk_len, const uint8_t *msg, size_t msg_len, const uint8_t *sig,
       size_t sig_len),

@@ -18,7 +18,7 @@ const char *slh_refusal_text(uint32_t result) {
     case SLH_BAD_SEED_LENGTH:
         return "a seed does not have n bytes";
     case SLH_BAD_DIGEST_LENGTH:
-        return "the digest does not have the length of the pre-hash function's digests";
+        return "the digest does not have the length of its hash function's digests";
     case SLH_BAD_RANDOMIZER_LENGTH:
         return "the randomizer has neither 0 nor n bytes";
     case SLH_BAD_OUTPUT_LENGTH:

@@ -81,6 +81,20 @@ uint32_t slh_hash_sign_twice(uint32_t set, uint32_t function, const uint8_t *sk,
     return result;
 }
 
+uint32_t slh_verify_front(uint32_t set, const uint8_t *pk, size_t pk_len, const uint8_t *ctx, size_t ctx_len,
+                          const uint8_t *sig, size_t sig_len, uint8_t *front, size_t front_len) {
+    struct part parts[] = {READ(pk), READ(ctx), READ(sig), WRITE(front)};
+    RUN(verify_front, set, B(0), B(1), B(2), B(3));
+    return result;
+}
+
+uint32_t slh_verify_hashed(uint32_t set, const uint8_t *pk, size_t pk_len, const uint8_t *hash, size_t hash_len,
+                           const uint8_t *sig, size_t sig_len) {
+    struct part parts[] = {READ(pk), READ(hash), READ(sig)};
+    RUN(verify_hashed, set, B(0), B(1), B(2));
+    return result;
+}
+
 uint32_t slh_sign_internal(uint32_t set, const uint8_t *sk, size_t sk_len, const uint8_t *msg, size_t msg_len,
                            const uint8_t *randomizer, size_t randomizer_len, uint8_t *sig, size_t sig_len) {
     struct part parts[] = {READ(sk), READ(msg), READ(randomizer), WRITE(sig)};

@@ -1,3 +1,4 @@
 pub mod Begun
+mod Hashed
 mod Judged
 mod Numbered

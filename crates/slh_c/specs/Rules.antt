@@ -3,6 +3,8 @@ use Rattle.std.specs.Prelude.{⊤, ◌≡◌, ℕ, ◌+◌, ◌*◌, ◌==◌, �
 use Rattle.slh_params.specs.Params.{pk_len, sk_len, sig_len}
 use Rattle.slh_params.specs.ParamSet.{params}
 use Rattle.slh_params.specs.declared.param_set.ParamSet.{ParamSet}
+use Rattle.slh_hash.specs.Keyed.{inner_hash_len}
+use Rattle.slh_core.specs.HashedMessages.{front_len}
 use Rattle.slh_core.specs.PreHash.{digest_len}
 use Rattle.slh_core.specs.declared.pre_hash.PreHash.{PreHash}
 use Rattle.slh_jobs.specs.Jobs.{jobs, len_of, answers_len}
@@ -57,6 +59,9 @@ seed set bytes = has_len bytes (params set).n BadSeedLength
 
 abbrev pub digest : PreHash → List ℕ → Rule
 digest function bytes = has_len bytes (digest_len function) BadDigestLength
+
+abbrev pub inner_hash : ParamSet → List ℕ → Rule
+inner_hash set bytes = has_len bytes (inner_hash_len (params set)) BadDigestLength
 
 -- none for the deterministic variant, or n
 abbrev pub randomizer : ParamSet → List ℕ → Rule
@@ -126,6 +131,13 @@ hash_verify_rules set function pk = in_set set (λ s. with_function function (λ
 abbrev pub hash_verify_digest_rules : ℕ → ℕ → List ℕ → List ℕ → List Rule
 hash_verify_digest_rules set function pk bytes =
     in_set set (λ s. with_function function (λ f. public s pk ∷ digest f bytes ∷ []))
+
+abbrev pub verify_front_rules : ℕ → List ℕ → List ℕ → List ℕ → List Rule
+verify_front_rules set pk ctx front =
+    in_set set (λ s. public s pk ∷ output (front_len (params s) ctx) front ∷ [])
+
+abbrev pub verify_hashed_rules : ℕ → List ℕ → List ℕ → List Rule
+verify_hashed_rules set pk bytes = in_set set (λ s. public s pk ∷ inner_hash s bytes ∷ [])
 
 abbrev pub name_rules : ℕ → List ℕ → List Rule
 name_rules asked out = numbered (refusal_numbered asked) NoSuchRefusal (λ refusal.

@@ -3,14 +3,15 @@
 //! declares the calls, with the duties of a caller.
 //!
 //! Each call tests its numbers and lengths in the order of its rules (`specs/Rules`), and returns the number of the
-//! first that is not met. Else it calls `slh_core` or `slh_jobs`, and returns `DONE` or `INVALID`, or that a start does
-//! not have its tag, that answers don't fit together or that two runs differ. The hardened calls return two numbers of
-//! their own.
+//! first rule that is not met. If all are met, it calls `slh_core` or `slh_jobs`. Then it returns `DONE` or `INVALID`.
+//! Three more numbers say that a start does not have its tag, that answers don't fit together, or that two runs differ.
+//! The hardened calls return two numbers of their own.
 #![tactic(auto)]
 
 mod cuttings;
 mod generation;
 mod hardened;
+mod hashed_message;
 mod internal_form;
 mod jobs;
 mod joining;

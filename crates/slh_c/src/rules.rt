@@ -5,7 +5,7 @@ ghost use Rattle.slh_c.specs.Rules.{first_refusal, AreMet};
 ghost use Rattle.slh_c.specs.Rules as rules;
 
 use crate::refusal::Refusal;
-use slh_core::PreHash;
+use slh_core::{PreHash, inner_hash_len};
 use slh_jobs::start_len;
 use slh_params::ParamSet;
 
@@ -52,6 +52,13 @@ pub(crate) fn digest(function: PreHash, bytes: &[u8]) -> Rule
     ensures { result ≡ rules.digest function bytes.now }
 {
     has_len(bytes, function.digest_len(), Refusal::BadDigestLength)
+}
+
+/// That an inner hash of H_msg has the length of the set's.
+pub(crate) fn inner_hash(set: ParamSet, bytes: &[u8]) -> Rule
+    ensures { result ≡ rules.inner_hash set bytes.now }
+{
+    has_len(bytes, inner_hash_len(set), Refusal::BadDigestLength)
 }
 
 /// That a context has at most 255 bytes.

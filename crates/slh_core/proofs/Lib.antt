@@ -5,3 +5,4 @@ pub mod Valid
 pub mod Names
 pub mod Assembled
 pub mod Verdicts
+pub mod Hashed

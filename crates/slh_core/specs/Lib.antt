@@ -8,6 +8,7 @@ pub mod PreHashing
 pub mod Messages
 pub mod Verifying
 pub mod Hardened
+pub mod HashedMessages
 -- cited by public clauses
 pub use Rattle.slh_params.specs.Params
 pub use Rattle.slh_params.specs.ParamSet

@@ -12,6 +12,7 @@ pub use generation::{check_pair, keygen_internal};
 pub use hardened::{
     HARDENED_INVALID, HARDENED_VALID, hash_verify_digest_hardened, verify_hardened,
 };
+pub use hashed_message::{front_len, verify_front, verify_hashed};
 pub use message_digest::MessageDigest;
 pub use pre_hash::PreHash;
 pub use pre_hash_form::{hash_sign, hash_sign_digest, hash_verify, hash_verify_digest};
@@ -22,6 +23,7 @@ pub use random::{FromRng, RandomBytes, SourceFault, keygen};
 pub use randomizer::Randomizer;
 pub use secret_key::SecretKey;
 pub use signing::sign_internal;
+pub use slh_hash::inner_hash_len;
 pub use slh_params::ParamSet;
 pub use verifier::Verifier;
 pub use verifying::verify_internal;
@@ -41,6 +43,7 @@ mod form;
 mod formatted_message;
 mod generation;
 mod hardened;
+mod hashed_message;
 mod layout;
 mod message_digest;
 mod pre_hash;

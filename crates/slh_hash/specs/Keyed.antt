@@ -48,7 +48,18 @@ PRF_msg p sk_prf opt_rand msg = take p.n (hmac (category_function p) sk_prf (opt
 abbrev pub h_msg_seed : HashFunction → List ℕ → List ℕ → List ℕ → List ℕ → List ℕ
 h_msg_seed f r pk_seed pk_root msg = r ++ pk_seed ++ f.hash (r ++ pk_seed ++ pk_root ++ msg)
 
+-- the inner hash of H_msg: Hash(R ‖ PK.seed ‖ PK.root ‖ M)
+abbrev pub inner_hash : Params → List ℕ → List ℕ → List ℕ → List ℕ → List ℕ
+inner_hash p r pk_seed pk_root msg = (category_function p).hash (r ++ pk_seed ++ pk_root ++ msg)
+
+-- the length of an inner hash: 32 bytes if n is 16, else 64
+abbrev pub inner_hash_len : Params → ℕ
+inner_hash_len p = (category_function p).size
+
+-- H_msg by an inner hash: MGF1 of R ‖ PK.seed ‖ hash, of m bytes
+abbrev pub H_msg_by_hash : Params → List ℕ → List ℕ → List ℕ → List ℕ
+H_msg_by_hash p r pk_seed hash = mgf1 (category_function p) (r ++ pk_seed ++ hash) (m p)
+
 -- H_msg, of m bytes
 unfoldable pub H_msg : Params → List ℕ → List ℕ → List ℕ → List ℕ → List ℕ
-H_msg p r pk_seed pk_root msg =
-    mgf1 (category_function p) (h_msg_seed (category_function p) r pk_seed pk_root msg) (m p)
+H_msg p r pk_seed pk_root msg = H_msg_by_hash p r pk_seed (inner_hash p r pk_seed pk_root msg)

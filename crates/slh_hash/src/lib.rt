@@ -3,7 +3,7 @@
 
 pub use category_hmac::CategoryHmac;
 pub use hmac::{hmac_sha256, hmac_sha512};
-pub use message::{HMsg, h_msg, prf_msg};
+pub use message::{HMsg, h_msg, h_msg_by_hash, inner_hash_len, prf_msg};
 pub use mgf1::{mgf1_sha256, mgf1_sha512};
 pub use seeded_hash::SeededHash;
 pub use t_stream::{SeededTreeHash, TStream};

@@ -1,13 +1,14 @@
 //! The message hashes PRF_msg and H_msg (FIPS 205, section 11.2).
 ghost use Rattle.std.specs.Prelude.{◌≡◌, ◌≤◌, ◌^◌, ◌++◌, ℕ, List, [], length};
 ghost use Rattle.slh_hash.specs.HashFunctions.{category_function};
-ghost use Rattle.slh_hash.specs.Keyed.{joined, mgf1, PRF_msg, h_msg_seed, H_msg};
+ghost use Rattle.slh_hash.specs.Keyed.{joined, mgf1, PRF_msg, h_msg_seed, inner_hash_len, H_msg_by_hash, H_msg};
 ghost use Rattle.slh_hash.specs.Stream.{HasMessage};
 ghost use Rattle.slh_params.specs.Params.{Params, m};
 ghost use Rattle.slh_params.specs.ParamSet.{params};
 
 use crate::category_hasher::CategoryHasher;
 use crate::category_hmac::CategoryHmac;
+use crate::mgf1::{mgf1_sha256, mgf1_sha512};
 use slh_params::{Node, ParamSet};
 
 /// PRF_msg (FIPS 205, section 11.2): R of a message, whose bytes are the parts put end to end.
@@ -83,4 +84,25 @@ pub fn h_msg(
         hash.update(part);
     }
     hash.finish(out);
+}
+
+/// The length of the inner hash of H_msg (section 11.2): 32 bytes of SHA-256 if n is 16, else 64 of SHA-512.
+pub fn inner_hash_len(set: ParamSet) -> usize
+    ensures { result ≡ inner_hash_len (params set) }
+{
+    if set.n() == 16 { 32 } else { 64 }
+}
+
+/// H_msg (section 11.2) by its inner hash, which is the hash of R, PK.seed, PK.root and the message put end to end.
+/// `out` has m bytes.
+#[tactic(auto, using(slh_params::proofs::Bounds::m_high))]
+pub fn h_msg_by_hash(set: ParamSet, r: &[u8], pk_seed: &[u8], hash: &[u8], out: &mut [u8])
+    requires { length out.old ≡ m (params set) }
+    ensures { out.new ≡ H_msg_by_hash (params set) r.now pk_seed.now hash.now }
+{
+    if set.n() == 16 {
+        mgf1_sha256(&[r, pk_seed, hash], out);
+    } else {
+        mgf1_sha512(&[r, pk_seed, hash], out);
+    }
 }

@@ -14,7 +14,7 @@
 use core::ffi::{c_char, c_void};
 
 /// `slh_version` of the version that these declarations are of.
-pub const SLH_VERSION_NUMBER: u32 = 11_001;
+pub const SLH_VERSION_NUMBER: u32 = 12_000;
 
 /// The number of the set SLH-DSA-SHA2-128s.
 pub const SLH_DSA_SHA2_128S: u32 = 1;
@@ -158,6 +158,31 @@ extern "C" {
         randomizer: *const u8,
         randomizer_len: usize,
         sig: *mut u8,
+        sig_len: usize,
+    ) -> u32;
+    /// Writes what is hashed before a message of the pure form: R, PK.seed, PK.root, 0, the context's length and the
+    /// context (section 11.2). The result does not say that the signature is valid.
+    #[must_use]
+    pub fn slh_verify_front(
+        set: u32,
+        pk: *const u8,
+        pk_len: usize,
+        ctx: *const u8,
+        ctx_len: usize,
+        sig: *const u8,
+        sig_len: usize,
+        front: *mut u8,
+        front_len: usize,
+    ) -> u32;
+    /// Verifies in the pure form by the caller's hash of the front and the message (Algorithm 24 after this hash).
+    #[must_use]
+    pub fn slh_verify_hashed(
+        set: u32,
+        pk: *const u8,
+        pk_len: usize,
+        hash: *const u8,
+        hash_len: usize,
+        sig: *const u8,
         sig_len: usize,
     ) -> u32;
     /// Signs in the pure form two times, and compares (Algorithm 22). `scratch` has room for two signatures.
