@@ -51,7 +51,7 @@ jobs_of jobs (Draw n ∷ xs) = if nat_lt n jobs then n ∷ jobs_of jobs xs else 
 jobs_of jobs (Look b ∷ xs) = jobs_of jobs xs
 jobs_of jobs (Stop ∷ xs) = jobs_of jobs xs
 
--- the seats' exchanges are in one legal history, in which each seat's list is the jobs of its draws, in the order that
--- it made them
+-- One legal history holds the exchanges of all seats. The jobs that a seat drew there, in their order, are the list
+-- that the seat keeps.
 abbrev pub OneHistory : ℕ → List SeatState → Type 0
 OneHistory jobs seats = (h : List Event) × IsLegal opened h × All (λ e. e.seat < length seats) h × ((i : ℕ) (s : SeatState) → slice_get seats i ≡ Some s → jobs_of jobs (own i h) ≡ s.drawn)

@@ -20,8 +20,8 @@ pub fn verdicts_have_numbers()
     ensures invalid { HARDENED_INVALID ≡ 2089932927 }
 {}
 
-/// The hardened verdict on a signature of a message under a context: `HARDENED_VALID` if and only if `slh_verify` returns
-/// `DONE`, and else `HARDENED_INVALID`, also where that refuses its arguments.
+/// The hardened verdict on a signature of a message under a context. It is `HARDENED_VALID` if and only if `slh_verify`
+/// returns `DONE`. Otherwise it is `HARDENED_INVALID`, also if `slh_verify` refuses the arguments.
 #[unsafe(no_mangle)]
 pub extern "C" fn slh_verify_hardened(
     set: u32,
@@ -44,8 +44,9 @@ pub extern "C" fn slh_verify_hardened(
     verify_hardened(msg, ctx, sig, &pk)
 }
 
-/// The hardened verdict on a signature of a message by the digest that the caller has computed: `HARDENED_VALID` if and
-/// only if `slh_hash_verify_digest` returns `DONE`, and else `HARDENED_INVALID`, also where that refuses its arguments.
+/// The hardened verdict on a signature of a message, by the digest that the caller has computed. It is `HARDENED_VALID`
+/// if and only if `slh_hash_verify_digest` returns `DONE`. Otherwise it is `HARDENED_INVALID`, also if
+/// `slh_hash_verify_digest` refuses the arguments.
 #[unsafe(no_mangle)]
 pub extern "C" fn slh_hash_verify_digest_hardened(
     set: u32,

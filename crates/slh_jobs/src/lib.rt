@@ -2,10 +2,11 @@
 //! calls are pure functions of bytes, take no memory and start nothing.
 //!
 //! The trees of a signature are cut into ranges of one size, each of which is a job. `sign_start` makes R and the
-//! digest of the message; `sign_job` writes the answer of one job, in any order and in any thread; `sign_join` makes
-//! the signature of the answers of all jobs, put end to end. A start that was not made under the key is refused, and so
-//! are answers that don't fit together. The layout of an answer may be another in the next version of this library. An
-//! answer has values of one-time keys: protect it as the secret key.
+//! digest of the message. `sign_job` writes the answer of one job. The jobs may be done in any order and in any thread.
+//! `sign_join` makes the signature from the answers of all jobs, put end to end.
+//!
+//! These calls refuse a start that was not made under the key, and answers that don't fit together. An answer has
+//! values of one-time keys: protect it as the secret key. The layout of answers may change in the next version.
 #![tactic(auto, using(slh_params::proofs::Bounds::bounds))]
 
 mod all_answers;

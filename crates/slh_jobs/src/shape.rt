@@ -7,8 +7,8 @@ ghost use Rattle.slh_jobs.specs.declared.shape.TheConstants.{MOST_ANSWER_LEN, MO
 /// No path is longer than 14 nodes of 32 bytes.
 const MOST_PATH_LEN: usize = 14 * 32;
 
-/// No answer has more beside a node and its tag. A key has at most 133 chains, each with at most 16 checkpoints of 32
-/// bytes. A path has fewer bytes than the checkpoints of one chain.
+/// At least the length of an answer without its node and its tag. A key has at most 133 chains, each with at most 16
+/// checkpoints of 32 bytes. A path has fewer bytes than the checkpoints of one chain.
 pub(crate) const MOST_OWN_LEN: usize = (133 + 1) * 16 * 32;
 
 /// No answer is longer.

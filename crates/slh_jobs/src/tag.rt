@@ -1,5 +1,5 @@
-//! Tags (ours): values of HMAC by which a start, or a node of an answer, is refused if it was made under another key,
-//! for another set, message or job, or changed since.
+//! Tags (ours). A tag is the HMAC of a start, or of a node of an answer. By it a call refuses one that was made under
+//! another key, or for another set, message or job, or that was changed since.
 ghost use Rattle.std.specs.Prelude.{◌≡◌, ◌↔◌, ℕ, List, [], ◌∷◌, ◌*◌, ◌^◌, ◌+◌, ◌<◌, ◌≤◌, IsTrue, IsSome, IfSome, length};
 ghost use Rattle.slh_params.specs.Params.{Params};
 ghost use Rattle.slh_params.specs.ParamSet.{params};

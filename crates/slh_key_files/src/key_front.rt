@@ -14,7 +14,8 @@ const MOST: usize = 512;
 /// on them.
 ///
 /// A file of over 512 bytes is not a key file. Its fault depends only on its first 512 bytes and on the first one after
-/// them that is not a hexadecimal digit. So no more than 513 bytes are held.
+/// them that is not a hexadecimal digit. So no more than 513 bytes are held. The call fails if the allocator refuses
+/// memory.
 pub fn push_key_bytes<A: Allocator>(front: &mut Vec<u8, A>, part: &[u8]) -> Result<(), AllocError>
     requires front { IsKeyFront front.old.items }
     ensures front { OnOk result (IsKeyFront front.new.items) }

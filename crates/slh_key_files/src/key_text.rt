@@ -16,7 +16,8 @@ use slh_core::{PublicKey, SecretKey};
 use slh_params::ParamSet;
 use std::alloc::{AllocError, Allocator};
 
-/// The key file of a public key, of version 2. `read_public` and `read_key` give the key back.
+/// The key file of a public key, of version 2. `read_public` and `read_key` give the key back. Refused with NoMemory if
+/// the allocator refuses memory, and only then.
 pub fn write_public<A: Allocator + Clone>(alloc: A, key: &PublicKey) -> Result<String<A>, FileFault>
     ensures written { IfOk result (λ text. string_bytes text ≡ key_text Public key.now) }
     ensures read_back { IfOk result (λ text. key_file Public (string_bytes text) ≡ Ok key.now) }
@@ -26,7 +27,8 @@ pub fn write_public<A: Allocator + Clone>(alloc: A, key: &PublicKey) -> Result<S
     Ok(key_text(alloc, KeyKind::Public, key.set(), key.bytes())?)
 }
 
-/// The key file of a secret key, of version 2. `read_secret` and `read_key` give the key back.
+/// The key file of a secret key, of version 2. `read_secret` and `read_key` give the key back. Refused with NoMemory if
+/// the allocator refuses memory, and only then.
 pub fn write_secret<A: Allocator + Clone>(alloc: A, key: &SecretKey) -> Result<String<A>, FileFault>
     ensures written { IfOk result (λ text. string_bytes text ≡ key_text Secret key.now) }
     ensures read_back { IfOk result (λ text. key_file Secret (string_bytes text) ≡ Ok key.now) }

@@ -2,7 +2,7 @@
 ghost use Rattle.std.specs.Prelude.{◌≡◌};
 ghost use Rattle.slh_params.specs.AdrsType.{type_number};
 
-/// The type of an address: what the hash call is for (FIPS 205, section 4.2, Table 1).
+/// The type of an address: what the hash call is for (FIPS 205, section 4.2).
 #[derive(Clone, Copy, PartialEq, Eq, Debug)]
 pub enum AdrsType {
     /// A step of a WOTS+ chain.

@@ -1,4 +1,4 @@
-//! The answer of a job: the cover, path nodes and checkpoints of a range of leaves (ours).
+//! The cover of a range of leaves, and its nodes of the signing leaf's path (ours).
 
 use slh_tree::{Cover, PathRec};
 
