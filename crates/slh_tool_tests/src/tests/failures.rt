@@ -1,8 +1,9 @@
 //! Files and outputs that fail, and a file that never ends.
 use super::devices::{Folder, Full, WithEndlessFile};
 use super::fixtures::{PUBLIC, SECRET, SIGN, SIGN_HASHED, VERIFY, VERIFY_HASHED};
+use super::own_files::{Counts, OwnFiles, PLAIN, Ways};
 use super::{equal, run_over, run_to};
-use slh_io::Reader;
+use slh_io::{FetchFault, Opener, Reader, Sink, Source, WriteFault, Writer};
 use std::process::Abort;
 use std::test::Fail;
 use std::thread::Threads;
@@ -102,6 +103,43 @@ fn reads_a_message_by_pieces_up_to_the_limit(rt: HostRuntime) -> Result<(), Fail
             &b"slh: 36 FileTooLong\n".as_slice(),
         );
         equal(&rt, &answer.status, &2);
+    }
+    Ok(())
+}
+
+#[test]
+fn a_reader_counts_each_failure_once(rt: HostRuntime) -> Result<(), Fail> {
+    let counts = Counts::new();
+    let own = OwnFiles {
+        files: &[("abc", b"abc".as_slice())],
+        ways: Ways {
+            fails_at: 1,
+            ..PLAIN
+        },
+        counts: &counts,
+    };
+    let mut reader = Reader::new((&own).open("abc")?);
+    let mut room = [0; 3];
+    equal(&rt, &reader.take(&mut room), &Err(FetchFault));
+    equal(&rt, &reader.failures, &1);
+    equal(&rt, &reader.take(&mut room), &Ok(3));
+    equal(&rt, &reader.failures, &1);
+    Ok(())
+}
+
+/// Each write to a file fails.
+#[test]
+fn a_writer_counts_each_failure_once(rt: HostRuntime) -> Result<(), Fail> {
+    let counts = Counts::new();
+    let own = OwnFiles {
+        files: &[("abc", b"abc".as_slice())],
+        ways: PLAIN,
+        counts: &counts,
+    };
+    let mut writer = Writer::new((&own).open("abc")?);
+    for failures in [1, 2] {
+        equal(&rt, &writer.put(b"abc"), &Err(WriteFault));
+        equal(&rt, &writer.failures, &failures);
     }
     Ok(())
 }
