@@ -83,6 +83,7 @@ all_calls() {
         "hash_verify_digest n2 n2 $pk $pk b $sig" "sign_twice n2 $sk b00 b b $sig $sig" \
         "verify_hardened n2 $pk b00 b $sig" "hash_verify_digest_hardened n2 n2 $pk $pk b $sig" \
         "hash_sign_twice n2 n2 $sk b00 b b $sig $sig" "hash_sign_digest_twice n2 n2 $sk $pk b b $sig $sig" \
+        "verify_front n2 $pk b $sig b$(printf '%0100d' 5)" "verify_hashed n2 $pk $pk $sig" \
         "sign_internal n2 $sk b00 b $sig" "verify_internal n2 $pk b00 $sig" \
         "sign_jobs n2 n1 n1 p00 p01 p02" "answer_place n2 n1 n1 n0 p00 p01" "sign_start n2 $sk b00 b b $out" \
         "hash_sign_start n2 n2 $sk b00 b b $out" "sign_job n2 n1 n1 $sk $out n0 $out" \
@@ -291,6 +292,7 @@ if [ $few = yes ]; then
     end_counts
     exit
 fi
+can_run "portable.py" python3 && count "what portable.py takes and refuses" "$here/tests/portable_text_tests.py"
 here_too
 draw "the machine of slh.c" clang ARM RISC-V s390x Windows
 for machine in "${drawn[@]}"; do

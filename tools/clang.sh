@@ -60,7 +60,7 @@ sed "/^define .*@\"slh_width::build_widths\"() /,/^}/ {
     refuse "slh_width::build_widths is not in the module, or not as it was"
 if [ $size = small ]; then
     mv "$module.ll" "$module.fast" && sed -E -f "$here/for_size.sed" "$module.fast" >"$module.ll"
-    [ "$(grep -c '^define .* nounwind noinline optsize {$' "$module.ll")" = 4 ] &&
+    [ "$(grep -c '^define .* nounwind noinline optsize {$' "$module.ll")" = 7 ] &&
         [ "$(grep '^define ' "$module.ll" | grep -vc ' optsize {$')" = 3 ] ||
         refuse "the module does not have the functions that for_size.sed names, once each"
 fi

@@ -62,13 +62,16 @@ OTHERS = {
     "wasm64": ["slh.wasm"],
 }
 IN_README = [(r"\(N KB; N KB\s+for\s+verifying\s+alone\)", ["lib/libslh.a", "lib/libslh_verify.a"])]
-SPREAD = r"`slh_keygen`\s+by\s+N,\s+`slh_sign`\s+by\s+N\s+and\s+`slh_sign_job`\s+by\s+N"
-# The boards with pointers of 32 bits, and how tests/board.sh runs a program for one; riscv32imac is run by itself.
+SPREAD = r"`slh_keygen`\s+varies\s+by\s+N,\s+`slh_sign`\s+by\s+N,\s+`slh_sign_job`\s+by\s+N"
+# The boards with pointers of 32 bits, and how tests/board.sh runs a program for one; none counts RISC-V's instructions.
 BOARDS = {"thumbv7em": [], "thumbv6m": ["--m0"], "riscv32imac": None}
+# How a program for a board is linked and run by itself: the processor, the emulator, and where flash and memory are.
+CORTEX = {"thumbv7em": ("cortex-m4", ["-M", "mps2-an386"], "0", "4M"),
+          "thumbv6m": ("cortex-m0plus", ["-M", "netduinoplus2", "-cpu", "cortex-m0"], "0x08000000", "128K")}
 LINKERS = {"thumbv7em": ["arm-none-eabi-ld"], "riscv32imac": ["riscv64-linux-gnu-ld", "-m", "elf32lriscv"]}
 MEGAHERTZ = 64
 RISCV = ["riscv64-linux-gnu-gcc", "-march=rv32imac", "-mabi=ilp32", "-std=c11", "-O2", "-ffreestanding", "-fno-builtin",
-         "-nostdlib", "-static"]
+         "-nostdlib", "-static", "-DBARE"]
 TARGETS = ["x86-64", *LEVELS, *OTHERS, *BOARDS, "portable"]
 PORTABLE = ["slh.c", "slh_verify.c"]
 BOARD = ["flash", "stack", "memory"]
@@ -178,6 +181,19 @@ def kept_for(target, call, archive, work):
     return code_of("size", kept)
 
 
+def stack_of_cortex(target, archive, work):
+    """The line of tests/board_stack.c on an emulated Cortex-M."""
+    processor, machine, flash, memory = CORTEX[target]
+    script = (HERE / "examples/board.ld").read_text()
+    script = re.sub(r"ORIGIN = 0, LENGTH = \d+K", f"ORIGIN = {flash}, LENGTH = 1M", script)
+    (work / "stack.ld").write_text(script.replace("LENGTH = 64K", f"LENGTH = {memory}"))
+    run("arm-none-eabi-gcc", f"-mcpu={processor}", "-mthumb", "-Os", "-std=c11", "-nostartfiles", "-ffunction-sections",
+        "--specs=rdimon.specs", "-Wl,--gc-sections,--defsym=end=bss_end", "-T", work / "stack.ld", "-I",
+        HERE / "c/include", HERE / "tests/board_stack.c", HERE / "tests/board_calls.c", archive, "-o", work / "stack")
+    return run("qemu-system-arm", *machine, "-display", "none", "-serial", "none", "-monitor", "none",
+               "-semihosting-config", "enable=on,target=native", "-kernel", work / "stack")
+
+
 def board_facts(target, folder, work):
     """The code of a board's archives, and of the larger one the stack and the instructions under an emulator."""
     files = {name: next(folder.rglob(name)) for name in ("libslh_verify.a", "libslh_verify_128.a")}
@@ -188,11 +204,12 @@ def board_facts(target, folder, work):
     if how is not None and all(map(shutil.which, ("arm-none-eabi-gcc", "qemu-system-arm"))):
         try:
             said = run(HERE / "tests/board.sh", *how, HERE / "c/include", files["libslh_verify.a"])
+            said += stack_of_cortex(target, files["libslh_verify.a"], work)
         except subprocess.CalledProcessError as fault:
             if fault.returncode != 3:  # the emulator takes no such processor
                 raise
     elif how is None and all(map(shutil.which, (RISCV[0], "qemu-riscv32"))):
-        run(*RISCV, "-I", HERE / "c/include", HERE / "tests/bare_stack.c", files["libslh_verify.a"],
+        run(*RISCV, "-I", HERE / "c/include", HERE / "tests/board_stack.c", files["libslh_verify.a"],
             "-o", work / "bare")
         said = run("qemu-riscv32", work / "bare")
     facts |= {f"{target} {name}": int(number) for name, number in re.findall(r"^(\w+): (\d+)$", said, re.M)}

@@ -4,16 +4,17 @@
 usage: tools/portable.py MODULE SMALL FOLDER      writes FOLDER/slh.c of MODULE and FOLDER/slh_verify.c of SMALL
        tools/portable.py wasm2c                   where the program wasm2c is
 
-MODULE is the proved code as a WebAssembly module with a 64-bit memory and without vectors, as tools/target.sh makes it,
-and SMALL such a module of the calls that verify alone, compiled for size. wasm2c 1.0.36 of WABT writes them as C
+MODULE is the proved code as a WebAssembly module with a 64-bit memory and without vectors, as tools/target.sh makes it.
+SMALL has the calls that verify alone, compiled for size, and a 32-bit memory. wasm2c 1.0.36 of WABT writes them as C
 (WASM2C names another command). Of what it writes the functions alone are taken, under shorter names, and of those just
 what the calls of the file reach, and the constants. All else is in c/portable/, and is ours: what the functions do to
 memory (machine.h), how the calls hand their arguments over (parts.h, calls.c, verify_calls.c), and where the memory is
 from (taken_memory.c, fixed_memory.c).
 
 STACK_BYTES in the files is what the deepest path of calls takes of the module's stack: each function takes a constant
-number of bytes of it, none calls itself but those of NESTED, and no call goes through a pointer. That is looked at
-here, and where it is not so, or a function does what machine.h does not have, nothing is written.
+number of bytes of it, none calls itself but those of NESTED, and no call goes through a pointer. The files lay the
+arguments behind the constants, so the module may have nothing there. All this is looked at here. If it is not so, or if
+a function does what machine.h does not have, nothing is written.
 """
 import os
 import pathlib
@@ -127,12 +128,17 @@ def reached(found, names):
 
 
 # What a function does to the stack pointer: takes a number of bytes at its begin, gives them back; or reads it at its
-# begin, and writes what it was.
-TAKES = re.compile(r"(j\d+) = STACK_POINTER\(m\); (j\d+) = (\d+)ull; \1 -= \2; l\d+ = \1; STACK_POINTER\(m\) = \1;")
-GIVES = re.compile(r"(j\d+) = l\d+; (j\d+) = (\d+)ull; \1 \+= \2; STACK_POINTER\(m\) = \1;")
-READS = re.compile(r"(j\d+) = STACK_POINTER\(m\); (l\d+) = \1;")
+# begin, and writes what it was. A function that calls none may use bytes below it, and write nothing to it. Or it looks
+# alone whether there is stack left.
+TAKES = re.compile(r"([ij]\d+) = STACK_POINTER\(m\); ([ij]\d+) = (\d+)u(?:ll)?; \1 -= \2; l\d+ = \1; "
+                   r"STACK_POINTER\(m\) = \1;")
+GIVES = re.compile(r"([ij]\d+) = l\d+; ([ij]\d+) = (\d+)u(?:ll)?; \1 \+= \2; STACK_POINTER\(m\) = \1;")
+USES = re.compile(r"([ij]\d+) = STACK_POINTER\(m\); ([ij]\d+) = (\d+)u(?:ll)?; \1 -= \2; l\d+ = \1; (?!STACK_POINTER)")
+READS = re.compile(r"([ij]\d+) = STACK_POINTER\(m\); (l\d+) = \1;")
+LOOKS = re.compile(r"([ij]\d+) = STACK_POINTER\(m\); (?:l\d+ = \1; )?([ij]\d+) = \d+u(?:ll)?; i\d+ = "
+                   r"(?:\1 < \2|\(u64\)\(\(s64\)\1 < \(s64\)\2\)); if ")
 LOOP = re.compile(r"\b(?:var_)?L\d+:")
-KEEPS = re.compile(r"(j\d+) = (l\d+); STACK_POINTER\(m\) = \1;")
+KEEPS = re.compile(r"([ij]\d+) = (l\d+); STACK_POINTER\(m\) = \1;")
 
 
 def is_unchanged(local, body):
@@ -143,14 +149,25 @@ def is_unchanged(local, body):
     return sum(it < written for it in assigned) == 2 and (len(assigned) == 2 or not LOOP.search(body))
 
 
+def is_only_kept(local, body):
+    """Whether what was read into a local is used for nothing but to be written back, until the local has another value:
+    so no place below the stack pointer is made of it."""
+    begun = READS.search(body).end()
+    other = re.search(rf"\b{local} = ", body[begun:])
+    rest = KEEPS.sub("", body[begun : begun + other.start()] if other else body[begun:])
+    return not re.search(rf"\b{local}\b", rest)
+
+
 def frame(name, body):
     """The bytes of the module's stack that a function takes for itself."""
     body = " ".join(body.split())
-    takes, gives, reads, keeps = [it.findall(body) for it in (TAKES, GIVES, READS, KEEPS)]
-    bytes_of = {int(it[2]) for it in takes + gives}
+    takes, uses, gives, reads, keeps, looks = [it.findall(body) for it in (TAKES, USES, GIVES, READS, KEEPS, LOOKS)]
+    bytes_of = {int(it[2]) for it in takes + uses + gives}
     is_plain = len(takes) == 1 if gives else not takes
     is_plain &= not keeps or (not takes and {it[1] for it in keeps} == {it[1] for it in reads})
     is_plain &= all(is_unchanged(it[1], body) for it in reads if keeps)
+    is_plain &= all(is_only_kept(it[1], body) for it in reads)
+    is_plain &= body.count("STACK_POINTER") == body.count("STACK_POINTER(m) = ") + len(takes + uses + looks)
     is_plain &= body.count("= STACK_POINTER(m);") <= 1 and len(bytes_of) <= 1
     if not is_plain or body.count("STACK_POINTER(m) = ") != len(takes + gives + keeps):
         refuse(f"what {name} takes of the stack is not to be seen")
@@ -177,26 +194,41 @@ def depths(found):
     return {name: depth(name) for name in found}
 
 
-def number(pattern, text):
+def number(pattern, text, kind=int):
     found = re.findall(pattern, text)
-    return int(found[0]) if len(found) == 1 else refuse(f"not once in what wasm2c writes: {pattern}")
+    return kind(found[0]) if len(found) == 1 else refuse(f"not once in what wasm2c writes: {pattern}")
 
 
 def stack_top(text):
     """Where the stack begins, which goes down, and the constants behind it."""
-    top = number(r"instance->w2c_0x5F_stack_pointer = (\d+)ull;", text)
-    if number(r"LOAD_DATA\(instance->w2c_memory, (\d+)ull, ", text) != top:
+    top = number(r"instance->w2c_0x5F_stack_pointer = (\d+)u(?:ll)?;", text)
+    if number(r"LOAD_DATA\(instance->w2c_memory, (\d+)u(?:ll)?, ", text) != top:
         refuse("the constants do not begin where the stack does")
     return top
+
+
+def address_bits(text):
+    """The bits of an address."""
+    return 64 if number(r"instance->w2c_0x5F_stack_pointer = \d+(u(?:ll)?);", text, str) == "ull" else 32
 
 
 def constants(text):
     """The bytes of the constants."""
     found = re.findall(r"^static const u8 data_segment_data_\w+\[\] = \{\n(.*?)^\};", text, re.M | re.S)
     numbers = [int(it, 16) for it in re.findall(r"0x[0-9a-f]{2}", "".join(found))]
-    if len(found) != 1 or len(numbers) != number(r"LOAD_DATA\(instance->w2c_memory, \d+ull, \w+, (\d+)\)", text):
+    if len(found) != 1 or len(numbers) != number(r"LOAD_DATA\(instance->w2c_memory, \d+u(?:ll)?, \w+, (\d+)\)", text):
         refuse("the constants are not one block of the bytes that the module says")
     return numbers
+
+
+def look_behind(text, found, top, size):
+    """Refuses a module that has more than the constants, as variables: the files lay the arguments there."""
+    behind = top + (size + 15) // 16 * 16
+    if number(r"instance->w2c_0x5F_heap_base = (\d+)u(?:ll)?;", text) != behind:
+        refuse("the module has more behind its stack than the constants")
+    for name, (_, _, body) in found.items():
+        if any(top + size <= int(it) < behind for it in re.findall(r"\b(\d+)u(?:ll)?\b", body)):
+            refuse(f"{name} names a place behind the constants")
 
 
 def array_of(numbers):
@@ -217,9 +249,11 @@ def module_as_c(text, calls):
     """The module as C, of it what these calls reach: the numbers and the constants, and the functions."""
     whole = renamed(functions(text))
     found = reached(whole, [f"module_{it}" for it in calls if it != "version"])
-    numbers = {"MODULE_VERSION": version_of(whole), "STACK_TOP": f"UINT64_C({stack_top(text)})"}
+    bits, top, size = address_bits(text), stack_top(text), len(constants(text))
+    look_behind(text, found, top, size)
+    numbers = {"MODULE_VERSION": version_of(whole), "ADDRESS_BITS": bits, "STACK_TOP": f"UINT{bits}_C({top})"}
     numbers["STACK_BYTES"] = (max(depths(found).values()) + 15) // 16 * 16
-    numbers["CONSTANT_BYTES"] = len(constants(text))
+    numbers["CONSTANT_BYTES"] = size
     declared = "".join(prototype(name, *it[:2]) + ";\n" for name, it in found.items())
     bodies = ["\n" + prototype(name, *it[:2]) + " {\n" + it[2] + "}\n" for name, it in found.items()]
     defined = "".join(f"#define {name} {it}\n" for name, it in numbers.items())

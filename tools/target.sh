@@ -19,7 +19,8 @@
 #   wasm32, wasm64                    slh.wasm: a WebAssembly module with a memory of this width and vectors of 128 bits
 #   wasm32-scalar                     the same as wasm32 without vectors
 #   portable                          slh.c and slh_verify.c: such modules with one lane and no vectors as C, written by
-#                                     tools/portable.py. The second is of slh_c_verify, compiled for size
+#                                     tools/portable.py. The second is of slh_c_verify, compiled for size, with a
+#                                     32-bit memory, since devices compute 32-bit addresses faster and in less code
 #
 #   release                           all of these but portable
 #
@@ -260,15 +261,24 @@ cut_verify() {
 make_module() {
     local target=$1 out=$folder/$1/slh.wasm "${columns[@]}"
     describe "$target"
-    mkdir -p "$folder/$target" "$work/$target"
+    mkdir -p "$folder/$target"
     if [ -z "$of" ]; then
         link_module slh_c "$target" "$out"
         return
     fi
-    proved_object slh_c "$target" "$target" "$work/$target/proved.o" ""
-    for it in "${round[@]}"; do compile "$it" "$work/$target"; done
-    as wasm-ld --no-entry --stack-first -z stack-size=1048576 --gc-sections --strip-all --export=__heap_base \
-        -o "$out" "$work/$target"/*.o
+    link_laid_module slh_c "$target" "$out" --strip-all
+}
+
+# Links the proved exports of a CRATE for a TARGET that rattle does not build to a WebAssembly module FILE, by a WORD
+# for the linker and such words.
+link_laid_module() {
+    local crate=$1 target=$2 file=$3 word=$4 parts=$work/$1-$2 it "${columns[@]}"
+    describe "$target"
+    mkdir -p "$parts"
+    proved_object "$crate" "$target" "$target" "$parts/proved.o" "" "${@:5}"
+    for it in "${round[@]}"; do compile "$it" "$parts"; done
+    as wasm-ld --no-entry --stack-first -z stack-size=1048576 --gc-sections "$word" --export=__heap_base -o "$file" \
+        "$parts"/*.o
 }
 
 # Links the proved exports of a CRATE for a TARGET that rattle builds to a WebAssembly module FILE, by such words.
@@ -282,7 +292,7 @@ make_source() {
     local "${columns[@]}"
     describe "$1"
     link_module slh_c "$1" "$work/slh.wasm"
-    link_module slh_c_verify "$1" "$work/slh_verify.wasm" small
+    link_laid_module slh_c_verify "$small" "$work/slh_verify.wasm" --strip-debug small
     "$here/tools/portable.py" "$work/slh.wasm" "$work/slh_verify.wasm" "$folder/$1"
 }
 

@@ -8,6 +8,8 @@ static struct machine the_memory;
 #define THE_MEMORY (&the_memory)
 #endif
 
+_Static_assert(MEMORY_BYTES <= UINT32_MAX - FIRST, "SLH_VERIFY_MEMORY is above what 32-bit addresses reach");
+
 static void erase(void *bytes, size_t n) { memset(bytes, 0, n); }
 
 /* Whether a call is under way: one that comes in meanwhile, from an interrupt or another thread, gets no memory. If the

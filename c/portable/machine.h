@@ -18,12 +18,17 @@ typedef uint32_t u32;
 typedef int32_t s32;
 typedef uint64_t u64;
 typedef int64_t s64;
+#if ADDRESS_BITS == 64
+typedef u64 address;
+#else
+typedef u32 address;
+#endif
 
 /* The stack, the constants, and what a call puts behind them. */
 struct machine {
-    u64 stack_pointer;
-    u64 in_call;
     u64 size;
+    address stack_pointer;
+    address in_call;
     uint8_t bytes[MEMORY_BYTES];
 };
 #define MACHINE_BYTES offsetof(struct machine, bytes)
@@ -55,14 +60,14 @@ static _Noreturn void trap(const char *why) {
 #define UNREACHABLE trap("slh: the proved code came where it never comes")
 
 /* The n bytes at an address. */
-INLINE uint8_t *at(base m, u64 address, u64 n) {
+INLINE uint8_t *at(base m, address where, u64 n) {
 #ifdef SLH_CHECK_MEMORY
-    u64 index = address - FIRST;
+    u64 index = (address)(where - FIRST);
     if (RARELY(index > MACHINE(m)->size || n > MACHINE(m)->size - index)) trap("slh: the proved code left its memory");
 #else
     (void)n;
 #endif
-    return (uint8_t *)(m + (uintptr_t)address);
+    return (uint8_t *)(m + (uintptr_t)where);
 }
 
 /* Numbers lie in memory with their lowest byte first. On a little-endian processor they are copied, of which a compiler
@@ -115,10 +120,10 @@ INLINE void put16(uint8_t *it, u32 number) {
 #define i64_store16(m, address, value) put16(at(m, address, 2), (u32)(value))
 #define i64_store32(m, address, value) put32(at(m, address, 4), (u32)(value))
 
-INLINE void memory_copy(base m, u64 to, u64 from, u64 n) {
+INLINE void memory_copy(base m, address to, address from, address n) {
     if (n > 0) memmove(at(m, to, n), at(m, from, n), (size_t)n);
 }
-INLINE void memory_fill(base m, u64 to, u32 byte, u64 n) {
+INLINE void memory_fill(base m, address to, u32 byte, address n) {
     if (n > 0) memset(at(m, to, n), (uint8_t)byte, (size_t)n);
 }
 

@@ -5,7 +5,7 @@ struct part {
     const void *in;
     void *out;
     size_t len;
-    u64 address;
+    address begin;
 };
 
 #define READ(name) {name, NULL, name##_len, 0}
@@ -32,13 +32,13 @@ static size_t placed(struct part *parts, size_t count) {
     size_t size = PARTS_AT;
     for (size_t i = 0; i < count; i++) {
         if (size > SIZE_MAX / 2 || parts[i].len > SIZE_MAX / 2 - size) return 0;
-        parts[i].address = FIRST + size;
+        parts[i].begin = (address)(FIRST + size);
         size += ALIGNED(parts[i].len);
     }
     return size;
 }
 
-#define PLACE(m, part) ((m)->bytes + (size_t)((part).address - FIRST))
+#define PLACE(m, part) ((m)->bytes + (size_t)((part).begin - FIRST))
 
 /* A memory with the parts in it, or null. */
 static struct machine *begin(struct part *parts, size_t count) {
@@ -64,8 +64,8 @@ static u32 end(struct machine *m, const struct part *parts, size_t count, u32 re
 }
 
 /* The arguments of the proved code for a part: its address and its length; its address alone. */
-#define B(i) parts[i].address, (u64)parts[i].len
-#define P(i) parts[i].address
+#define B(i) parts[i].begin, (u64)parts[i].len
+#define P(i) parts[i].begin
 
 /* Runs a call of the proved code over the parts: `result` is what it returns. */
 #define RUN(call, ...)                                                                          \
