@@ -93,6 +93,30 @@ uint32_t slh_verify_internal(uint32_t set, const uint8_t *pk, size_t pk_len, con
     return REAL(slh_verify_internal)(set, pk, pk_len, msg, msg_len, sig, sig_len);
 }
 
+uint32_t slh_verify_hashed(uint32_t set, const uint8_t *pk, size_t pk_len, const uint8_t *hash, size_t hash_len,
+                           const uint8_t *sig, size_t sig_len) {
+    provider_calls.verdicts++;
+    return REAL(slh_verify_hashed)(set, pk, pk_len, hash, hash_len, sig, sig_len);
+}
+
+static int fails_to_hash(void) { return provider_calls.fails_to_hash != 0 && --provider_calls.fails_to_hash == 0; }
+
+void *EVP_MD_fetch(void *libctx, const char *name, const char *query) {
+    return fails_to_hash() ? NULL : REAL(EVP_MD_fetch)(libctx, name, query);
+}
+
+int EVP_DigestInit_ex2(void *it, const void *digest, const void *params) {
+    return fails_to_hash() ? 0 : REAL(EVP_DigestInit_ex2)(it, digest, params);
+}
+
+int EVP_DigestUpdate(void *it, const void *piece, size_t len) {
+    return fails_to_hash() ? 0 : REAL(EVP_DigestUpdate)(it, piece, len);
+}
+
+int EVP_DigestFinal_ex(void *it, unsigned char *to, unsigned *len) {
+    return fails_to_hash() ? 0 : REAL(EVP_DigestFinal_ex)(it, to, len);
+}
+
 int RAND_priv_bytes_ex(void *libctx, unsigned char *to, size_t len, unsigned strength) {
     int (*draw)(void *, unsigned char *, size_t, unsigned) = (__typeof__(draw))real("RAND_priv_bytes_ex");
     provider_calls.draws++;

@@ -9,8 +9,9 @@ struct provider_calls {
     atomic_uint keys, checks, signatures, verdicts, jobs, draws;
     /* threads that did a job, and those of them that signals may go to */
     atomic_uint threads, open_threads;
-    /* which job of all gets a wrong bit into its answer; whether drawing bytes and starting threads fail */
-    atomic_uint wrong_job, fails_to_draw, fails_to_start;
+    /* which job of all gets a wrong bit into its answer; whether drawing bytes and starting threads fail; which of the
+       next calls that hash a message by OpenSSL's digest fails: 0 for none */
+    atomic_uint wrong_job, fails_to_draw, fails_to_start, fails_to_hash;
 };
 
 extern struct provider_calls provider_calls;

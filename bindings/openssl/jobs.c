@@ -23,8 +23,7 @@ static void *take_runs(void *handed) {
         uint32_t job = number % it->jobs;
         uint8_t *answers = it->answers + number / it->jobs * it->answers_len;
         if (slh_answer_place(it->set, it->levels, 0, job, &at, &len) != SLH_DONE ||
-            slh_sign_job(it->set, it->levels, 0, it->key->sk, sk_len(it->key), it->start, it->start_len, job,
-                         answers + at, len) != SLH_DONE)
+            slh_sign_job(it->set, it->levels, 0, SK(it->key), ALL(it, start), job, answers + at, len) != SLH_DONE)
             atomic_store(&it->failed, 1);
     }
     return NULL;
@@ -48,8 +47,8 @@ static uint32_t join(const struct work *it, uint8_t *sig) {
     if (atomic_load(&it->failed)) return SLH_ANSWERS_DISAGREE;
     if (it->runs > it->jobs && CRYPTO_memcmp(it->answers, it->answers + it->answers_len, it->answers_len) != 0)
         return (void)fail(PROV_R_FAILED_TO_SIGN, "a job had two answers, by a fault"), SLH_ANSWERS_DISAGREE;
-    return slh_sign_join(it->set, it->levels, 0, it->key->sk, sk_len(it->key), it->start, it->start_len,
-                         it->answers, it->answers_len, sig, it->key->set->sig_len);
+    return slh_sign_join(it->set, it->levels, 0, SK(it->key), ALL(it, start), ALL(it, answers), sig,
+                         it->key->set->sig_len);
 }
 
 /* Answers are as secret as the key. */
@@ -61,8 +60,8 @@ uint32_t sign_by_jobs(const struct signature *signature, const uint8_t *msg, siz
     if (result != SLH_DONE) return result;
     it.runs = times * it.jobs;
     if ((it.answers = OPENSSL_malloc(times * it.answers_len)) == NULL) return SLH_BAD_ANSWERS_LENGTH;
-    result = slh_sign_start(it.set, key->sk, sk_len(key), msg, msg_len, signature->context, signature->context_len,
-                            signature->entropy, signature->entropy_len, it.start, it.start_len);
+    result = slh_sign_start(it.set, SK(key), msg, msg_len, ALL(signature, context), ALL(signature, entropy),
+                            ALL(&it, start));
     if (result == SLH_DONE) run_all(&it, signature->workers), result = join(&it, sig);
     OPENSSL_clear_free(it.answers, times * it.answers_len);
     return result;

@@ -2,13 +2,10 @@
 #include "provider.h"
 
 /* The trees are cut as docs/BENCHMARKS.md has it for four workers. */
+#define SET(name, levels) {SLH_DSA_SHA2_##name, levels, SLH_DSA_SHA2_##name##_N, SLH_DSA_SHA2_##name##_SIGNATURE}
 const struct set *set_of(uint32_t number) {
-    static const struct set sets[] = {{SLH_DSA_SHA2_128S, 4, SLH_DSA_SHA2_128S_N, SLH_DSA_SHA2_128S_SIGNATURE},
-                                      {SLH_DSA_SHA2_128F, 0, SLH_DSA_SHA2_128F_N, SLH_DSA_SHA2_128F_SIGNATURE},
-                                      {SLH_DSA_SHA2_192S, 4, SLH_DSA_SHA2_192S_N, SLH_DSA_SHA2_192S_SIGNATURE},
-                                      {SLH_DSA_SHA2_192F, 0, SLH_DSA_SHA2_192F_N, SLH_DSA_SHA2_192F_SIGNATURE},
-                                      {SLH_DSA_SHA2_256S, 3, SLH_DSA_SHA2_256S_N, SLH_DSA_SHA2_256S_SIGNATURE},
-                                      {SLH_DSA_SHA2_256F, 1, SLH_DSA_SHA2_256F_N, SLH_DSA_SHA2_256F_SIGNATURE}};
+    static const struct set sets[] = {SET(128S, 4), SET(128F, 0), SET(192S, 4),
+                                      SET(192F, 0), SET(256S, 3), SET(256F, 1)};
     return &sets[number - 1];
 }
 
@@ -54,7 +51,7 @@ static int key_validate(const void *it, int selection, int how) {
     const struct key *key = it;
     (void)how;
     if (!(selection & PRIVATE) || !key_has(key, selection)) return key_has(key, selection);
-    return slh_check(key->set->number, key->sk, sk_len(key)) == SLH_DONE ||
+    return slh_check(key->set->number, SK(key)) == SLH_DONE ||
            fail(PROV_R_INVALID_KEY, "PK.root is not the root that the seeds give");
 }
 
@@ -62,8 +59,7 @@ static int key_validate(const void *it, int selection, int how) {
 static size_t copy(const OSSL_PARAM *from, uint8_t *to, size_t len, size_t other) {
     if (!has_bytes(from) || (from->data_size != len && from->data_size != other))
         return (size_t)fail(PROV_R_INVALID_KEY_LENGTH, "priv has 4n bytes, or 2n beside pub, which has 2n");
-    memcpy(to, from->data, from->data_size);
-    return from->data_size;
+    return memcpy(to, from->data, from->data_size), from->data_size;
 }
 
 static int key_read(struct key *key, int selection, const OSSL_PARAM params[]) {
@@ -86,42 +82,36 @@ static int key_import(void *it, int selection, const OSSL_PARAM params[]) {
     struct key *key = it;
     if (!(selection & OSSL_KEYMGMT_SELECT_KEYPAIR) || key->has != 0) return 0;
     if (key_read(key, selection, params)) return 1;
-    OPENSSL_cleanse(key->sk, sizeof key->sk);
-    return 0;
+    return OPENSSL_cleanse(key->sk, sizeof key->sk), 0;
 }
 
 static int key_export(void *it, int selection, OSSL_CALLBACK *give, void *arg) {
     struct key *key = it;
     OSSL_PARAM params[3], *next = params;
     if (!(selection & OSSL_KEYMGMT_SELECT_KEYPAIR) || !(key->has & PUBLIC)) return 0;
-    if (key->has & selection & PRIVATE)
-        *next++ = OSSL_PARAM_construct_octet_string(OSSL_PKEY_PARAM_PRIV_KEY, key->sk, sk_len(key));
+    if (key->has & selection & PRIVATE) *next++ = OSSL_PARAM_construct_octet_string(OSSL_PKEY_PARAM_PRIV_KEY, SK(key));
     *next++ = OSSL_PARAM_construct_octet_string(OSSL_PKEY_PARAM_PUB_KEY, key->sk + pk_len(key), pk_len(key));
     *next = OSSL_PARAM_construct_end();
     return give(params, arg);
 }
 
-#define BYTES(name) OSSL_PARAM_octet_string(name, NULL, 0)
 static const OSSL_PARAM types[] = {
-    OSSL_PARAM_int(OSSL_PKEY_PARAM_BITS, NULL), OSSL_PARAM_int(OSSL_PKEY_PARAM_SECURITY_BITS, NULL),
-    OSSL_PARAM_int(OSSL_PKEY_PARAM_MAX_SIZE, NULL), OSSL_PARAM_utf8_string(OSSL_PKEY_PARAM_MANDATORY_DIGEST, NULL, 0),
-    BYTES(OSSL_PKEY_PARAM_PUB_KEY), BYTES(OSSL_PKEY_PARAM_PRIV_KEY), OSSL_PARAM_END};
+    INT(OSSL_PKEY_PARAM_BITS), INT(OSSL_PKEY_PARAM_SECURITY_BITS), INT(OSSL_PKEY_PARAM_MAX_SIZE),
+    OSSL_PARAM_utf8_string(OSSL_PKEY_PARAM_MANDATORY_DIGEST, NULL, 0), BYTES(OSSL_PKEY_PARAM_PUB_KEY),
+    BYTES(OSSL_PKEY_PARAM_PRIV_KEY), OSSL_PARAM_END};
 static const OSSL_PARAM *key_gettable(void *prov) { return (void)prov, types; }
 /* The last two of these are imported and exported. */
-static const OSSL_PARAM *key_types(int selection) {
-    return selection & OSSL_KEYMGMT_SELECT_KEYPAIR ? types + 4 : NULL;
-}
+static const OSSL_PARAM *key_types(int selection) { return selection & (PRIVATE | PUBLIC) ? types + 4 : NULL; }
 
 /* The mandatory digest is an empty text: programs that need the name of one then take none. */
 static int key_get_params(void *it, OSSL_PARAM params[]) {
     const struct key *key = it;
-    OSSL_PARAM *digest = OSSL_PARAM_locate(params, OSSL_PKEY_PARAM_MANDATORY_DIGEST);
-    return put_number(params, OSSL_PKEY_PARAM_BITS, 8 * pk_len(key)) &&
-           put_number(params, OSSL_PKEY_PARAM_SECURITY_BITS, 8 * key->set->n) &&
-           put_number(params, OSSL_PKEY_PARAM_MAX_SIZE, key->set->sig_len) &&
-           (!(key->has & PUBLIC) || put_bytes(params, OSSL_PKEY_PARAM_PUB_KEY, pk(key), pk_len(key))) &&
-           (!(key->has & PRIVATE) || put_bytes(params, OSSL_PKEY_PARAM_PRIV_KEY, key->sk, sk_len(key))) &&
-           (digest == NULL || OSSL_PARAM_set_utf8_string(digest, ""));
+    return PUT(params, OSSL_PKEY_PARAM_BITS, size_t, 8 * pk_len(key)) &&
+           PUT(params, OSSL_PKEY_PARAM_SECURITY_BITS, size_t, 8 * key->set->n) &&
+           PUT(params, OSSL_PKEY_PARAM_MAX_SIZE, size_t, key->set->sig_len) &&
+           (!(key->has & PUBLIC) || PUT(params, OSSL_PKEY_PARAM_PUB_KEY, octet_string, PK(key))) &&
+           (!(key->has & PRIVATE) || PUT(params, OSSL_PKEY_PARAM_PRIV_KEY, octet_string, SK(key))) &&
+           PUT(params, OSSL_PKEY_PARAM_MANDATORY_DIGEST, utf8_string, "");
 }
 
 /* A key that is to be made, of the seeds SK.seed, SK.prf and PK.seed where they are given. */
@@ -146,11 +136,8 @@ static int generation_set_params(void *handed, const OSSL_PARAM params[]) {
 }
 
 /* "properties" tells the default provider where its hash functions are from, and nothing here. */
-static const OSSL_PARAM *generation_settable(void *it, void *prov) {
-    static const OSSL_PARAM types[] = {BYTES(OSSL_PKEY_PARAM_SLH_DSA_SEED),
-                                       OSSL_PARAM_utf8_string(OSSL_PKEY_PARAM_PROPERTIES, NULL, 0), OSSL_PARAM_END};
-    return (void)it, (void)prov, types;
-}
+LIST(generation_settable, BYTES(OSSL_PKEY_PARAM_SLH_DSA_SEED),
+     OSSL_PARAM_utf8_string(OSSL_PKEY_PARAM_PROPERTIES, NULL, 0))
 
 static void generation_free(void *it) { OPENSSL_clear_free(it, sizeof(struct generation)); }
 
@@ -159,8 +146,7 @@ static void *generation_new(struct provider *prov, uint32_t number, const OSSL_P
     if (it == NULL) return NULL;
     it->libctx = prov->libctx, it->set = set_of(number);
     if (generation_set_params(it, params)) return it;
-    generation_free(it);
-    return NULL;
+    return generation_free(it), NULL;
 }
 
 /* Whether there are seeds, given or drawn: SK.seed and SK.prf as secret bytes, PK.seed as public ones. */
@@ -181,24 +167,23 @@ static void *generation_run(void *handed, OSSL_CALLBACK *tell, void *arg) {
     key->has = PUBLIC | PRIVATE;
     if (slh_keygen(it->set->number, it->seeds, n, it->seeds + n, n, it->seeds + 2 * n, n, key->sk, 4 * n) == SLH_DONE)
         return key;
-    key_free(key);
-    return NULL;
+    return key_free(key), NULL;
 }
 
+#define OF(NAME, name, function) ENTRY(KEYMGMT_##NAME, keymgmt_##name, function)
 #define KEYMGMT(number)                                                                                                \
     static void *new_##number(void *prov) { return (void)prov, key_new(set_of(number)); }                              \
     static void *generation_##number(void *prov, int selection, const OSSL_PARAM params[]) {                           \
         return (void)selection, generation_new(prov, number, params);                                                  \
     }                                                                                                                  \
     static const OSSL_DISPATCH keymgmt_##number[] = {                                                                  \
-        OF_KEYS(NEW, new, new_##number), OF_KEYS(FREE, free, key_free), OF_KEYS(HAS, has, key_has),                    \
-        OF_KEYS(DUP, dup, key_dup), OF_KEYS(MATCH, match, key_match), OF_KEYS(VALIDATE, validate, key_validate),       \
-        OF_KEYS(IMPORT, import, key_import), OF_KEYS(IMPORT_TYPES, import_types, key_types),                           \
-        OF_KEYS(EXPORT, export, key_export), OF_KEYS(EXPORT_TYPES, export_types, key_types),                           \
-        OF_KEYS(GET_PARAMS, get_params, key_get_params), OF_KEYS(GETTABLE_PARAMS, gettable_params, key_gettable),      \
-        OF_KEYS(GEN_INIT, gen_init, generation_##number), OF_KEYS(GEN, gen, generation_run),                           \
-        OF_KEYS(GEN_SET_PARAMS, gen_set_params, generation_set_params),                                                \
-        OF_KEYS(GEN_SETTABLE_PARAMS, gen_settable_params, generation_settable),                                        \
-        OF_KEYS(GEN_CLEANUP, gen_cleanup, generation_free), OSSL_DISPATCH_END};
+        OF(NEW, new, new_##number), OF(FREE, free, key_free), OF(HAS, has, key_has), OF(DUP, dup, key_dup),            \
+        OF(MATCH, match, key_match), OF(VALIDATE, validate, key_validate), OF(IMPORT, import, key_import),             \
+        OF(IMPORT_TYPES, import_types, key_types), OF(EXPORT, export, key_export),                                     \
+        OF(EXPORT_TYPES, export_types, key_types), OF(GET_PARAMS, get_params, key_get_params),                         \
+        OF(GETTABLE_PARAMS, gettable_params, key_gettable), OF(GEN_INIT, gen_init, generation_##number),               \
+        OF(GEN_SET_PARAMS, gen_set_params, generation_set_params), OF(GEN, gen, generation_run),                       \
+        OF(GEN_SETTABLE_PARAMS, gen_settable_params, generation_settable),                                             \
+        OF(GEN_CLEANUP, gen_cleanup, generation_free), OSSL_DISPATCH_END};
 KEYMGMT(1) KEYMGMT(2) KEYMGMT(3) KEYMGMT(4) KEYMGMT(5) KEYMGMT(6)
 const OSSL_ALGORITHM keymgmts[] = ALL_SETS(keymgmt);

@@ -7,21 +7,6 @@
 #include <stdio.h>
 #include <stdlib.h>
 
-int fail(int reason, const char *text) {
-    ERR_raise_data(ERR_LIB_PROV, reason, "slh: %s", text);
-    return 0;
-}
-
-int put_number(OSSL_PARAM params[], const char *name, size_t value) {
-    OSSL_PARAM *to = OSSL_PARAM_locate(params, name);
-    return to == NULL || OSSL_PARAM_set_size_t(to, value);
-}
-
-int put_bytes(OSSL_PARAM params[], const char *name, const void *bytes, size_t len) {
-    OSSL_PARAM *to = OSSL_PARAM_locate(params, name);
-    return to == NULL || OSSL_PARAM_set_octet_string(to, bytes, len);
-}
-
 /* `openssl list -providers -verbose` prints "buildinfo". "signatures" is how many were made since the provider was
    loaded. */
 static const OSSL_PARAM *gettable(void *prov) {
@@ -32,23 +17,17 @@ static const OSSL_PARAM *gettable(void *prov) {
     return (void)prov, types;
 }
 
-static int put_text(OSSL_PARAM params[], const char *name, const char *text) {
-    OSSL_PARAM *to = OSSL_PARAM_locate(params, name);
-    return to == NULL || OSSL_PARAM_set_utf8_ptr(to, text);
-}
-
 static int get_params(void *handed, OSSL_PARAM params[]) {
     struct provider *prov = handed;
-    return put_text(params, OSSL_PROV_PARAM_NAME, "SLH-DSA by libslh") &&
-           put_text(params, OSSL_PROV_PARAM_VERSION, SLH_VERSION) &&
-           put_text(params, OSSL_PROV_PARAM_BUILDINFO, prov->settings) &&
-           put_number(params, OSSL_PROV_PARAM_STATUS, 1) &&
-           put_number(params, "signatures", atomic_load(&prov->signatures));
+    return PUT(params, OSSL_PROV_PARAM_NAME, utf8_ptr, "SLH-DSA by libslh") &&
+           PUT(params, OSSL_PROV_PARAM_VERSION, utf8_ptr, SLH_VERSION) &&
+           PUT(params, OSSL_PROV_PARAM_BUILDINFO, utf8_ptr, prov->settings) &&
+           PUT(params, OSSL_PROV_PARAM_STATUS, size_t, 1) &&
+           PUT(params, "signatures", size_t, atomic_load(&prov->signatures));
 }
 
 static const OSSL_ALGORITHM *query(void *prov, int operation, int *no_cache) {
-    (void)prov;
-    *no_cache = 0;
+    (void)prov, *no_cache = 0;
     return operation == OSSL_OP_KEYMGMT ? keymgmts : operation == OSSL_OP_SIGNATURE ? signatures : NULL;
 }
 
@@ -61,11 +40,11 @@ static int tell_tls(unsigned number, OSSL_CALLBACK *give, void *arg) {
     char name[24], set[8], oid[32], iana[24];
     sscanf(signatures[number - 1].algorithm_names, "%23[^:]:id-slh-dsa-sha2-%7[^:]:%31s", name, set, oid);
     snprintf(iana, sizeof iana, "slhdsa_sha2_%s", set);
-    OSSL_PARAM params[] = {OF_TLS(utf8_string, IANA_NAME, iana, 0), OF_TLS(utf8_string, NAME, name, 0),
-                           OF_TLS(utf8_string, OID, oid, 0), OF_TLS(uint, CODE_POINT, &code),
-                           OF_TLS(uint, SECURITY_BITS, &bits), OF_TLS(int, MIN_TLS, &tls_1_3),
-                           OF_TLS(int, MAX_TLS, &no_limit), OF_TLS(int, MIN_DTLS, &none),
-                           OF_TLS(int, MAX_DTLS, &none), OSSL_PARAM_construct_end()};
+    OSSL_PARAM params[] = {
+        OF_TLS(utf8_string, IANA_NAME, iana, 0), OF_TLS(utf8_string, NAME, name, 0), OF_TLS(utf8_string, OID, oid, 0),
+        OF_TLS(uint, CODE_POINT, &code), OF_TLS(uint, SECURITY_BITS, &bits), OF_TLS(int, MIN_TLS, &tls_1_3),
+        OF_TLS(int, MAX_TLS, &no_limit), OF_TLS(int, MIN_DTLS, &none), OF_TLS(int, MAX_DTLS, &none),
+        OSSL_PARAM_construct_end()};
     return give(params, arg);
 }
 
@@ -91,15 +70,13 @@ static int read_number(const char *text, unsigned long least, unsigned long most
 
 /* What OpenSSL and its configuration say. Without a provider that it can't load OpenSSL goes on, and signs by another:
    so a wrong value does not keep this one from being loaded, but from signing. */
+#define TEXT(name, to) OSSL_PARAM_construct_utf8_ptr(name, &(to), 0)
 static int read_core(struct provider *prov, const OSSL_CORE_HANDLE *handle, const OSSL_DISPATCH *in) {
     char *version = NULL, *workers = NULL, *twice = NULL, *tls = NULL, *max_message = NULL;
     unsigned major = 0, minor = 0;
     unsigned long threads = 1, times = 0, most = 1ul << 26;
-    OSSL_PARAM params[] = {OSSL_PARAM_construct_utf8_ptr(OSSL_PROV_PARAM_CORE_VERSION, &version, 0),
-                           OSSL_PARAM_construct_utf8_ptr("workers", &workers, 0),
-                           OSSL_PARAM_construct_utf8_ptr("twice", &twice, 0),
-                           OSSL_PARAM_construct_utf8_ptr("tls", &tls, 0),
-                           OSSL_PARAM_construct_utf8_ptr("max_message", &max_message, 0), OSSL_PARAM_construct_end()};
+    OSSL_PARAM params[] = {TEXT(OSSL_PROV_PARAM_CORE_VERSION, version), TEXT("workers", workers), TEXT("twice", twice),
+                           TEXT("tls", tls), TEXT("max_message", max_message), OSSL_PARAM_construct_end()};
     while (in->function_id != 0 && in->function_id != OSSL_FUNC_CORE_GET_PARAMS) in++;
     if (in->function_id == 0 || !OSSL_FUNC_core_get_params(in)(handle, params) || version == NULL ||
         sscanf(version, "%u.%u", &major, &minor) != 2 || major < 3 || (major == 3 && minor < 5))
@@ -115,21 +92,19 @@ static int read_core(struct provider *prov, const OSSL_CORE_HANDLE *handle, cons
     return 1;
 }
 
+#define OF(NAME, name, function) ENTRY(PROVIDER_##NAME, provider_##name, function)
 int OSSL_provider_init(const OSSL_CORE_HANDLE *handle, const OSSL_DISPATCH *in, const OSSL_DISPATCH **out,
                        void **provctx) {
     static const OSSL_DISPATCH functions[] = {
-        ENTRY(PROVIDER_TEARDOWN, provider_teardown, teardown),
-        ENTRY(PROVIDER_QUERY_OPERATION, provider_query_operation, query),
-        ENTRY(PROVIDER_GET_CAPABILITIES, provider_get_capabilities, capabilities),
-        ENTRY(PROVIDER_GETTABLE_PARAMS, provider_gettable_params, gettable),
-        ENTRY(PROVIDER_GET_PARAMS, provider_get_params, get_params), OSSL_DISPATCH_END};
+        OF(TEARDOWN, teardown, teardown), OF(QUERY_OPERATION, query_operation, query),
+        OF(GET_CAPABILITIES, get_capabilities, capabilities), OF(GETTABLE_PARAMS, gettable_params, gettable),
+        OF(GET_PARAMS, get_params, get_params), OSSL_DISPATCH_END};
     struct provider *prov = OPENSSL_zalloc(sizeof *prov);
     *out = functions;
     *provctx = prov;
     if (prov == NULL) return 0;
     if (read_core(prov, handle, in) && (prov->libctx = OSSL_LIB_CTX_new_child(handle, in)) != NULL) return 1;
-    OPENSSL_free(prov);
-    return 0;
+    return OPENSSL_free(prov), 0;
 }
 
 /* Whether a text of words has these words one after the other. */
@@ -147,8 +122,7 @@ int is_required(CONF_IMODULE *section, const CONF *conf) {
     OSSL_LIB_CTX *libctx = NCONF_get0_libctx(conf);
     const char *wanted = NCONF_get_string(conf, CONF_imodule_get_value(section), "settings");
     char *settings = NULL;
-    OSSL_PARAM params[] = {OSSL_PARAM_construct_utf8_ptr(OSSL_PROV_PARAM_BUILDINFO, &settings, 0),
-                           OSSL_PARAM_construct_end()};
+    OSSL_PARAM params[] = {TEXT(OSSL_PROV_PARAM_BUILDINFO, settings), OSSL_PARAM_construct_end()};
     OSSL_PROVIDER *slh = OSSL_PROVIDER_available(libctx, "slh") ? OSSL_PROVIDER_load(libctx, "slh") : NULL;
     int is = slh != NULL && OSSL_PROVIDER_get_params(slh, params) && settings != NULL && wanted != NULL &&
              has_words(settings, wanted);

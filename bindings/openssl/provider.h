@@ -5,6 +5,7 @@
 #include <openssl/core_dispatch.h>
 #include <openssl/core_names.h>
 #include <openssl/err.h>
+#include <openssl/evp.h>
 #include <openssl/proverr.h>
 #include <openssl/rand.h>
 #include <slh.h>
@@ -15,8 +16,15 @@ enum { MOST_WORKERS = 64, PRIVATE = OSSL_KEYMGMT_SELECT_PRIVATE_KEY, PUBLIC = OS
 
 /* An entry of a table of functions. The compiler reports a function whose type is not the one that OpenSSL calls. */
 #define ENTRY(NAME, name, function) {OSSL_FUNC_##NAME, (void (*)(void))(1 ? (function) : (OSSL_FUNC_##name##_fn *)0)}
-#define OF_KEYS(NAME, name, function) ENTRY(KEYMGMT_##NAME, keymgmt_##name, function)
-#define OF_SIGNATURES(NAME, name, function) ENTRY(SIGNATURE_##NAME, signature_##name, function)
+
+/* Entries of a list of parameters, and a function that lists some. */
+#define BYTES(name) OSSL_PARAM_octet_string(name, NULL, 0)
+#define INT(name) OSSL_PARAM_int(name, NULL)
+#define LIST(function, ...)                                                                                            \
+    static const OSSL_PARAM *function(void *it, void *prov) {                                                          \
+        static const OSSL_PARAM all[] = {__VA_ARGS__, OSSL_PARAM_END};                                                 \
+        return (void)it, (void)prov, all;                                                                              \
+    }
 
 /* A parameter set: libslh's number of it, by how many levels its XMSS trees are cut into jobs, and lengths in bytes. */
 struct set {
@@ -27,7 +35,7 @@ const struct set *set_of(uint32_t number);
 
 /* A provider's context: where random bytes are drawn, and how signatures are made, by how many threads and whether each
    job is done two times and its answers compared. 0 workers stand for a configuration that is wrong. tls is whether TLS
-   is told the sets, and max_message how many bytes a message in pieces may have. settings is all this as a text. */
+   is told the sets, and max_message how many bytes of a message are held. settings is all this as a text. */
 struct provider {
     OSSL_LIB_CTX *libctx;
     int workers, twice, tls;
@@ -49,17 +57,23 @@ int key_has(const void *key, int selection);
 static inline size_t sk_len(const struct key *it) { return 4 * it->set->n; }
 static inline size_t pk_len(const struct key *it) { return 2 * it->set->n; }
 static inline const uint8_t *pk(const struct key *it) { return it->sk + pk_len(it); }
+/* Bytes and their number, as libslh takes them: of a key, and of a member that has its own length. */
+#define SK(key) (key)->sk, sk_len(key)
+#define PK(key) pk(key), pk_len(key)
+#define ALL(it, member) (it)->member, (it)->member##_len
 
 /* The options of a caller for signatures under a key. encoding is 1 in the pure form. It is 0 in the internal form, for
-   test vectors, whose message is M' as it is. The pieces of a message are held until it is over. */
+   test vectors, whose message is M' as it is. The pieces of a message are held until it is over, or hashed, if sig is
+   its signature that was set before them. sig_len is 0 if that has a wrong length. */
 struct signature {
     struct provider *prov;
     const struct set *set;
     struct key *key;
     int workers, twice, deterministic, encoding;
-    enum { NO_PIECES, PIECES, OVER } pieces;
-    uint8_t *held;
-    size_t held_len, held_room, context_len, entropy_len;
+    enum { NO_PIECES, HELD, HASHED, OVER } pieces;
+    uint8_t *held, *sig;
+    EVP_MD_CTX *hash;
+    size_t held_len, held_room, sig_len, context_len, entropy_len;
     uint8_t context[SLH_MAX_CONTEXT], entropy[SLH_MAX_N];
 };
 /* Makes a signature of the pure form by its jobs, with the entropy as its randomizer. Unless it returns SLH_DONE it has
@@ -71,10 +85,12 @@ static inline int has_bytes(const OSSL_PARAM *it) {
     return it->data_type == OSSL_PARAM_OCTET_STRING && it->data != NULL;
 }
 
-/* fail queues an error and returns 0. The others put a value into a parameter, if the caller asks for it. */
-int fail(int reason, const char *text);
-int put_number(OSSL_PARAM params[], const char *name, size_t value);
-int put_bytes(OSSL_PARAM params[], const char *name, const void *bytes, size_t len);
+/* Puts a value of this type into a parameter, if the caller asks for it. */
+#define PUT(params, name, type, ...)                                                                                   \
+    (OSSL_PARAM_locate(params, name) == NULL || OSSL_PARAM_set_##type(OSSL_PARAM_locate(params, name), __VA_ARGS__))
+
+/* Queues an error, and returns 0. */
+static inline int fail(int why, const char *text) { return ERR_raise_data(ERR_LIB_PROV, why, "slh: %s", text), 0; }
 
 extern const OSSL_ALGORITHM keymgmts[], signatures[];
 
