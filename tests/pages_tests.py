@@ -170,7 +170,7 @@ def check_docs():
 def check_top():
     """Counts the folders at the top, and looks for their READMEs."""
     listed = subprocess.run(["git", "-C", counts.HERE, "ls-files", "-z", "--cached", "--others", "--exclude-standard"],
-                            stdout=subprocess.PIPE, text=True).stdout.split("\0")
+                            stdout=subprocess.PIPE, stderr=subprocess.DEVNULL, text=True).stdout.split("\0")
     top = {it.split("/")[0] for it in listed if "/" in it and not it.startswith(".")}
     top = top or {it.name for it in counts.HERE.iterdir() if it.is_dir() and not it.name.startswith(".")}
     lacking = sorted(it for it in top - WITHOUT_README if not (counts.HERE / it / "README.md").is_file())

@@ -707,7 +707,7 @@ def milliseconds(program):
     return 1000 * (time.perf_counter() - before)
 installed, build = (min(it) for it in zip(*(map(milliseconds, sys.argv[1:]) for _ in range(200))))
 print(f"slh params: {installed:.2f} ms where it is installed, {build:.2f} by its build")
-sys.exit(installed > 5 or installed - build > 0.4)
+sys.exit(installed > 10 or installed - build > 2)
 END
 }
 
