@@ -9,6 +9,8 @@
  *   slh_hash_sign_digest, slh_hash_verify_digest
  *                                     to sign and verify a message that is read in pieces: you compute its digest
  *   slh_hash_sign, slh_hash_verify    to sign and verify the digest of a message in memory, which these compute
+ *   slh_verify_front, slh_verify_hashed
+ *                                     to verify in the pure form a message that you hash in pieces
  *   slh_sign_twice, slh_hash_sign_digest_twice, slh_hash_sign_twice
  *                                     to sign two times and compare, if memory or the processor may fail
  *   slh_sign_jobs, slh_sign_start, slh_answer_place, slh_sign_job, slh_sign_join
@@ -54,7 +56,8 @@
  *   3  levels          7  randomizer    11 scratch
  *   4  key or seeds    8  start         12 output or signature
  *
- * The seeds are SK.seed, SK.prf and PK.seed, in this order. A digest takes the place of the message.
+ * The seeds are SK.seed, SK.prf and PK.seed, in this order. A digest or a hash takes the place of the message. An
+ * output stands behind a signature.
  *
  *
  * Each call returns SLH_DONE (0), SLH_INVALID (30, only slh_check and the verify calls), or a refusal's number.
@@ -68,7 +71,8 @@
  *   SLH_NO_SUCH_JOB            the number is no job's
  *   SLH_BAD_LENGTH             the key has another length than the set's keys
  *   SLH_BAD_SEED_LENGTH        a seed has another length than n bytes
- *   SLH_BAD_DIGEST_LENGTH      the digest has another length than the function's digests
+ *   SLH_BAD_DIGEST_LENGTH      the digest has another length than the function's digests, or the hash of
+ *                              slh_verify_hashed than the set's
  *   SLH_BAD_RANDOMIZER_LENGTH  the randomizer has neither 0 nor n bytes
  *   SLH_BAD_START_LENGTH       the start has another length than the set's
  *   SLH_BAD_OUTPUT_LENGTH      the output has another length than the bytes to write
@@ -107,6 +111,9 @@ extern "C" {
 #define SLH_DSA_SHA2_256S_START 111
 #define SLH_DSA_SHA2_256F_START 113
 #define SLH_MAX_START 113
+
+/* The most bytes of a front (slh_verify_front): 3n + 2, and those of a context. */
+#define SLH_MAX_FRONT (3 * SLH_MAX_N + 2 + SLH_MAX_CONTEXT)
 
 /* The most bytes of a refusal's name with the zero byte after it. */
 #define SLH_MAX_NAME 20
@@ -176,6 +183,33 @@ SLH_MUST_USE SLH_API
 uint32_t slh_hash_sign(uint32_t set, uint32_t function, const uint8_t *sk, size_t sk_len, const uint8_t *msg,
                        size_t msg_len, const uint8_t *ctx, size_t ctx_len, const uint8_t *randomizer,
                        size_t randomizer_len, uint8_t *sig, size_t sig_len);
+
+/*
+ * To verify in the pure form a message that you hash in pieces, as by OpenSSL or a device. The signature has to be
+ * known first. This writes the front, the bytes that are hashed before the message (section 11.2): R, PK.seed, PK.root,
+ * a zero byte, the length of the context as one byte, and the context. So front has 3n + 2 + ctx_len bytes, at most
+ * SLH_MAX_FRONT. Then hash the front and the message by SHA-256 for the 128 sets, and by SHA-512 for the others, and
+ * pass the hash to slh_verify_hashed. As in slh_verify, a signature of another length than the set's and a context of
+ * over 255 bytes are invalid. The other lengths are those of slh_verify. SLH_DONE says that the front is written, and
+ * not that the signature is valid: only slh_verify_hashed decides that.
+ * Returns: SLH_DONE if the front is written, SLH_INVALID if no message is valid; SLH_NO_SUCH_SET, SLH_BAD_LENGTH,
+ * SLH_BAD_OUTPUT_LENGTH.
+ */
+SLH_MUST_USE SLH_API
+uint32_t slh_verify_front(uint32_t set, const uint8_t *pk, size_t pk_len, const uint8_t *ctx, size_t ctx_len,
+                          const uint8_t *sig, size_t sig_len, uint8_t *front, size_t front_len);
+
+/*
+ * To verify by the hash of the front and the message: 32 bytes of SHA-256 for the 128 sets, 64 of SHA-512 for the
+ * others. Pass the key and the signature that slh_verify_front took. The result is that of slh_verify for the message
+ * and the context. Compute the hash yourself: of a message that you have not hashed, the result says nothing. If your
+ * hash function fails, make no call: the buffer may have the hash of another message.
+ * Returns: SLH_DONE if the signature is valid, SLH_INVALID if it is not; SLH_NO_SUCH_SET, SLH_BAD_LENGTH,
+ * SLH_BAD_DIGEST_LENGTH.
+ */
+SLH_MUST_USE SLH_API
+uint32_t slh_verify_hashed(uint32_t set, const uint8_t *pk, size_t pk_len, const uint8_t *hash, size_t hash_len,
+                           const uint8_t *sig, size_t sig_len);
 
 /*
  * To sign as slh_sign does, and to find a computation that went wrong: signs two times into the two halves of scratch,

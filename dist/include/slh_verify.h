@@ -32,10 +32,10 @@
 
 /* The version of this header: three numbers, the number that slh_version returns for it, and the text. */
 #define SLH_VERSION_MAJOR 0
-#define SLH_VERSION_MINOR 11
-#define SLH_VERSION_PATCH 1
+#define SLH_VERSION_MINOR 12
+#define SLH_VERSION_PATCH 0
 #define SLH_VERSION_NUMBER (1000000 * SLH_VERSION_MAJOR + 1000 * SLH_VERSION_MINOR + SLH_VERSION_PATCH)
-#define SLH_VERSION "0.11.1"
+#define SLH_VERSION "0.12.0"
 
 /* Marks each call whose result has to be checked: compilers that can do so warn if it is ignored. */
 #if defined(__cplusplus) && __cplusplus >= 201703L
@@ -141,7 +141,7 @@ enum slh_result {
  * context, a digest or a message of 64 bytes, the stack and the constants of the proved code. Add the further bytes of
  * a longer message.
  */
-#define SLH_VERIFY_MEMORY_FOR(signature, message) (13856 + ((signature) + 15) / 16 * 16 + ((message) + 15) / 16 * 16)
+#define SLH_VERIFY_MEMORY_FOR(signature, message) (8192 + ((signature) + 15) / 16 * 16 + ((message) + 15) / 16 * 16)
 #define SLH_DSA_SHA2_128S_VERIFY_MEMORY SLH_VERIFY_MEMORY_FOR(SLH_DSA_SHA2_128S_SIGNATURE, 0)
 #define SLH_DSA_SHA2_128F_VERIFY_MEMORY SLH_VERIFY_MEMORY_FOR(SLH_DSA_SHA2_128F_SIGNATURE, 0)
 #define SLH_DSA_SHA2_192S_VERIFY_MEMORY SLH_VERIFY_MEMORY_FOR(SLH_DSA_SHA2_192S_SIGNATURE, 0)
