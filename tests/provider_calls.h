@@ -1,4 +1,4 @@
-/* What tests/provider_calls.c counts in a process, and what a test may ask it for. */
+/* The counters of tests/provider_calls.c in a process, and the requests of a test. */
 #ifndef PROVIDER_CALLS_H
 #define PROVIDER_CALLS_H
 

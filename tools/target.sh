@@ -20,7 +20,7 @@
 #   wasm32-scalar                     the same as wasm32 without vectors
 #   portable                          slh.c and slh_verify.c: such modules with one lane and no vectors as C, written by
 #                                     tools/portable.py. The second is of slh_c_verify, compiled for size, with a
-#                                     32-bit memory, since devices compute 32-bit addresses faster and in less code
+#                                     32-bit memory, since code for devices is smaller by 32-bit addresses
 #
 #   release                           all of these but portable
 #

@@ -4,14 +4,17 @@
 #define RARELY(x) __builtin_expect(!!(x), 0)
 #define INLINE static inline __attribute__((unused))
 #define NEVER_INLINE __attribute__((noinline))
+#define MAY_ALIAS __attribute__((may_alias))
 #elif defined(_MSC_VER)
 #define RARELY(x) (x)
 #define INLINE static inline
 #define NEVER_INLINE __declspec(noinline)
+#define MAY_ALIAS
 #else
 #define RARELY(x) (x)
 #define INLINE static inline
 #define NEVER_INLINE
+#define MAY_ALIAS
 #endif
 
 typedef uint32_t u32;
@@ -24,13 +27,14 @@ typedef u64 address;
 typedef u32 address;
 #endif
 
-/* The stack, the constants, and what a call puts behind them. */
+/* The stack, the constants, and the arguments of a call behind them. It may lie in an array of the caller's, which has
+   another type. */
 struct machine {
     u64 size;
     address stack_pointer;
     address in_call;
     uint8_t bytes[MEMORY_BYTES];
-};
+} MAY_ALIAS;
 #define MACHINE_BYTES offsetof(struct machine, bytes)
 
 /* The address of the first byte. No call goes below it: STACK_BYTES is the stack of the deepest path of calls. */

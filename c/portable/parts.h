@@ -12,7 +12,7 @@ struct part {
 #define WRITE(name) {NULL, name, name##_len, 0}
 #define COUNT(parts) (sizeof(parts) / sizeof(parts)[0])
 
-/* What is put into memory begins at a multiple of 16, since the proved code takes numbers that are aligned. */
+/* Each argument begins at a multiple of 16, since the proved code takes aligned numbers. */
 #define ALIGNED(n) (((n) + 15) / 16 * 16)
 #define PARTS_AT ALIGNED(STACK_BYTES + CONSTANT_BYTES)
 

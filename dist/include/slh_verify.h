@@ -195,7 +195,7 @@ uint32_t slh_hash_verify(uint32_t set, uint32_t function, const uint8_t *pk, siz
                          size_t msg_len, const uint8_t *ctx, size_t ctx_len, const uint8_t *sig, size_t sig_len);
 
 /*
- * What the hardened calls return. Each number is the sum of two halves, and each half comes from its own comparison
+ * The results of the hardened calls. Each number is the sum of two halves, and each half comes from its own comparison
  * with PK.root: a fault that turns one comparison gives neither number. SLH_IS_VALID tests a variable, which it reads
  * three times, so that a test that is skipped does not decide. Write it as the whole condition of the `if` that boots.
  * No code behind that `if` may boot. `volatile` keeps both writes:

@@ -123,14 +123,17 @@ static const uint8_t constants[CONSTANT_BYTES] = {
 #define RARELY(x) __builtin_expect(!!(x), 0)
 #define INLINE static inline __attribute__((unused))
 #define NEVER_INLINE __attribute__((noinline))
+#define MAY_ALIAS __attribute__((may_alias))
 #elif defined(_MSC_VER)
 #define RARELY(x) (x)
 #define INLINE static inline
 #define NEVER_INLINE __declspec(noinline)
+#define MAY_ALIAS
 #else
 #define RARELY(x) (x)
 #define INLINE static inline
 #define NEVER_INLINE
+#define MAY_ALIAS
 #endif
 
 typedef uint32_t u32;
@@ -143,13 +146,14 @@ typedef u64 address;
 typedef u32 address;
 #endif
 
-/* The stack, the constants, and what a call puts behind them. */
+/* The stack, the constants, and the arguments of a call behind them. It may lie in an array of the caller's, which has
+   another type. */
 struct machine {
     u64 size;
     address stack_pointer;
     address in_call;
     uint8_t bytes[MEMORY_BYTES];
-};
+} MAY_ALIAS;
 #define MACHINE_BYTES offsetof(struct machine, bytes)
 
 /* The address of the first byte. No call goes below it: STACK_BYTES is the stack of the deepest path of calls. */
@@ -13632,7 +13636,7 @@ struct part {
 #define WRITE(name) {NULL, name, name##_len, 0}
 #define COUNT(parts) (sizeof(parts) / sizeof(parts)[0])
 
-/* What is put into memory begins at a multiple of 16, since the proved code takes numbers that are aligned. */
+/* Each argument begins at a multiple of 16, since the proved code takes aligned numbers. */
 #define ALIGNED(n) (((n) + 15) / 16 * 16)
 #define PARTS_AT ALIGNED(STACK_BYTES + CONSTANT_BYTES)
 

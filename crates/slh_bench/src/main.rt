@@ -6,8 +6,8 @@
 //! run of `sha256` or `sha512` hashes 65536 bytes. Without these three it prints nothing. The tasks are
 //!
 //! - in one thread `keygen`, `sign`, `verify`, `sha256` and `sha512`;
-//! - by several workers `keygen_par`, `sign_par`, `verify_all` (of 64 signatures) and `independent` (as many threads,
-//!   each of which signs the message alone; the time is that until the last has ended).
+//! - by several workers `keygen_par`, `sign_par`, `verify_all` (of 64 signatures) and `independent`. In the last, each
+//!   thread signs the message alone, and the time runs until all have ended.
 //!
 //! A fourth argument is the number of workers, by default 1. A fifth is the levels by which the XMSS trees and the FORS
 //! trees are cut. Without a fifth, they are cut so that each worker gets many jobs. If no run ends as it should, as
