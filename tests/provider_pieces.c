@@ -539,6 +539,14 @@ static long growth(int is_late, size_t wrong) {
     return ends(it) && is ? most : -1;
 }
 
+/* What may be added to a process that holds no message, in KB. AddressSanitizer adds pages of its own: 1,064 KB of GCC
+   14 were seen, for 180 without it. */
+#ifdef __SANITIZE_ADDRESS__
+enum { MOST_GROWTH = 8192 };
+#else
+enum { MOST_GROWTH = 1023 };
+#endif
+
 /* With the signature first the process grows by less than 1 MB. With the signature last it grows by what is held. The
    library context prefers slh, as slh.cnf has it. */
 static int a_long_message_is_not_held(const char *modules) {
@@ -551,7 +559,7 @@ static int a_long_message_is_not_held(const char *modules) {
     key = generate(FAST, OURS, 1);
     sign_long();
     long grown = growth(0, PIECES), held = growth(1, PIECES);
-    int is = grown >= 0 && grown < 1024 && held > PIECES / 2 * (PIECE / 1024) && growth(0, PIECES - 1) == -1;
+    int is = grown >= 0 && grown <= MOST_GROWTH && held > PIECES / 2 * (PIECE / 1024) && growth(0, PIECES - 1) == -1;
     printf("64 MB: %ld KB with the signature first, %ld KB with it last\n", grown, held);
     EVP_PKEY_free(key), OSSL_PROVIDER_unload(ours), OSSL_PROVIDER_unload(theirs), OSSL_LIB_CTX_free(libctx);
     libctx = before, key = key_before;
