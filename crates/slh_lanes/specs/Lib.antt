@@ -6,4 +6,5 @@ pub mod Lanes
 pub mod Steps
 pub mod Streams
 pub mod LaneStreams
+pub mod LaneSeeds
 pub mod HmacLanes

@@ -1,10 +1,11 @@
 //! The addresses of eight hash calls (FIPS 205, sections 4.2 and 11.2).
-ghost use Rattle.std.specs.Prelude.{◌≡◌, ℕ, ◌<◌, slice_index};
+ghost use Rattle.std.specs.Prelude.{◌≡◌, ◌≢◌, ℕ, ◌<◌, slice_index};
 ghost use Rattle.slh_params.specs.Address.{Address};
+ghost use Rattle.slh_lanes.specs.Columns.{column};
 ghost use Rattle.slh_lanes.specs.Lanes.{HasAddress};
 
 use crate::bytes::load_all;
-use crate::words::{GROUP, Words, halves, high, low, tell_all};
+use crate::words::{GROUP, Words, halves, high, low, put_words, tell_all};
 use slh_params::Adrs;
 
 /// The addresses of eight hash calls, one in each lane: the 22 bytes of the compressed form as six words, of which the
@@ -20,6 +21,30 @@ pub fn adrs_lanes(adrs: &Adrs) -> LaneAdrs
     let mut lanes = [Words::splat(0); 6];
     load_all(&mut lanes, &bytes);
     lanes
+}
+
+/// The words in lane 0.
+fn first_lane(adrs: &LaneAdrs) -> [u32; 6]
+    ensures { result ≡ column 0 adrs.now }
+{
+    let [a, b, c, d, e, f] = *adrs;
+    [
+        a.to_array()[0],
+        b.to_array()[0],
+        c.to_array()[0],
+        d.to_array()[0],
+        e.to_array()[0],
+        f.to_array()[0],
+    ]
+}
+
+/// Puts an address into lane `j`.
+pub fn set_adrs(lanes: &mut LaneAdrs, j: usize, adrs: &Adrs)
+    requires { j < GROUP }
+    ensures set { HasAddress lanes.new j adrs.now }
+    ensures others { (i : ℕ) (a : Address) → i ≢ j → HasAddress lanes.old i a → HasAddress lanes.new i a }
+{
+    put_words(lanes, j, &first_lane(&adrs_lanes(adrs)));
 }
 
 /// setKeyPairAddress in each lane: the leaf of a tree.

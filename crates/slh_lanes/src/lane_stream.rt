@@ -5,15 +5,16 @@ ghost use Rattle.slh_params.specs.Params.{Params};
 ghost use Rattle.slh_params.specs.ParamSet.{params};
 ghost use Rattle.slh_hash.specs.Hash.{T};
 ghost use Rattle.slh_lanes.specs.Lanes.{HasAddress, value_at};
+ghost use Rattle.slh_lanes.specs.LaneSeeds.{HasSeedAt};
 ghost use Rattle.slh_lanes.specs.LaneStreams.{HasAbsorbedAt};
 
-use crate::block::splat_all;
 use crate::lane_adrs::LaneAdrs;
 use crate::lane_nodes::LaneNodes;
-use crate::long_block::{splat_all as splat_all_long, truncated};
-use crate::long_stream::LongStream;
+use crate::lane_seeds::LaneSeeds;
+use crate::long_block::truncated;
+use crate::long_stream::{LongStream, bare as bare_long};
 use crate::seeded_lanes::SeededLanes;
-use crate::short_stream::ShortStream;
+use crate::short_stream::{ShortStream, bare};
 use crate::words::GROUP;
 use slh_params::ParamSet;
 
@@ -39,11 +40,19 @@ impl LaneStream {
         ensures { (j : ℕ) → j < GROUP → (a : Address) → HasAddress adrs.now j a
             → HasAbsorbedAt result j (params lanes.now.set) lanes.now.pk_seed.now a [] }
     {
-        let set = lanes.set;
+        LaneStream::under(&LaneSeeds::splat(lanes), adrs)
+    }
+
+    /// T at the address in each lane, under the lane's PK.seed, before any node.
+    pub fn under(seeds: &LaneSeeds, adrs: &LaneAdrs) -> Self
+        ensures { (j : ℕ) (pk_seed : List ℕ) (a : Address) → j < GROUP → HasSeedAt seeds.now j pk_seed
+            → HasAddress adrs.now j a → HasAbsorbedAt result j (params seeds.now.set) pk_seed a [] }
+    {
+        let set = seeds.set;
         let stream = if set.n() == 16 {
-            CategoryStream::Short(ShortStream::new(&splat_all(&lanes.short), adrs))
+            CategoryStream::Short(ShortStream::new(&bare(&seeds.short), adrs))
         } else {
-            CategoryStream::Long(LongStream::new(&splat_all_long(&lanes.long), adrs))
+            CategoryStream::Long(LongStream::new(&bare_long(&seeds.long), adrs))
         };
         LaneStream { set, stream }
     }

@@ -8,6 +8,7 @@ mod eight_blocks;
 mod hmac_lanes;
 mod lane_adrs;
 mod lane_nodes;
+mod lane_seeds;
 mod lane_stream;
 mod lanes;
 mod long_block;
@@ -26,10 +27,11 @@ mod words;
 
 pub use eight_blocks::compress;
 pub use hmac_lanes::{HmacLanes, MOST_FRONT_LEN};
-pub use lane_adrs::{LaneAdrs, adrs_lanes, set_chains, set_hashes, set_pairs};
+pub use lane_adrs::{LaneAdrs, adrs_lanes, set_adrs, set_chains, set_hashes, set_pairs};
 pub use lane_nodes::{
     LaneNodes, even_lanes, lane_node, node_lanes, odd_lanes, pick_nodes, set_lane,
 };
+pub use lane_seeds::LaneSeeds;
 pub use lane_stream::LaneStream;
 pub use seeded_lanes::SeededLanes;
 pub use slh_width::{Width, build_widths};

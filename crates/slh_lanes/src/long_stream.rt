@@ -31,7 +31,7 @@ pub(crate) struct LongStream {
 
 /// The vectors without their structs.
 #[inline(always)]
-fn bare(state: &[LongVector; 8]) -> [LongWords; 8]
+pub(crate) fn bare(state: &[LongVector; 8]) -> [LongWords; 8]
     ensures { result ≡ long_vectors state.now }
 {
     let [a, b, c, d, e, f, g, h] = *state;
@@ -42,7 +42,7 @@ fn bare(state: &[LongVector; 8]) -> [LongWords; 8]
 
 /// The vectors in structs.
 #[inline(always)]
-fn wrapped(state: &[LongWords; 8]) -> [LongVector; 8]
+pub(crate) fn wrapped(state: &[LongWords; 8]) -> [LongVector; 8]
     ensures { long_vectors result ≡ state.now }
 {
     let [a, b, c, d, e, f, g, h] = *state;

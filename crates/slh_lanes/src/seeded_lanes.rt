@@ -8,6 +8,7 @@ ghost use Rattle.slh_params.specs.ParamSet.{params};
 ghost use Rattle.slh_hash.specs.Hash.{F, H, PRF, tweaked_hash};
 ghost use Rattle.slh_hash.specs.HashFunctions.{SHA_256};
 ghost use Rattle.slh_lanes.specs.Block.{first_block};
+ghost use Rattle.slh_lanes.specs.Columns.{column};
 ghost use Rattle.slh_lanes.specs.LongBlock.{long_first_block};
 ghost use Rattle.slh_lanes.specs.Lanes.{HasAddress, value_at};
 ghost use Rattle.slh_lanes.specs.Steps.{steps};
@@ -116,7 +117,7 @@ impl<'a> SeededLanes<'a> {
         if n == 16 {
             self.digests(adrs, &two_short(left, right), 32)
         } else {
-            long_digests(&self.long, n, adrs, left, right)
+            long_digests(splat_all_long(&self.long), n, adrs, left, right)
         }
     }
 
@@ -249,9 +250,7 @@ impl<'a> SeededLanes<'a> {
             → let p = params self.now.set in
             value_at result j p.n ≡ tweaked_hash SHA_256 p self.now.pk_seed.now a (value_at x.now j len) }
     {
-        let mut state = splat_all(&self.short);
-        compress(&mut state, &second_block(len, adrs, x));
-        state
+        short_digests(splat_all(&self.short), len, adrs, x)
     }
 
     /// In each lane of two groups what `digests` gives, of the values in `x` and of those in `y`.
@@ -305,21 +304,37 @@ fn long_state(pk_seed: &[u8]) -> [u64; 8]
     first_lane(&state)
 }
 
-/// H of two nodes of n bytes in each lane, of 24 or 32: the first bytes of SHA-512's digests.
-fn long_digests(
-    state: &[u64; 8],
+/// In each lane the digest by SHA-256 of an address and a value of `len` bytes, after the hash value of PK.seed's block.
+#[inline(always)]
+pub(crate) fn short_digests(
+    mut state: [Words; 8],
+    len: usize,
+    adrs: &LaneAdrs,
+    x: &LaneNodes,
+) -> LaneNodes
+    requires { (len ≡ 16) ⊎ (len ≡ 24) ⊎ (len ≡ 32) }
+    ensures { (p : Params) (pk_seed : List ℕ) (j : ℕ) (a : Address) → p.n ≤ 32 → length pk_seed ≡ p.n → j < GROUP
+        → column j state ≡ compress initial_hash_256 (first_block p pk_seed) → HasAddress adrs.now j a
+        → value_at result j p.n ≡ tweaked_hash SHA_256 p pk_seed a (value_at x.now j len) }
+{
+    compress(&mut state, &second_block(len, adrs, x));
+    state
+}
+
+/// H of two nodes of n bytes in each lane, of 24 or 32: the first bytes of SHA-512's digests, after the hash value of
+/// PK.seed's block.
+pub(crate) fn long_digests(
+    mut state: [LongWords; 8],
     n: usize,
     adrs: &LaneAdrs,
     left: &LaneNodes,
     right: &LaneNodes,
 ) -> LaneNodes
     requires { (n ≡ 24) ⊎ (n ≡ 32) }
-    ensures { (p : Params) (pk_seed : List ℕ) → p.n ≡ n → length pk_seed ≡ p.n
-        → state.now ≡ compress_long initial_hash_512 (long_first_block p pk_seed)
-        → (j : ℕ) → j < GROUP → (a : Address) → HasAddress adrs.now j a
+    ensures { (p : Params) (pk_seed : List ℕ) (j : ℕ) (a : Address) → p.n ≡ n → length pk_seed ≡ p.n → j < GROUP
+        → column j state ≡ compress_long initial_hash_512 (long_first_block p pk_seed) → HasAddress adrs.now j a
         → value_at result j p.n ≡ H p pk_seed a (value_at left.now j p.n) (value_at right.now j p.n) }
 {
-    let mut lanes = splat_all_long(state);
-    compress_long(&mut lanes, &second_long_block(n, adrs, left, right));
-    truncated(&lanes)
+    compress_long(&mut state, &second_long_block(n, adrs, left, right));
+    truncated(&state)
 }

@@ -27,7 +27,7 @@ pub(crate) struct ShortStream {
 
 /// The vectors without their structs.
 #[inline(always)]
-fn bare(state: &[Vector; 8]) -> [Words; 8]
+pub(crate) fn bare(state: &[Vector; 8]) -> [Words; 8]
     ensures { result ≡ vectors state.now }
 {
     let [a, b, c, d, e, f, g, h] = *state;
@@ -38,7 +38,7 @@ fn bare(state: &[Vector; 8]) -> [Words; 8]
 
 /// The vectors in structs.
 #[inline(always)]
-fn wrapped(state: &[Words; 8]) -> [Vector; 8]
+pub(crate) fn wrapped(state: &[Words; 8]) -> [Vector; 8]
     ensures { vectors result ≡ state.now }
 {
     let [a, b, c, d, e, f, g, h] = *state;

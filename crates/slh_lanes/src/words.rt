@@ -1,5 +1,5 @@
 //! Vectors of eight words of 32 bits, one in each lane (ours).
-ghost use Rattle.std.specs.Prelude.{◌≡◌, ◌≢◌, ℕ, ◌+◌, ◌*◌, ◌/◌, ◌%◌, ◌^◌, ◌<◌, ◌≤◌, slice_index};
+ghost use Rattle.std.specs.Prelude.{◌≡◌, ◌≢◌, ℕ, ◌+◌, ◌*◌, ◌/◌, ◌%◌, ◌^◌, ◌<◌, ◌≤◌, length, slice_index};
 ghost use Rattle.sha2.specs.Sha256.{add32};
 ghost use Rattle.slh_lanes.specs.Block.{halves};
 ghost use Rattle.slh_lanes.specs.Columns.{column};
@@ -86,6 +86,19 @@ pub(crate) fn with_lane(words: Words, j: usize, word: u32) -> Words
     let own = Words::splat(j as u32);
     let from_own = pick(own, lanes, words, Words::splat(word));
     pick(lanes, own, words, from_own)
+}
+
+/// Puts words into lane `j` of as many vectors.
+pub(crate) fn put_words(vectors: &mut [Words], j: usize, words: &[u32])
+    requires lane { j < GROUP }
+    requires len { length words.now ≡ length vectors.old }
+    ensures len { length vectors.new ≡ length vectors.old }
+    ensures set { column j vectors.new ≡ words.now }
+    ensures others { (i : ℕ) → i ≢ j → column i vectors.new ≡ column i vectors.old }
+{
+    'words: for k in 0..words.len() {
+        vectors[k] = with_lane(vectors[k], j, words[k]);
+    }
 }
 
 // The first, the third and so on of the sixteen words of two vectors.

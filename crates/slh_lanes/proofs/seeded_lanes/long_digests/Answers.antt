@@ -34,7 +34,7 @@ pair_fits x y n high =
 
 pub returns : goal.returns
 unfolding HasAddress value_at
-returns c = λ p pk e len state j lane a held.
+returns c = λ p pk j a e len lane state held.
     let x : List ℕ = column j c.args.left.now in
     let y : List ℕ = column j c.args.right.now in
     let cases : (p.n ≡ 24) ⊎ (p.n ≡ 32) = rw e c.requires in
@@ -44,6 +44,6 @@ returns c = λ p pk e len state j lane a held.
     let block = ap₂ (λ (b : List ℕ) (k : ℕ). long_second_block b (take k (digest_bytes x 8) ++ take k (digest_bytes y 8))) held back in
     c.truncated.ensures j p.n lane high
     ∙ ap (λ (h : List ℕ). take p.n (long_digest_bytes h 8))
-    (c.compress.ensures j lane _ (c.second_block.ensures j lane) ∙ ap₂ compress (c.splat_all-lanes.ensures j lane ∙ state) block)
+    (c.compress.ensures j lane _ (c.second_block.ensures j lane) ∙ ap₂ compress state block)
     ∙ sym (long_tweaked_is p pk a both len high (pair_fits x y p.n high))
     ∙ long p pk a both cases
