@@ -10,6 +10,7 @@ pub mod HashContext
 pub mod KeyStreams
 pub mod SignedValues
 pub mod Hypertree
+pub mod HtSignatures
 pub mod Fors
 pub mod ForsRoots
 pub mod Trees

@@ -1,22 +1,27 @@
 //! The hypertree: layers of XMSS trees, each key of which signs the root of a tree below
 //! (FIPS 205, section 7).
 ghost use Rattle.std.specs.Prelude.{◌≡◌, ℕ, ◌+◌, ◌-◌, ◌*◌, ◌^◌, ◌≤◌, ◌<◌, ◌↔◌, ◌++◌, IsTrue, length, slice_index_or, take};
+ghost use Rattle.arrayvec.specs.ArrayVec.{ArrayVec};
 ghost use Rattle.slh_params.specs.Params.{h, len};
 ghost use Rattle.slh_params.specs.ParamSet.{params};
 ghost use Rattle.slh_tree.specs.Tree.{root as root_of};
 ghost use Rattle.slh_few.specs.Xmss.{xmss_tree, xmss_sig, xmss_pk_from_sig, xmss_sig_len};
 ghost use Rattle.slh_few.specs.Hypertree.{place_above, layer_place, ht_sig, ht_root_from_sig};
 ghost use Rattle.slh_few.specs.Chunks.{chunk};
+ghost use Rattle.slh_few.specs.HtSignatures.{AreUnder, top_root};
 ghost use Rattle.slh_few.specs.declared.hypertree.TheConstants.{MOST_XMSS_SIG_LEN};
 
 use crate::context::{HashContext, SigningContext};
+use crate::lanes::put_roots_in_lanes;
+use crate::nodes::first_nodes;
 use crate::place::{Place, Public, Seeds};
 use crate::wots::MOST_WOTS_SIG_LEN;
+use slh_lanes::{GROUP, node_lanes};
 use slh_params::{Node, ParamSet, copy_of};
-use slh_tree::climb;
+use slh_tree::{Leaves, climb};
 
 /// The place one layer up, whose key signs the root of this place's tree.
-fn place_above(set: ParamSet, at: Place, layer: u8) -> Place
+pub(crate) fn place_above(set: ParamSet, at: Place, layer: u8) -> Place
     ensures place { result ≡ place_above (params set) at layer }
     ensures pair { result.pair < 2 ^ (params set).hp }
 {
@@ -235,6 +240,48 @@ impl<'a> HashContext<'a> {
         let node = ht_root_from_sig(self, idx_tree, idx_leaf, msg, sig);
         node.as_slice() == root
     }
+}
+
+/// A signature of a message of n bytes, of (h + d * len) * n bytes itself, by leaf `idx_leaf` of tree `idx_tree`.
+#[derive(Clone, Copy)]
+pub struct HtSignature<'c, 'a> {
+    /// The set and the PK.seed.
+    pub context: &'c HashContext<'a>,
+    pub idx_tree: u64,
+    pub idx_leaf: u32,
+    pub msg: &'c Node,
+    pub sig: &'c [u8],
+}
+
+/// The roots of the top trees that eight signatures under one set give, n bytes each (Algorithm 13, lines 1 to 12). T
+/// and H of all eight are hashed side by side, one in each lane, where the build has lanes for both.
+pub fn ht_roots_from_sigs(set: ParamSet, signed: &[HtSignature; GROUP]) -> Leaves
+    requires { AreUnder set signed.now }
+    ensures len { length result.items ≡ GROUP }
+    ensures roots { (j : ℕ) (x : HtSignature) (d : ArrayVec ℕ) → j < GROUP
+        → (slice_index_or result.items j d).items ≡ top_root set (slice_index_or signed.now j x) }
+{
+    let mut roots = node_lanes(&[]);
+    if put_roots_in_lanes(set, signed, &mut roots) {
+        first_nodes(&roots, set.n(), GROUP)
+    } else {
+        roots_in_turn(set, signed)
+    }
+}
+
+/// The same roots, one after another.
+fn roots_in_turn(set: ParamSet, signed: &[HtSignature; GROUP]) -> Leaves
+    requires { AreUnder set signed.now }
+    ensures len { length result.items ≡ GROUP }
+    ensures roots { (j : ℕ) (x : HtSignature) (d : ArrayVec ℕ) → j < GROUP
+        → (slice_index_or result.items j d).items ≡ top_root set (slice_index_or signed.now j x) }
+{
+    let mut roots = Leaves::new();
+    for j in 0..GROUP {
+        let x = &signed[j];
+        roots.push(ht_root_from_sig(x.context, x.idx_tree, x.idx_leaf, x.msg, x.sig));
+    }
+    roots
 }
 
 /// Whether a signature of a message of n bytes, of (h + d * len) * n bytes itself, gives this root

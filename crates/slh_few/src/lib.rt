@@ -31,8 +31,8 @@ pub use fors_parts::{MOST_TREES, fors_indices};
 pub use fors_tree::{ForsJoins, ForsNodes, ForsPlace, ForsTree};
 pub use heights::{BatchParents, path_from_leaves};
 pub use hypertree::{
-    MOST_LAYERS, MOST_XMSS_SIG_LEN, ht_root_from_sig, ht_sign, ht_verify, layer_place,
-    layer_places, xmss_sig_len,
+    HtSignature, MOST_LAYERS, MOST_XMSS_SIG_LEN, ht_root_from_sig, ht_roots_from_sigs, ht_sign,
+    ht_verify, layer_place, layer_places, xmss_sig_len,
 };
 pub use key_checkpoints::key_checkpoints_len;
 pub use path_bytes::put_known_nodes;

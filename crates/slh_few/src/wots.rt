@@ -6,7 +6,7 @@ ghost use Rattle.slh_params.specs.Params.{Params, len, w};
 ghost use Rattle.slh_params.specs.ParamSet.{params};
 ghost use Rattle.slh_hash.specs.Hash.{T};
 ghost use Rattle.slh_few.specs.Chunks.{end_to_end, chunk};
-ghost use Rattle.slh_few.specs.Wots.{wots_address, chain as chain_of, compressed_ends, secret, whole_chain, wots_pk, wots_sig, wots_pk_from_sig};
+ghost use Rattle.slh_few.specs.Wots.{wots_address, chain as chain_of, compressed_ends, finished_chain, secret, whole_chain, wots_pk, wots_sig, wots_pk_from_sig};
 ghost use Rattle.slh_few.specs.Xmss.{wots_sig_len};
 ghost use Rattle.slh_few.specs.declared.wots.TheConstants.{MOST_WOTS_SIG_LEN};
 
@@ -15,6 +15,7 @@ use crate::lanes::{ChainNumbers, MOST_DIGITS, run_secrets_in_lanes, run_values};
 use crate::nodes::{node_at, put_chunk};
 use crate::place::{Place, Public, Seeds};
 use crate::wots_digits::{MOST_CHAINS, digits_of};
+use slh_lanes::SeededLanes;
 use slh_params::{Adrs, AdrsType, Node, ParamSet, copy_of};
 
 /// The WOTS+ address of a type at a place: a chain, and a step of it.
@@ -209,8 +210,22 @@ fn steps_left(set: ParamSet, digits: &ChainNumbers) -> ChainNumbers
     left
 }
 
-/// The public key that a signature of a message of n bytes gives (Algorithm 8). T absorbs the end of each chain as it is
-/// reached, so no buffer holds all.
+/// Writes the ends of the chains that a signature of a message of n bytes leads to (Algorithm 8, lines 1 to 10).
+#[tactic(auto, using(crate::proofs::Checksum::chain_bounds))]
+pub(crate) fn put_ends(lanes: &SeededLanes, at: Place, msg: &Node, sig: &[u8], out: &mut [u8])
+    requires msg { length msg.now.items ≡ (params lanes.now.set).n }
+    requires sig { length sig.now ≡ len (params lanes.now.set) * (params lanes.now.set).n }
+    requires out { length out.old ≡ len (params lanes.now.set) * (params lanes.now.set).n }
+    ensures { let p = params lanes.now.set in
+        out.new ≡ end_to_end (finished_chain p lanes.now.pk_seed.now at msg.now.items sig.now) (len p) }
+{
+    let digits = digits_of(lanes.set, msg);
+    let left = steps_left(lanes.set, &digits);
+    run_values(lanes, at, sig, &digits, &left, out);
+}
+
+/// The public key that a signature of a message of n bytes gives (Algorithm 8). T absorbs the end of each chain as it
+/// is reached, so no buffer holds all.
 #[tactic(auto, using(crate::proofs::Checksum::chain_bounds))]
 fn absorbed_ends(context: &HashContext, at: Place, msg: &Node, sig: &[u8]) -> Node
     requires msg { length msg.now.items ≡ (params context.now.set).n }
@@ -244,12 +259,9 @@ impl<'a> HashContext<'a> {
         let Some(lanes) = self.lanes() else {
             return absorbed_ends(self, at, msg, sig);
         };
-        let set = self.set;
-        let digits = digits_of(set, msg);
-        let left = steps_left(set, &digits);
         let mut buffer = [0; MOST_WOTS_SIG_LEN];
-        let ends = &mut buffer[..wots_sig_len(set)];
-        run_values(lanes, at, sig, &digits, &left, ends);
+        let ends = &mut buffer[..wots_sig_len(self.set)];
+        put_ends(lanes, at, msg, sig, ends);
         compressed_ends(self, at, ends)
     }
 }

@@ -159,7 +159,7 @@ const LEAST_IN_LANES: u32 = 3;
 
 /// Whether this build climbs a set's trees in lanes. Leaves are hashed by SHA-256 in lanes of 32 bits, and so are nodes
 /// if n is 16. If n is 24 or 32, nodes are hashed by SHA-512, in lanes of 64 bits.
-fn has_lanes(set: ParamSet) -> bool {
+pub(crate) fn has_lanes(set: ParamSet) -> bool {
     let widths = build_widths();
     let short = !matches!(widths.short, Width::One);
     let long = !matches!(widths.long, Width::One);

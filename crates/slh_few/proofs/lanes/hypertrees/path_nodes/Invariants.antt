@@ -1,0 +1,11 @@
+use Rattle.std.proofs.Common.{◌≡◌, ℕ, ◌<◌, slice_index_or}
+use Rattle.slh_params.specs.ParamSet.{params}
+use Rattle.slh_lanes.specs.Lanes.{value_at}
+use Rattle.slh_few.specs.declared.hypertree.HtSignature.{HtSignature}
+use Rattle.slh_few.specs.Chunks.{chunk}
+use Rattle.slh_few.specs.Xmss.{xmss_sig_len}
+use Rattle.slh_few.proofs.lanes.hypertrees.path_nodes.Given as goal
+
+abbrev pub invariant-loop-j : goal.invariant-loop-j
+invariant-loop-j l = (i : ℕ) (x : HtSignature) → i < l.j
+    → value_at l.nodes i l.n ≡ chunk l.n (chunk (xmss_sig_len (params l.set)) (slice_index_or l.signed i x).sig.now l.layer) l.place
