@@ -6,3 +6,5 @@ pub mod Names
 pub mod Assembled
 pub mod Verdicts
 pub mod Hashed
+pub mod EightVerdicts
+mod SameSets

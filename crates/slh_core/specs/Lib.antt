@@ -14,3 +14,4 @@ pub use Rattle.slh_params.specs.Params
 pub use Rattle.slh_params.specs.ParamSet
 pub use Rattle.slh_hash.specs.Keyed
 pub use Rattle.rand_core.specs.Stream
+pub mod EightSignatures

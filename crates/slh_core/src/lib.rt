@@ -5,6 +5,7 @@
 pub use digest_parts::{
     DigestIndices, DigestIndices as Cut, digest_indices, digest_indices as cut_digest,
 };
+pub use eight::{SignedParts, verify_eight};
 pub use fault::{KeyFault, KeygenFault, SignFault};
 pub use form::Form;
 pub use formatted_message::FormattedMessage;
@@ -38,6 +39,7 @@ pub mod signing_steps {
 
 mod comparing;
 mod digest_parts;
+mod eight;
 mod fault;
 mod form;
 mod formatted_message;
