@@ -7,6 +7,7 @@
 //! and `by_number` puts numbered answers in order. No call waits for anything but the threads that it started.
 #![tactic(auto)]
 
+mod batches;
 mod fault;
 mod gate;
 mod items;
@@ -18,6 +19,7 @@ mod work;
 mod worker;
 mod workers;
 
+pub use batches::{BATCH, BatchQuestion, answer_batches, push_batches};
 pub use fault::RunFault;
 pub use gate::{Gate, Go, NoGate};
 pub use items::{Question, answer_all};
