@@ -2,6 +2,7 @@ pub mod JobAnswers
 pub mod TopTree
 pub mod ParFault
 pub mod Verdicts
+pub mod EightItems
 -- cited by public clauses
 pub use Rattle.slh_params.specs.Params
 pub use Rattle.slh_params.specs.ParamSet

@@ -9,6 +9,7 @@
 #![tactic(auto)]
 
 mod answered_trees;
+mod eight_items;
 mod fault;
 mod forms;
 mod generation;
@@ -31,8 +32,8 @@ pub use slh_subtrees::{
     sign_jobs,
 };
 pub use slh_workers::{
-    End, Gate, Go, NoGate, NoMemory, Question, RunFault, Work, WorkerEnd, Workers, answer_all,
-    run_all, work_off,
+    BatchQuestion, End, Gate, Go, NoGate, NoMemory, Question, RunFault, Work, WorkerEnd, Workers,
+    answer_all, answer_batches, push_batches, run_all, work_off,
 };
 pub use verify_item::VerifyItem;
 pub use verifying::verify_all;

@@ -5,6 +5,7 @@ pub mod Reading
 pub mod Grammar
 pub mod Report
 pub mod Outcomes
+pub mod EightTests
 -- cited by public clauses
 pub use Rattle.slh_core.specs.Keys
 pub use Rattle.slh_core.specs.Signatures

@@ -9,6 +9,7 @@ pub use running::run_test;
 pub use runs::run_vectors;
 pub use test::{Input, Interface, KeygenTest, Kind, Seeds, SignTest, Test, VerifyTest};
 
+mod eight_tests;
 mod fault;
 mod kinds;
 mod lines;

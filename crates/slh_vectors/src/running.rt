@@ -33,7 +33,8 @@ pub fn run_test<A: Allocator>(alloc: A, test: &Test) -> Result<Outcome, VectorFa
     }
 }
 
-fn outcome_of(passes: bool) -> Outcome
+/// `Pass` or `Fail`.
+pub(crate) fn outcome_of(passes: bool) -> Outcome
     ensures { (result ≡ Pass) ↔ IsTrue passes }
 {
     if passes { Outcome::Pass } else { Outcome::Fail }

@@ -1,0 +1,21 @@
+-- Each verdict is that on what is made of the item in its place.
+use Rattle.std.proofs.Common.{◌≡◌, ◌↔◌, ℕ, ◌<◌, IsTrue, List, length, get_or, arith, rules}
+use Rattle.slh_core.proofs.EightVerdicts.{at_each_of_eight, verdict_at}
+use Rattle.slh_vectors.specs.EightTests.{IsDividedValid}
+use Rattle.slh_vectors.proofs.eight_tests.verdicts_of_divided.Goals as goal
+
+pub returns : goal.returns
+returns c = λ j valid x below.
+    let ys = c.args.all.now in
+    let size : length ys ≡ 8 = search rules in
+    let verdicts = c.verify_eight.ensures in
+    at_each_of_eight (λ j. IsTrue (get_or c.verify_eight.result j valid) ↔ IsDividedValid (get_or ys j x))
+    (verdict_at IsDividedValid ys 0 _ x (omega (arith, size)) (verdicts 0 valid c.signed_parts.result (omega arith)) c.signed_parts.ensures)
+    (verdict_at IsDividedValid ys 1 _ x (omega (arith, size)) (verdicts 1 valid c.signed_parts-2.result (omega arith)) c.signed_parts-2.ensures)
+    (verdict_at IsDividedValid ys 2 _ x (omega (arith, size)) (verdicts 2 valid c.signed_parts-3.result (omega arith)) c.signed_parts-3.ensures)
+    (verdict_at IsDividedValid ys 3 _ x (omega (arith, size)) (verdicts 3 valid c.signed_parts-4.result (omega arith)) c.signed_parts-4.ensures)
+    (verdict_at IsDividedValid ys 4 _ x (omega (arith, size)) (verdicts 4 valid c.signed_parts-5.result (omega arith)) c.signed_parts-5.ensures)
+    (verdict_at IsDividedValid ys 5 _ x (omega (arith, size)) (verdicts 5 valid c.signed_parts-6.result (omega arith)) c.signed_parts-6.ensures)
+    (verdict_at IsDividedValid ys 6 _ x (omega (arith, size)) (verdicts 6 valid c.signed_parts-7.result (omega arith)) c.signed_parts-7.ensures)
+    (verdict_at IsDividedValid ys 7 _ x (omega (arith, size)) (verdicts 7 valid c.signed_parts-8.result (omega arith)) c.signed_parts-8.ensures)
+    j below

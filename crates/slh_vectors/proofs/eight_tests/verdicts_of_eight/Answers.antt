@@ -1,0 +1,25 @@
+-- Each verdict is that on what is made of the item in its place.
+use Rattle.std.proofs.Common.{◌≡◌, ◌↔◌, ℕ, ◌<◌, IsTrue, List, length, get_or, arith, rules}
+use Rattle.slh_core.proofs.EightVerdicts.{at_each_of_eight, verdict_at}
+use Rattle.std.specs.Borrow.{Bor}
+use Rattle.slh_vectors.specs.Cases.{verify_view}
+use Rattle.slh_vectors.specs.EightTests.{IsTestValid}
+use Rattle.slh_vectors.specs.declared.test.VerifyTest.{VerifyTest}
+use Rattle.slh_vectors.proofs.eight_tests.verdicts_of_eight.Goals as goal
+
+pub returns : goal.returns
+returns c = λ j valid x below.
+    let IsGood : Bor VerifyTest → Type 0 = λ t. IsTestValid (verify_view t.now) in
+    let ys = c.args.tests.now in
+    let size : length ys ≡ 8 = search rules in
+    let verdicts = c.verdicts_of_signed.ensures in
+    at_each_of_eight (λ j. IsTrue (get_or c.verdicts_of_signed.result j valid) ↔ IsGood (get_or ys j x))
+    (verdict_at IsGood ys 0 _ x (omega (arith, size)) (verdicts 0 valid c.of.result (omega arith)) c.of.ensures)
+    (verdict_at IsGood ys 1 _ x (omega (arith, size)) (verdicts 1 valid c.of-2.result (omega arith)) c.of-2.ensures)
+    (verdict_at IsGood ys 2 _ x (omega (arith, size)) (verdicts 2 valid c.of-3.result (omega arith)) c.of-3.ensures)
+    (verdict_at IsGood ys 3 _ x (omega (arith, size)) (verdicts 3 valid c.of-4.result (omega arith)) c.of-4.ensures)
+    (verdict_at IsGood ys 4 _ x (omega (arith, size)) (verdicts 4 valid c.of-5.result (omega arith)) c.of-5.ensures)
+    (verdict_at IsGood ys 5 _ x (omega (arith, size)) (verdicts 5 valid c.of-6.result (omega arith)) c.of-6.ensures)
+    (verdict_at IsGood ys 6 _ x (omega (arith, size)) (verdicts 6 valid c.of-7.result (omega arith)) c.of-7.ensures)
+    (verdict_at IsGood ys 7 _ x (omega (arith, size)) (verdicts 7 valid c.of-8.result (omega arith)) c.of-8.ensures)
+    j below
