@@ -1,5 +1,6 @@
 //! Tests of key generation, signing and verifying by several threads: whatever the gate and the schedule, the bytes are
 //! those of one thread; and each refusal.
+mod batches;
 mod fixtures;
 mod gates;
 mod growths;

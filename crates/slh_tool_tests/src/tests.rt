@@ -1,4 +1,5 @@
 //! Commands through `command`, with memory refused, and with files, inputs and outputs that fail or never end.
+mod batches;
 mod callers;
 mod devices;
 mod disk;

@@ -72,35 +72,54 @@ fn signing_refuses_at_each_growth(rt: HostRuntime) -> Result<(), Fail> {
     Ok(())
 }
 
-#[test]
-fn verify_all_refuses_at_each_growth(rt: HostRuntime) -> Result<(), Fail> {
-    let sk = key(SET);
-    let pk = sk.public();
-    let good = Form::Pure.abc(rt.alloc(), &sk)?;
-    let item = |sig| VerifyItem {
-        pk: &pk,
-        msg: b"abc",
-        ctx: b"",
-        prehash: None,
-        sig,
-    };
-    let items = [item(b""), item(good.as_slice())];
+/// Verifies the items by one and by two workers with each growth refused in turn. Only the last of them is valid.
+fn refuse_verifying<R: Abort + Threads + Sync>(
+    rt: &R,
+    alloc: Global,
+    items: &[VerifyItem],
+) -> Result<(), Fail> {
     // One more worker asks for more growths, so their count shows whether the number of workers is passed on.
     let mut before = 0u64;
     for number in [1u8, 2] {
         let mut refusals = 0u64;
         for nth in 1..MANY {
-            let alloc = Refusing::new(rt.alloc(), rt.alloc(), nth)?;
-            let outcome = verify_all(&rt, alloc.clone()?, &items, workers(number)?);
-            if !alloc.has_refused() {
-                equal(&rt, &outcome?.as_slice(), &[false, true].as_slice());
+            let refusing = Refusing::new(alloc, alloc, nth)?;
+            let outcome = verify_all(rt, refusing.clone()?, items, workers(number)?);
+            if !refusing.has_refused() {
+                let answers = outcome?;
+                equal(rt, &answers.len(), &items.len());
+                equal(rt, &answers.iter().filter(|valid| **valid).count(), &1);
+                equal(rt, &answers.last(), &Some(&true));
                 break;
             }
-            equal(&rt, &outcome.err(), &Some(ParFault::NoMemory));
+            equal(rt, &outcome.err(), &Some(ParFault::NoMemory));
             refusals = nth;
         }
-        check_count(&rt, before.wrapping_add(1), refusals, number);
+        check_count(rt, before.wrapping_add(1), refusals, number);
         before = refusals;
     }
     Ok(())
+}
+
+#[test]
+fn verify_all_refuses_at_each_growth(rt: HostRuntime) -> Result<(), Fail> {
+    let sk = key(SET);
+    let pk = sk.public();
+    let good = Form::Pure.abc(rt.alloc(), &sk)?;
+    let valid = VerifyItem {
+        pk: &pk,
+        msg: b"abc",
+        ctx: b"",
+        prehash: None,
+        sig: good.as_slice(),
+    };
+    let empty = VerifyItem { sig: b"", ..valid };
+    refuse_verifying(&rt, rt.alloc(), &[empty, valid])?;
+    // The last item is the last of a batch, and then one after two batches.
+    let mut sixteen = [empty; 16];
+    sixteen[15] = valid;
+    refuse_verifying(&rt, rt.alloc(), &sixteen)?;
+    let mut more = [empty; 17];
+    more[16] = valid;
+    refuse_verifying(&rt, rt.alloc(), &more)
 }

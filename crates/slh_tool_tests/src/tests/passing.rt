@@ -21,7 +21,7 @@ const FRONT: &[u8] =
     b"[{\"kind\":\"keygen\",\"set\":\"SLH-DSA-SHA2-128f\",\"skSeed\":\"000102030405060708090a0b0c0d0e0f\",\"skPrf\":\"101112131415161718191a1b1c1d1e1f\",\"pkSeed\":\"202122232425262728292a2b2c2d2e2f\",\"sk\":\"000102030405060708090a0b0c0d0e0f101112131415161718191a1b1c1d1e1f202122232425262728292a2b2c2d2e2f3b56e816847f000386aeec2e2bb9e1b5\",\"pk\":\"202122232425262728292a2b2c2d2e2f3b56e816847f000386aeec2e2bb9e1b5\"},{\"kind\":\"sign\",\"set\":\"SLH-DSA-SHA2-128f\",\"sk\":\"000102030405060708090a0b0c0d0e0f101112131415161718191a1b1c1d1e1f202122232425262728292a2b2c2d2e2f3b56e816847f000386aeec2e2bb9e1b5\",\"form\":\"pure\",\"message\":\"616263\",\"context\":\"\",\"random\":\"\",\"signature\":\"";
 
 /// The signature of "abc", which has the SHA-256 of the other implementation's.
-fn signature(rt: &impl Abort, alloc: Global) -> Result<Vec<u8>, Fail> {
+pub(super) fn signature(rt: &impl Abort, alloc: Global) -> Result<Vec<u8>, Fail> {
     let bytes = hex::decode(alloc, KEY)?;
     let sk = SecretKey::from_bytes(ParamSet::S128f, bytes.as_slice())?;
     let mut sig = vec![in alloc; 0u8; sk.set().sig_len()]?;

@@ -1,13 +1,14 @@
 //! Tests of a vector file, run with the 1st growth of memory refused, then the 2nd, and so on until a run meets no
 //! refusal.
 use super::equal;
-use super::fixtures::THREE_TESTS;
+use super::fixtures::{NOT_VALID, THREE_TESTS};
 use refusing_allocator::Refusing;
-use slh_vectors::{VectorFault, read_vectors, run_test, run_vectors};
+use slh_vectors::{Test, VectorFault, read_vectors, run_test, run_vectors};
 use slh_workers::Workers;
 use std::alloc::Global;
 use std::process::Abort;
 use std::test::Fail;
+use std::thread::Threads;
 
 /// More growths than any run here asks for.
 const MANY: u64 = 1000;
@@ -49,18 +50,21 @@ fn run_test_refuses_at_each_growth(rt: HostRuntime) -> Result<(), Fail> {
     Ok(())
 }
 
-#[test]
-fn run_vectors_refuses_at_each_growth(rt: HostRuntime) -> Result<(), Fail> {
-    let tests = read_vectors(rt.alloc(), THREE_TESTS)?;
+/// Runs the tests by one and by two workers with each growth refused in turn.
+fn refuse_running<R: Abort + Threads + Sync>(
+    rt: &R,
+    alloc: Global,
+    tests: &[Test],
+) -> Result<(), Fail> {
     // One more worker asks for more growths, so their count shows whether the number of workers is passed on.
     let mut before = 0u64;
     for number in [1u8, 2] {
         let workers = Workers::new(number).ok_or("workers")?;
         let mut refusals = 0u64;
         for nth in 1..MANY {
-            let alloc = Refusing::new(rt.alloc(), rt.alloc(), nth)?;
-            let outcomes = run_vectors(&rt, alloc.clone()?, &tests, workers);
-            if !was_refused(&rt, &alloc, outcomes) {
+            let refusing = Refusing::new(alloc, alloc, nth)?;
+            let outcomes = run_vectors(rt, refusing.clone()?, tests, workers);
+            if !was_refused(rt, &refusing, outcomes) {
                 break;
             }
             refusals = nth;
@@ -72,4 +76,16 @@ fn run_vectors_refuses_at_each_growth(rt: HostRuntime) -> Result<(), Fail> {
         before = refusals;
     }
     Ok(())
+}
+
+#[test]
+fn run_vectors_refuses_at_each_growth(rt: HostRuntime) -> Result<(), Fail> {
+    let three = read_vectors(rt.alloc(), THREE_TESTS)?;
+    refuse_running(&rt, rt.alloc(), three.as_slice())?;
+    // Two batches of eight for each number of workers, and one test after them.
+    let mut many = Vec::new(rt.alloc());
+    for _ in 0..17 {
+        many.append(&mut read_vectors(rt.alloc(), NOT_VALID)?)?;
+    }
+    refuse_running(&rt, rt.alloc(), many.as_slice())
 }
