@@ -2,8 +2,8 @@
 """Checks the pages: that each link leads to a file or heading that is there, that README has at most 100 lines and
 docs/ few pages and lines, that lines are at most 120 wide, that a page begins with its reader and question, and that
 habits which make pages and comments hard to read stay below their limits. Few folders are at the top, and each has a
-README. Each source file begins with its purpose, and each path that a text names is there. It makes the page of
-contracts, and searches it in Chromium.
+README. Each source file begins with its purpose, and each path that a text names is there. Each place with the version
+has that of the file VERSION. It makes the page of contracts, and searches it in Chromium.
 
 usage: tests/pages_tests.py [--worst N] [FILE ..]
 
@@ -56,6 +56,23 @@ MOST_WORDS, MOST_CODES = 28, 2
 # These pages name calls and files in almost every sentence: more code is no fault there.
 DENSE = re.compile(r"(crates/\w+|tools)/README\.md"
                    r"|docs/(ARCHITECTURE|CONTRACTS|CONTRIBUTING|FORMATS|LIBRARY|MACHINES|PROVED)\.md")
+# The places with the version, as text, as its first two numbers, or as one number. tools/README.md lists them too.
+PLACES_OF_VERSION = [
+    ("CHANGELOG.md", "\n## {text}, "), ("docs/LIBRARY.md", "three numbers: {text}. "),
+    ("c/include/slh_verify.h", '#define SLH_VERSION "{text}"'),
+    ("bindings/README.md", "find_package(slh {two} REQUIRED)"),
+    ("crates/slh_c/src/version.rt", "result ≡ {number} "), ("crates/slh_c_verify/src/version.rt", "result ≡ {number} "),
+    ("crates/slh_tool/src/arguments.rt", '"slh {text}: '), ("bindings/debian/slh.3", '"slh {text}"'),
+    ("bindings/java/src/pipitscreen/slh/Library.java", "as {text}."),
+    ("bindings/javascript/package.json", '"version": "{text}"'),
+    ("bindings/rust/Cargo.toml", '\nversion = "{text}"'),
+    ("bindings/rust/Cargo.lock", 'name = "slh"\nversion = "{text}"'),
+    ("bindings/rust/Cargo.lock", 'name = "slh-sys"\nversion = "{text}"'),
+    ("bindings/rust/slh/Cargo.toml", 'path = "../slh-sys", version = "{text}"'),
+    ("bindings/rust/slh-sys/src/lib.rs", "SLH_VERSION_NUMBER: u32 = {digits};"),
+    *((f"bindings/rust/{it}/Cargo.toml", line) for it in ("slh-rand-core", "slh-signature")
+      for line in ('\nversion = "{text}"', 'path = "../slh", version = "{text}"')),
+]
 # Pages that are not written anew yet: their sentences are not counted.
 LATER = set()
 
@@ -203,6 +220,18 @@ def check_paths():
     counts.tell(f"paths that {len(files)} files name", is_right)
 
 
+def check_version():
+    """Each place with the version has that of the file VERSION."""
+    text = (counts.HERE / "VERSION").read_text().strip()
+    major, minor, patch = map(int, text.split("."))
+    number = 1_000_000 * major + 1000 * minor + patch
+    forms = {"text": text, "two": f"{major}.{minor}", "number": number, "digits": f"{number:_}"}
+    lacking = [it for it, line in PLACES_OF_VERSION if line.format(**forms) not in (counts.HERE / it).read_text()]
+    if lacking:
+        print(f"without the version {text}: {', '.join(lacking)}")
+    counts.tell("each place has the version", not lacking)
+
+
 def head_of(text):
     """The comment with which a file begins, as one line."""
     lines = itertools.takewhile(lambda line: line.startswith(("//!", "--")), text.split("\n"))
@@ -289,6 +318,7 @@ def main():
         check_top()
         check_heads()
         check_paths()
+        check_version()
         check_comments()
         check_contracts_page()
     counts.end_counts()
