@@ -25,12 +25,13 @@ use slh_params::ParamSet;
 pub struct LaneSeeds {
     pub set: ParamSet,
     pub(crate) short: [Vector; 8],
-    /// SHA-512's hash values. Where n is 16 they are not read.
+    /// SHA-512's hash values. They are not read if n is 16.
     pub(crate) long: [LongVector; 8],
 }
 
 impl LaneSeeds {
     /// One PK.seed in all lanes.
+    #[inline(always)]
     pub fn splat(seed: &SeededLanes) -> Self
         ensures set { result.set ≡ seed.now.set }
         ensures seeds { (j : ℕ) → j < GROUP → HasSeedAt result j seed.now.pk_seed.now }

@@ -44,6 +44,7 @@ impl LaneStream {
     }
 
     /// T at the address in each lane, under the lane's PK.seed, before any node.
+    #[inline(always)]
     pub fn under(seeds: &LaneSeeds, adrs: &LaneAdrs) -> Self
         ensures { (j : ℕ) (pk_seed : List ℕ) (a : Address) → j < GROUP → HasSeedAt seeds.now j pk_seed
             → HasAddress adrs.now j a → HasAbsorbedAt result j (params seeds.now.set) pk_seed a [] }

@@ -27,8 +27,8 @@ use crate::sixteen_blocks::compress_two;
 use crate::words::{GROUP, Words, add, most};
 use slh_params::ParamSet;
 
-/// F, PRF and H of eight addresses under one PK.seed of n bytes: in eight lanes SHA-256, and for H, where n is 24 or 32,
-/// SHA-512, after its first block, which PK.seed and zeros fill.
+/// F, PRF and H of eight addresses under one PK.seed of n bytes, after the first block, which PK.seed and zeros fill. They
+/// are SHA-256 in eight lanes. H is SHA-512 if n is 24 or 32.
 ///
 /// It is made once within a call that hashes often. Contracts see the set and PK.seed.
 #[derive(Clone, Copy)]
@@ -36,7 +36,7 @@ pub struct SeededLanes<'a> {
     pub set: ParamSet,
     pub pk_seed: &'a [u8],
     pub(crate) short: [u32; 8],
-    /// SHA-512's hash value. Where n is 16 it is not read.
+    /// SHA-512's hash value. It is not read if n is 16.
     pub(crate) long: [u64; 8],
     pub ghost len: { length pk_seed.now ≡ (params set).n },
     ghost short_state: { short ≡ compress initial_hash_256 (first_block (params set) pk_seed.now) },
@@ -74,6 +74,19 @@ impl<'a> SeededLanes<'a> {
         self.digests(adrs, x, self.set.n())
     }
 
+    /// F in each lane of two groups at once: `x` gets the hashes of its values at the addresses `x_adrs`, and `y` those
+    /// of its values at `y_adrs`.
+    pub fn f_two(&self, x_adrs: &LaneAdrs, y_adrs: &LaneAdrs, x: &mut LaneNodes, y: &mut LaneNodes)
+        ensures x { (j : ℕ) → j < GROUP → (a : Address) → HasAddress x_adrs.now j a
+            → let p = params self.now.set in
+            value_at x.new j p.n ≡ F p self.now.pk_seed.now a (value_at x.old j p.n) }
+        ensures y { (j : ℕ) → j < GROUP → (a : Address) → HasAddress y_adrs.now j a
+            → let p = params self.now.set in
+            value_at y.new j p.n ≡ F p self.now.pk_seed.now a (value_at y.old j p.n) }
+    {
+        self.digests_two(x_adrs, y_adrs, x, y, self.set.n());
+    }
+
     /// PRF (section 11.2) in each lane: the secret at its address, from SK.seed of n bytes.
     pub fn prf(&self, sk_seed: &[u8], adrs: &LaneAdrs) -> LaneNodes
         requires sk_seed { length sk_seed.now ≡ (params self.now.set).n }
@@ -84,8 +97,8 @@ impl<'a> SeededLanes<'a> {
         self.digests(adrs, &node_lanes(sk_seed), self.set.n())
     }
 
-    /// PRF in each lane of two groups at once: into `x` it writes the secrets at the addresses `x_adrs`, and into `y`
-    /// those at `y_adrs`.
+    /// PRF, which is F of SK.seed, in each lane of two groups at once: into `x` it writes the secrets at the addresses
+    /// `x_adrs`, and into `y` those at `y_adrs`.
     pub fn prf_two(
         &self,
         sk_seed: &[u8],
@@ -104,7 +117,7 @@ impl<'a> SeededLanes<'a> {
     {
         *x = node_lanes(sk_seed);
         *y = *x;
-        self.digests_two(x_adrs, y_adrs, x, y, self.set.n());
+        self.f_two(x_adrs, y_adrs, x, y);
     }
 
     /// H (section 11.2) of two nodes of n bytes in each lane: the hash of both at its address.
@@ -118,6 +131,34 @@ impl<'a> SeededLanes<'a> {
             self.digests(adrs, &two_short(left, right), 32)
         } else {
             long_digests(splat_all_long(&self.long), n, adrs, left, right)
+        }
+    }
+
+    /// H in each lane of two groups at once: `x` and `y` have the left nodes, at the addresses `x_adrs` and `y_adrs`,
+    /// and get the hashes. If n is 24 or 32, one group is hashed after the other, by SHA-512.
+    pub fn h_two(
+        &self,
+        x_adrs: &LaneAdrs,
+        y_adrs: &LaneAdrs,
+        x: &mut LaneNodes,
+        y: &mut LaneNodes,
+        x_right: &LaneNodes,
+        y_right: &LaneNodes,
+    )
+        ensures x { (j : ℕ) → j < GROUP → (a : Address) → HasAddress x_adrs.now j a
+            → let p = params self.now.set in value_at x.new j p.n
+            ≡ H p self.now.pk_seed.now a (value_at x.old j p.n) (value_at x_right.now j p.n) }
+        ensures y { (j : ℕ) → j < GROUP → (a : Address) → HasAddress y_adrs.now j a
+            → let p = params self.now.set in value_at y.new j p.n
+            ≡ H p self.now.pk_seed.now a (value_at y.old j p.n) (value_at y_right.now j p.n) }
+    {
+        if self.set.n() == 16 {
+            *x = two_short(x, x_right);
+            *y = two_short(y, y_right);
+            self.digests_two(x_adrs, y_adrs, x, y, 32);
+        } else {
+            *x = self.h(x_adrs, x, x_right);
+            *y = self.h(y_adrs, y, y_right);
         }
     }
 
@@ -162,7 +203,7 @@ impl<'a> SeededLanes<'a> {
             let mut y_here = *y_adrs;
             set_hashes(&mut x_here, number);
             set_hashes(&mut y_here, number);
-            self.digests_two(&x_here, &y_here, x, y, self.set.n());
+            self.f_two(&x_here, &y_here, x, y);
         }
     }
 
@@ -221,7 +262,7 @@ impl<'a> SeededLanes<'a> {
             set_hashes(&mut y_here, add(y_from, number));
             let mut x_next = *x;
             let mut y_next = *y;
-            self.digests_two(&x_here, &y_here, &mut x_next, &mut y_next, self.set.n());
+            self.f_two(&x_here, &y_here, &mut x_next, &mut y_next);
             *x = pick_nodes(number, x_counts, &x_next, x);
             *y = pick_nodes(number, y_counts, &y_next, y);
         }

@@ -4,9 +4,7 @@ use Rattle.sha2.specs.Sha256.{add32}
 use Rattle.slh_params.specs.Address.{Address}
 use Rattle.slh_params.specs.Params.{Params}
 use Rattle.slh_params.specs.ParamSet.{params}
-use Rattle.slh_params.proofs.Bounds.{n_cases}
-use Rattle.slh_hash.specs.Hash.{F, tweaked_hash}
-use Rattle.slh_hash.specs.HashFunctions.{SHA_256}
+use Rattle.slh_hash.specs.Hash.{F}
 use Rattle.slh_lanes.specs.Lanes.{value_at}
 use Rattle.slh_lanes.specs.Steps.{steps}
 use Rattle.slh_lanes.proofs.Columns.{splat_lane}
@@ -38,11 +36,7 @@ loop-step-init c = record {
   y = λ j lane a held. let none : min 0 (slice_index c.args.y_counts j) ≡ 0 = omega arith in rw none refl;
 }
 
-pub digests_two-requires : goal.digests_two-requires
-digests_two-requires c = rw c.n.ensures (n_cases c.args.self.now.set)
-
 pub loop-step-preserved : goal.loop-step-preserved
-unfolding F
 loop-step-preserved c =
     let k : ℕ = c.loop-step.step in
     let p : Params = params c.args.self.now.set in
@@ -52,19 +46,19 @@ loop-step-preserved c =
           let from : ℕ = slice_index c.args.x_from j in
           let number = splat_lane k j lane in
           let here : Address = record a { hash = slice_index c.add.result j } in
-          step_taken p pk a (value_at c.args.x.now j p.n) (value_at c.loop-step.x j p.n) (value_at c.digests_two.new.x j p.n) (value_at c.pick_nodes.result j p.n)
+          step_taken p pk a (value_at c.args.x.now j p.n) (value_at c.loop-step.x j p.n) (value_at c.f_two.new.x j p.n) (value_at c.pick_nodes.result j p.n)
           from k (slice_index c.args.x_counts j) (slice_index c.add.result j) (c.requires.x j lane) (c.add.ensures j lane ∙ ap (add32 from) number)
           (c.loop-step.invariant.x j lane a held)
-          (c.digests_two.ensures.x j lane here (c.set_hashes.ensures j lane a held) ∙ ap (λ (m : ℕ). tweaked_hash SHA_256 p pk here (value_at c.loop-step.x j m)) c.n.ensures)
+          (c.f_two.ensures.x j lane here (c.set_hashes.ensures j lane a held))
           (λ lt. c.pick_nodes.ensures.below j p.n lane (rw number lt)) (λ ge. c.pick_nodes.ensures.others j p.n lane (rw number ge));
       y = λ j lane a held.
           let from : ℕ = slice_index c.args.y_from j in
           let number = splat_lane k j lane in
           let here : Address = record a { hash = slice_index c.add-in-loop-step.result j } in
-          step_taken p pk a (value_at c.args.y.now j p.n) (value_at c.loop-step.y j p.n) (value_at c.digests_two.new.y j p.n) (value_at c.pick_nodes-in-loop-step.result j p.n)
+          step_taken p pk a (value_at c.args.y.now j p.n) (value_at c.loop-step.y j p.n) (value_at c.f_two.new.y j p.n) (value_at c.pick_nodes-in-loop-step.result j p.n)
           from k (slice_index c.args.y_counts j) (slice_index c.add-in-loop-step.result j) (c.requires.y j lane) (c.add-in-loop-step.ensures j lane ∙ ap (add32 from) number)
           (c.loop-step.invariant.y j lane a held)
-          (c.digests_two.ensures.y j lane here (c.set_hashes-in-loop-step.ensures j lane a held) ∙ ap (λ (m : ℕ). tweaked_hash SHA_256 p pk here (value_at c.loop-step.y j m)) c.n.ensures)
+          (c.f_two.ensures.y j lane here (c.set_hashes-in-loop-step.ensures j lane a held))
           (λ lt. c.pick_nodes-in-loop-step.ensures.below j p.n lane (rw number lt)) (λ ge. c.pick_nodes-in-loop-step.ensures.others j p.n lane (rw number ge));
     }
 

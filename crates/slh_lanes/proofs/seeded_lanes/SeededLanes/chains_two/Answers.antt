@@ -2,10 +2,7 @@ use Rattle.std.proofs.Common.{ℕ, ◌+◌, List, refl, ap, ◌∙◌, add-one}
 use Rattle.slh_params.specs.Address.{Address}
 use Rattle.slh_params.specs.Params.{Params}
 use Rattle.slh_params.specs.ParamSet.{params}
-use Rattle.slh_params.proofs.Bounds.{n_cases}
-use Rattle.slh_hash.specs.Hash.{F, tweaked_hash}
-use Rattle.slh_hash.specs.HashFunctions.{SHA_256}
-use Rattle.slh_lanes.specs.Lanes.{value_at}
+use Rattle.slh_hash.specs.Hash.{F}
 use Rattle.slh_lanes.specs.Steps.{steps}
 use Rattle.slh_lanes.proofs.Columns.{splat_lane}
 use Rattle.slh_lanes.proofs.seeded_lanes.SeededLanes.chains_two.Goals as goal
@@ -14,11 +11,8 @@ pub loop-step-init : goal.loop-step-init
 unfolding steps
 loop-step-init c = record { x = λ j lane a held. refl; y = λ j lane a held. refl }
 
-pub digests_two-requires : goal.digests_two-requires
-digests_two-requires c = rw c.n.ensures (n_cases c.args.self.now.set)
-
 pub loop-step-preserved : goal.loop-step-preserved
-unfolding F steps
+unfolding steps
 loop-step-preserved c =
     let number : ℕ = c.args.from + c.loop-step.step in
     let p : Params = params c.args.self.now.set in
@@ -27,11 +21,9 @@ loop-step-preserved c =
       x = λ j lane a held.
           let here : Address = record a { hash = number } in
           let set = rw (splat_lane number j lane) at (c.set_hashes.ensures j lane a held) in
-          let next = c.digests_two.ensures.x j lane here set ∙ ap (λ (m : ℕ). tweaked_hash SHA_256 p pk here (value_at c.loop-step.x j m)) c.n.ensures in
-          rw add-one (next ∙ ap (F p pk here) (c.loop-step.invariant.x j lane a held));
+          rw add-one (c.f_two.ensures.x j lane here set ∙ ap (F p pk here) (c.loop-step.invariant.x j lane a held));
       y = λ j lane a held.
           let here : Address = record a { hash = number } in
           let set = rw (splat_lane number j lane) at (c.set_hashes-in-loop-step.ensures j lane a held) in
-          let next = c.digests_two.ensures.y j lane here set ∙ ap (λ (m : ℕ). tweaked_hash SHA_256 p pk here (value_at c.loop-step.y j m)) c.n.ensures in
-          rw add-one (next ∙ ap (F p pk here) (c.loop-step.invariant.y j lane a held));
+          rw add-one (c.f_two.ensures.y j lane here set ∙ ap (F p pk here) (c.loop-step.invariant.y j lane a held));
     }
