@@ -1,5 +1,5 @@
-//! The leaves of a FORS tree below one node: the nodes beside its path eight at a time from height 3 on (FIPS 205,
-//! section 8.2).
+//! The leaves of a FORS tree below one node: the nodes beside its path in lanes from height 3 on (FIPS 205, section
+//! 8.2).
 ghost use Rattle.std.specs.Prelude.{◌≡◌, ℕ, ◌/◌, ◌^◌, ◌<◌, ◌≤◌, IfSome, [], ◌∷◌};
 ghost use Rattle.slh_params.specs.ParamSet.{params};
 ghost use Rattle.slh_tree.specs.Tree.{node};

@@ -1,156 +1,189 @@
-//! The roots of FORS trees that a signature gives, eight at a time, one in each lane (FIPS 205, section 8.4).
-ghost use Rattle.std.specs.Prelude.{[], ◌≡◌, ℕ, min, ◌+◌, ◌*◌, ◌/◌, ◌%◌, ◌^◌, ◌≤◌, ◌<◌, length, slice_index, slice_index_or};
-ghost use Rattle.arrayvec.specs.ArrayVec.{ArrayVec};
-ghost use Rattle.slh_params.specs.Address.{address, FORS_TREE};
+//! The roots of FORS trees that a signature gives, in one or two groups of eight lanes (FIPS 205, section 8.4).
+ghost use Rattle.std.specs.Prelude.{[], ◌≡◌, ℕ, List, ◌+◌, ◌*◌, ◌/◌, ◌^◌, ◌≤◌, ◌<◌, length, slice_index};
 ghost use Rattle.slh_params.specs.ParamSet.{params};
 ghost use Rattle.slh_lanes.specs.Lanes.{HasAddress, value_at};
 ghost use Rattle.slh_hash.specs.Hash.{H};
-ghost use Rattle.slh_few.specs.Fors.{fors_leaf, fors_part_len};
-ghost use Rattle.slh_few.specs.ForsRoots.{root_given};
+ghost use Rattle.slh_few.specs.Fors.{fors_part_len};
+ghost use Rattle.slh_few.specs.ForsRoots.{AreGiven, AreWithin, HasLeaves, address_over, root_given};
 ghost use Rattle.slh_few.specs.Chunks.{HasChunks, chunk};
+ghost use Rattle.slh_few.specs.declared.fors_parts.TheConstants.{MOST_TREES};
 
 use crate::context::HashContext;
 use crate::fors::fors_part_len;
 use crate::fors_parts::MOST_TREES;
 use crate::fors_tree::{ForsPlace, fors_adrs, index_in_forest};
-use crate::nodes::{chunk_at, first_nodes, put_chunk};
+use crate::lanes::chains::put_lanes;
+use crate::nodes::chunk_at;
 use slh_lanes::{
-    GROUP, LaneAdrs, LaneNodes, SeededLanes, Width, Words, adrs_lanes, build_widths, half,
+    GROUP, LaneAdrs, LaneNodes, SeededLanes, Width, Words, adrs_lanes, build_widths, consecutive,
     node_lanes, parity, pick_nodes, set_hashes, set_lane,
 };
 use slh_params::{AdrsType, ParamSet};
-use slh_tree::Leaves;
+use std::simd::prelude::*;
 
-/// Eight trees one after another: this one, in lane 0, and those after it.
-impl ForsPlace {
-    /// The index that the leaf asked for of each tree has among the leaves of all trees.
-    fn leaf_indices(&self, set: ParamSet, indices: &[u32; MOST_TREES]) -> Words
-        requires trees { self.now.tree_no + GROUP ≤ MOST_TREES }
+/// Trees one after another, one in each lane of a group: the first, their number, and the indices that the leaves asked
+/// for have among those of all trees.
+#[derive(Clone, Copy)]
+pub(crate) struct TreeGroup {
+    pub(crate) first: ForsPlace,
+    pub(crate) used: usize,
+    pub(crate) leaves: Words,
+}
+
+/// The indices of the nodes of height `z` over leaves of these indices, among those of all trees.
+fn indices_over(leaves: Words, z: u32) -> Words
+    requires { z < 32 }
+    ensures { (j : ℕ) → j < GROUP → slice_index result j ≡ slice_index leaves j / 2 ^ z }
+{
+    leaves >> z
+}
+
+impl TreeGroup {
+    /// The trees from `first` on, as many as `used`, with their leaves of these indices.
+    fn new(set: ParamSet, first: ForsPlace, used: usize, indices: &[u32; MOST_TREES]) -> Self
+        requires used { used ≤ GROUP }
+        requires trees { first.tree_no + used ≤ (params set).k }
         requires leaves { (j : ℕ) → slice_index indices.now j < 2 ^ (params set).a }
-        ensures { let p = params set in let first = self.now.tree_no in
-            (j : ℕ) → j < GROUP → slice_index result j ≡ (first + j) * 2 ^ p.a + slice_index indices.now (first + j) }
+        ensures first { result.first ≡ first }
+        ensures used { result.used ≡ used }
+        ensures leaves { HasLeaves (params set) indices.now result }
     {
         let depth = set.a();
-        let mut all = [0; GROUP];
-        for j in 0..GROUP {
-            let tree = self.tree_no + j as u32;
-            all[j] = index_in_forest(tree, depth, indices[tree as usize]);
+        let mut leaves = [0; GROUP];
+        for j in 0..used {
+            let tree = first.tree_no + j as u32;
+            leaves[j] = index_in_forest(tree, depth, indices[tree as usize]);
         }
-        Words::from_array(all)
+        TreeGroup {
+            first,
+            used,
+            leaves: Words::from_array(leaves),
+        }
     }
 
-    /// The addresses of nodes of height `z`, at these indices among those of all trees.
-    fn node_adrs(&self, z: u32, indices: Words) -> LaneAdrs
-        ensures { (j : ℕ) → j < GROUP → HasAddress result j
-            (address 0 self.now.idx_tree FORS_TREE self.now.idx_leaf z (slice_index indices j)) }
+    /// The addresses of the nodes of height `z` over the leaves.
+    fn adrs(&self, z: u32) -> LaneAdrs
+        requires { z < 32 }
+        ensures { (j : ℕ) → j < GROUP → HasAddress result j (address_over self.now z j) }
     {
-        let adrs = fors_adrs(self.idx_tree, self.idx_leaf, AdrsType::ForsTree, z, 0);
+        let first = self.first;
+        let adrs = fors_adrs(first.idx_tree, first.idx_leaf, AdrsType::ForsTree, z, 0);
         let mut lanes = adrs_lanes(&adrs);
-        set_hashes(&mut lanes, indices);
+        set_hashes(&mut lanes, indices_over(self.leaves, z));
         lanes
     }
 
-    /// Node `place` of each tree's part of a signature, up to the lane `used`: 0 is the secret, the path's nodes
-    /// follow.
-    fn part_nodes(&self, set: ParamSet, used: usize, sig: &[u8], place: usize) -> LaneNodes
-        requires lanes { used ≤ GROUP }
+    /// Node `place` of each tree's part of a signature: 0 is the secret, the path's nodes follow.
+    fn part_nodes(&self, set: ParamSet, sig: &[u8], place: usize) -> LaneNodes
+        requires within { AreWithin (params set) self.now }
+        requires sig { let p = params set in length sig.now ≡ p.k * fors_part_len p }
         requires place { place ≤ (params set).a }
-        requires sig { (self.now.tree_no + used) * fors_part_len (params set) ≤ length sig.now }
-        ensures { let p = params set in (j : ℕ) → j < used
-            → value_at result j p.n ≡ chunk p.n (chunk (fors_part_len p) sig.now (self.now.tree_no + j)) place }
+        ensures { let p = params set in (j : ℕ) → j < self.now.used → value_at result j p.n
+            ≡ chunk p.n (chunk (fors_part_len p) sig.now (self.now.first.tree_no + j)) place }
     {
         let n = set.n();
         let size = fors_part_len(set);
         let mut nodes = node_lanes(&[]);
-        for j in 0..used {
-            let own = chunk_at(sig, size, self.tree_no as usize + j);
+        for j in 0..self.used {
+            let own = chunk_at(sig, size, self.first.tree_no as usize + j);
             set_lane(&mut nodes, j, chunk_at(own, n, place));
         }
         nodes
     }
 
-    /// The leaves over the secrets: F of each.
-    fn leaves_over(&self, lanes: &SeededLanes, indices: Words, secrets: &LaneNodes) -> LaneNodes
-        ensures { let t = self.now in let p = params lanes.now.set in (j : ℕ) → j < GROUP → value_at result j p.n
-            ≡ fors_leaf p lanes.now.pk_seed.now t.idx_tree t.idx_leaf (slice_index indices j)
-            (value_at secrets.now j p.n) }
+    /// Puts the left ones of the nodes of height `z` and of their siblings in place of the nodes, and gives the right
+    /// ones: the children of the nodes of the next height.
+    fn pair_up(&self, set: ParamSet, z: u32, sig: &[u8], nodes: &mut LaneNodes) -> LaneNodes
+        requires within { AreWithin (params set) self.now }
+        requires height { z < (params set).a }
+        requires sig { let p = params set in length sig.now ≡ p.k * fors_part_len p }
+        ensures { let p = params set in let t = self.now in (pk_seed indices : List ℕ)
+            → HasLeaves p indices t → AreGiven p pk_seed indices sig.now t z (λ j. value_at nodes.old j p.n)
+            → AreGiven p pk_seed indices sig.now t (z + 1)
+            (λ j. H p pk_seed (address_over t (z + 1) j) (value_at nodes.new j p.n) (value_at result j p.n)) }
     {
-        lanes.f(&self.node_adrs(0, indices), secrets)
-    }
-
-    /// The nodes of height `z` over nodes at these indices of the height below among those of all trees, and over their
-    /// siblings: H of both.
-    fn parents(
-        &self,
-        lanes: &SeededLanes,
-        z: u32,
-        indices: Words,
-        own: &LaneNodes,
-        others: &LaneNodes,
-    ) -> LaneNodes
-        ensures even { let t = self.now in let p = params lanes.now.set in
-            (j : ℕ) → j < GROUP → slice_index indices j % 2 ≡ 0 → value_at result j p.n
-            ≡ H p lanes.now.pk_seed.now (address 0 t.idx_tree FORS_TREE t.idx_leaf z (slice_index indices j / 2))
-            (value_at own.now j p.n) (value_at others.now j p.n) }
-        ensures odd { let t = self.now in let p = params lanes.now.set in
-            (j : ℕ) → j < GROUP → slice_index indices j % 2 ≡ 1 → value_at result j p.n
-            ≡ H p lanes.now.pk_seed.now (address 0 t.idx_tree FORS_TREE t.idx_leaf z (slice_index indices j / 2))
-            (value_at others.now j p.n) (value_at own.now j p.n) }
-    {
-        let right_children = parity(indices);
+        let siblings = self.part_nodes(set, sig, z as usize + 1);
+        let right_children = parity(indices_over(self.leaves, z));
         let ones = Words::splat(1);
-        let left = pick_nodes(right_children, ones, own, others);
-        let right = pick_nodes(right_children, ones, others, own);
-        lanes.h(&self.node_adrs(z, half(indices)), &left, &right)
+        let right = pick_nodes(right_children, ones, &siblings, nodes);
+        *nodes = pick_nodes(right_children, ones, nodes, &siblings);
+        right
     }
 
-    /// The roots of the trees up to the lane `used` that a whole signature gives.
-    fn climb_lanes(
-        &self,
-        lanes: &SeededLanes,
-        indices: &[u32; MOST_TREES],
-        used: usize,
-        sig: &[u8],
-    ) -> LaneNodes
-        requires trees { self.now.tree_no + GROUP ≤ MOST_TREES }
-        requires leaves { (j : ℕ) → slice_index indices.now j < 2 ^ (params lanes.now.set).a }
-        requires used { used ≤ GROUP }
-        requires sig { (self.now.tree_no + used) * fors_part_len (params lanes.now.set) ≤ length sig.now }
-        ensures { let t = self.now in let p = params lanes.now.set in (j : ℕ) → j < used → value_at result j p.n
-            ≡ root_given p [] lanes.now.pk_seed.now t.idx_tree t.idx_leaf indices.now sig.now
-            (t.tree_no + j) }
+    /// Writes the nodes at their trees' places.
+    fn put_nodes(&self, n: usize, nodes: &LaneNodes, out: &mut [u8])
+        requires n { n ≤ 32 }
+        requires used { self.now.used ≤ GROUP }
+        requires trees { self.now.first.tree_no ≤ MOST_TREES }
+        requires out { (self.now.first.tree_no + self.now.used) * n ≤ length out.old }
+        ensures { let first = self.now.first.tree_no in let used = self.now.used in (f : ℕ → List ℕ)
+            → ((j : ℕ) → j < used → value_at nodes.now j n ≡ f (first + j))
+            → HasChunks n out.old f first → HasChunks n out.new f (first + used) }
     {
-        let mut at = self.leaf_indices(lanes.set, indices);
-        let mut nodes = self.leaves_over(lanes, at, &self.part_nodes(lanes.set, used, sig, 0));
-        for z in 0..lanes.set.a() {
-            let others = self.part_nodes(lanes.set, used, sig, z as usize + 1);
-            nodes = self.parents(lanes, z + 1, at, &nodes, &others);
-            at = half(at);
-        }
-        nodes
+        let trees = consecutive(self.first.tree_no).to_array();
+        put_lanes(out, n, &trees, nodes, self.used);
     }
+}
 
-    /// The roots of this tree and of the next ones, as many as `used`, n bytes each, from a whole signature for the
-    /// selected leaves (Algorithm 17, lines 3 to 20).
-    pub(crate) fn roots_from_lanes(
-        &self,
-        lanes: &SeededLanes,
-        indices: &[u32; MOST_TREES],
-        used: usize,
-        sig: &[u8],
-    ) -> Leaves
-        requires trees { self.now.tree_no + GROUP ≤ MOST_TREES }
-        requires leaves { (j : ℕ) → slice_index indices.now j < 2 ^ (params lanes.now.set).a }
-        requires used { used ≤ GROUP }
-        requires sig { (self.now.tree_no + used) * fors_part_len (params lanes.now.set) ≤ length sig.now }
-        ensures len { length result.items ≡ used }
-        ensures roots { let t = self.now in let p = params lanes.now.set in
-            (j : ℕ) (d : ArrayVec ℕ) → j < used → (slice_index_or result.items j d).items
-            ≡ root_given p [] lanes.now.pk_seed.now t.idx_tree t.idx_leaf indices.now sig.now
-            (t.tree_no + j) }
-    {
-        let roots = self.climb_lanes(lanes, indices, used, sig);
-        first_nodes(&roots, lanes.set.n(), used)
+/// Writes the leaves of both groups: F of the secrets. If the second group is empty, the first is hashed alone.
+fn put_leaves(
+    lanes: &SeededLanes,
+    sig: &[u8],
+    x: &TreeGroup,
+    y: &TreeGroup,
+    x_nodes: &mut LaneNodes,
+    y_nodes: &mut LaneNodes,
+)
+    requires x { AreWithin (params lanes.now.set) x.now }
+    requires y { AreWithin (params lanes.now.set) y.now }
+    requires sig { let p = params lanes.now.set in length sig.now ≡ p.k * fors_part_len p }
+    ensures x { let p = params lanes.now.set in (indices : List ℕ) → HasLeaves p indices x.now
+        → AreGiven p lanes.now.pk_seed.now indices sig.now x.now 0 (λ j. value_at x_nodes.new j p.n) }
+    ensures y { let p = params lanes.now.set in (indices : List ℕ) → HasLeaves p indices y.now
+        → AreGiven p lanes.now.pk_seed.now indices sig.now y.now 0 (λ j. value_at y_nodes.new j p.n) }
+{
+    let set = lanes.set;
+    let x_adrs = x.adrs(0);
+    *x_nodes = x.part_nodes(set, sig, 0);
+    if y.used == 0 {
+        *x_nodes = lanes.f(&x_adrs, x_nodes);
+    } else {
+        let y_adrs = y.adrs(0);
+        *y_nodes = y.part_nodes(set, sig, 0);
+        lanes.f_two(&x_adrs, &y_adrs, x_nodes, y_nodes);
+    }
+}
+
+/// Climbs in both groups from the nodes of height `z` to those of the next: H of them and their siblings. If the second
+/// group is empty, the first is hashed alone.
+fn climb_on(
+    lanes: &SeededLanes,
+    z: u32,
+    sig: &[u8],
+    x: &TreeGroup,
+    y: &TreeGroup,
+    x_nodes: &mut LaneNodes,
+    y_nodes: &mut LaneNodes,
+)
+    requires x { AreWithin (params lanes.now.set) x.now }
+    requires y { AreWithin (params lanes.now.set) y.now }
+    requires height { z < (params lanes.now.set).a }
+    requires sig { let p = params lanes.now.set in length sig.now ≡ p.k * fors_part_len p }
+    ensures x { let p = params lanes.now.set in let pk_seed = lanes.now.pk_seed.now in (indices : List ℕ)
+        → HasLeaves p indices x.now → AreGiven p pk_seed indices sig.now x.now z (λ j. value_at x_nodes.old j p.n)
+        → AreGiven p pk_seed indices sig.now x.now (z + 1) (λ j. value_at x_nodes.new j p.n) }
+    ensures y { let p = params lanes.now.set in let pk_seed = lanes.now.pk_seed.now in (indices : List ℕ)
+        → HasLeaves p indices y.now → AreGiven p pk_seed indices sig.now y.now z (λ j. value_at y_nodes.old j p.n)
+        → AreGiven p pk_seed indices sig.now y.now (z + 1) (λ j. value_at y_nodes.new j p.n) }
+{
+    let x_right = x.pair_up(lanes.set, z, sig, x_nodes);
+    let x_adrs = x.adrs(z + 1);
+    if y.used == 0 {
+        *x_nodes = lanes.h(&x_adrs, x_nodes, &x_right);
+    } else {
+        let y_right = y.pair_up(lanes.set, z, sig, y_nodes);
+        let y_adrs = y.adrs(z + 1);
+        lanes.h_two(&x_adrs, &y_adrs, x_nodes, y_nodes, &x_right, &y_right);
     }
 }
 
@@ -166,42 +199,58 @@ pub(crate) fn has_lanes(set: ParamSet) -> bool {
     short && (set.n() == 16 || long)
 }
 
-/// How many groups of eight trees are climbed in lanes, of which the last may have fewer: none if nodes are hashed one
+/// How many trees are climbed in lanes: all but one or two after the last group of eight. None if nodes are hashed one
 /// after another.
-fn lane_groups(set: ParamSet) -> u32
-    ensures { GROUP * result ≤ (params set).k + 5 }
+fn trees_in_lanes(set: ParamSet) -> u32
+    ensures { result ≤ (params set).k }
 {
-    if has_lanes(set) {
-        (set.k() + GROUP as u32 - LEAST_IN_LANES) / GROUP as u32
-    } else {
+    let count = set.k();
+    let last = count % GROUP as u32;
+    if !has_lanes(set) {
         0
+    } else if last < LEAST_IN_LANES {
+        count - last
+    } else {
+        count
     }
 }
 
-/// Writes the roots of the eight trees from this one on, or of fewer up to the last tree, at their places among those
-/// of all trees.
-fn put_eight(
-    first: &ForsPlace,
+/// Writes the roots of the trees from `first` on, as many as `used`, at their places among those of all trees
+/// (Algorithm 17, lines 3 to 20). They are climbed in two groups.
+fn put_roots(
+    first: ForsPlace,
+    used: usize,
     lanes: &SeededLanes,
     indices: &[u32; MOST_TREES],
     sig: &[u8],
     out: &mut [u8],
 )
-    requires tree { first.now.tree_no < (params lanes.now.set).k }
-    requires trees { first.now.tree_no + GROUP ≤ MOST_TREES }
+    requires used { used ≤ 2 * GROUP }
+    requires trees { first.tree_no + used ≤ (params lanes.now.set).k }
     requires leaves { (j : ℕ) → slice_index indices.now j < 2 ^ (params lanes.now.set).a }
     requires sig { let p = params lanes.now.set in length sig.now ≡ p.k * fors_part_len p }
     requires out { let p = params lanes.now.set in length out.old ≡ p.k * p.n }
-    ensures { let t = first.now in let p = params lanes.now.set in
-        let given = root_given p [] lanes.now.pk_seed.now t.idx_tree t.idx_leaf indices.now sig.now in
-        HasChunks p.n out.old given t.tree_no → HasChunks p.n out.new given (min (t.tree_no + GROUP) p.k) }
+    ensures { let p = params lanes.now.set in
+        let given = root_given p [] lanes.now.pk_seed.now first.idx_tree first.idx_leaf indices.now sig.now in
+        HasChunks p.n out.old given first.tree_no → HasChunks p.n out.new given (first.tree_no + used) }
 {
     let set = lanes.set;
-    let used = (set.k() - first.tree_no).min(GROUP as u32) as usize;
-    let group = first.roots_from_lanes(lanes, indices, used, sig);
-    for j in 0..used {
-        put_chunk(out, set.n(), first.tree_no as usize + j, &group[j]);
+    let x_used = used.min(GROUP);
+    let second = ForsPlace {
+        idx_tree: first.idx_tree,
+        idx_leaf: first.idx_leaf,
+        tree_no: first.tree_no + x_used as u32,
+    };
+    let x = TreeGroup::new(set, first, x_used, indices);
+    let y = TreeGroup::new(set, second, used - x_used, indices);
+    let mut x_nodes = node_lanes(&[]);
+    let mut y_nodes = node_lanes(&[]);
+    put_leaves(lanes, sig, &x, &y, &mut x_nodes, &mut y_nodes);
+    for z in 0..set.a() {
+        climb_on(lanes, z, sig, &x, &y, &mut x_nodes, &mut y_nodes);
     }
+    x.put_nodes(set.n(), &x_nodes, out);
+    y.put_nodes(set.n(), &y_nodes, out);
 }
 
 /// Writes the roots of the first trees, and gives their number: of all that are climbed in lanes.
@@ -223,14 +272,16 @@ pub(crate) fn put_first_roots(
     let Some(lanes) = context.lanes() else {
         return 0;
     };
-    let groups = lane_groups(context.set);
-    for turn in 0..groups {
+    let count = trees_in_lanes(context.set);
+    let most = 2 * GROUP as u32;
+    for turn in 0..count.div_ceil(most) {
         let first = ForsPlace {
             idx_tree,
             idx_leaf,
-            tree_no: GROUP as u32 * turn,
+            tree_no: most * turn,
         };
-        put_eight(&first, lanes, indices, sig, out);
+        let used = (count - first.tree_no).min(most) as usize;
+        put_roots(first, used, lanes, indices, sig, out);
     }
-    (GROUP as u32 * groups).min(context.set.k())
+    count
 }

@@ -1,4 +1,4 @@
-//! Nodes of a FORS tree eight at a time, one in each lane (FIPS 205, section 8.2).
+//! Nodes of a FORS tree in lanes, in one or two groups of eight (FIPS 205, section 8.2).
 ghost use Rattle.std.specs.Prelude.{[], ◌≡◌, ℕ, ◌+◌, ◌-◌, ◌*◌, ◌^◌, ◌≤◌, ◌<◌, length};
 ghost use Rattle.slh_params.specs.Address.{address};
 ghost use Rattle.slh_params.specs.AdrsType.{type_number};
@@ -8,6 +8,7 @@ ghost use Rattle.slh_tree.specs.Cover.{past_leaf};
 ghost use Rattle.slh_tree.specs.Tree.{node};
 ghost use Rattle.slh_few.specs.Fors.{fors_tree};
 ghost use Rattle.slh_few.specs.Heights.{AreParents};
+ghost use Rattle.slh_few.specs.LaneValues.{AreJoins, AreNodes};
 ghost use Rattle.slh_few.specs.Chunks.{chunk};
 ghost use Rattle.slh_few.specs.Trees.{fors_nodes_of};
 ghost use Rattle.slh_few.specs.declared.fors_parts.TheConstants.{MOST_TREES};
@@ -52,6 +53,34 @@ impl ForsPlace {
         lanes.f(&adrs, &secrets)
     }
 
+    /// Writes the sixteen leaves of the tree from `first` on: the first eight into `x`, the others into `y`.
+    fn put_leaves(
+        &self,
+        lanes: &SeededLanes,
+        sk_seed: &[u8],
+        first: u32,
+        x: &mut LaneNodes,
+        y: &mut LaneNodes,
+    )
+        requires sk_seed { length sk_seed.now ≡ (params lanes.now.set).n }
+        requires tree { self.now.tree_no < MOST_TREES }
+        requires within { first + 2 * GROUP ≤ 2 ^ (params lanes.now.set).a }
+        ensures x { let p = params lanes.now.set in let t = self.now in
+            AreNodes (fors_tree p sk_seed.now lanes.now.pk_seed.now t.idx_tree t.idx_leaf t.tree_no) p.n 0 first x.new }
+        ensures y { let p = params lanes.now.set in let t = self.now in
+            AreNodes (fors_tree p sk_seed.now lanes.now.pk_seed.now t.idx_tree t.idx_leaf t.tree_no) p.n 0
+            (first + GROUP) y.new }
+    {
+        let set = lanes.set;
+        let next = first + GROUP as u32;
+        let x_adrs = self.lane_adrs(set, AdrsType::ForsPrf, 0, first);
+        let y_adrs = self.lane_adrs(set, AdrsType::ForsPrf, 0, next);
+        lanes.prf_two(sk_seed, &x_adrs, &y_adrs, x, y);
+        let x_adrs = self.lane_adrs(set, AdrsType::ForsTree, 0, first);
+        let y_adrs = self.lane_adrs(set, AdrsType::ForsTree, 0, next);
+        lanes.f_two(&x_adrs, &y_adrs, x, y);
+    }
+
     /// The nodes of height `z` from index `i` on: H of their children, which are the sixteen nodes of the two.
     fn join_lanes(
         &self,
@@ -64,35 +93,94 @@ impl ForsPlace {
         requires tree { self.now.tree_no < MOST_TREES }
         requires height { z ≤ (params lanes.now.set).a }
         requires index { i < 2 ^ ((params lanes.now.set).a - z) }
-        ensures low { let p = params lanes.now.set in let t = self.now in (j : ℕ) → j < 4
-            → value_at result j p.n
-            ≡ (fors_tree p [] lanes.now.pk_seed.now t.idx_tree t.idx_leaf t.tree_no).join z (i + j)
-            (value_at left.now (2 * j) p.n) (value_at left.now (2 * j + 1) p.n) }
-        ensures high { let p = params lanes.now.set in let t = self.now in (j : ℕ) → j < 4
-            → value_at result (j + 4) p.n
-            ≡ (fors_tree p [] lanes.now.pk_seed.now t.idx_tree t.idx_leaf t.tree_no).join z (i + (j + 4))
-            (value_at right.now (2 * j) p.n) (value_at right.now (2 * j + 1) p.n) }
+        ensures { let p = params lanes.now.set in let t = self.now in
+            AreJoins ((fors_tree p [] lanes.now.pk_seed.now t.idx_tree t.idx_leaf t.tree_no).join z) p.n i
+            left.now right.now result }
     {
         let adrs = self.lane_adrs(lanes.set, AdrsType::ForsTree, z, i);
         lanes.h(&adrs, &even_lanes(left, right), &odd_lanes(left, right))
     }
 
-    /// The eight nodes of height `z` from index `i` on, as fors_node makes each (Algorithm 15).
+    /// Writes sixteen nodes of height `z` from index `i` on: the first eight into `x`, the others into `y`. Their
+    /// children are the sixteen nodes that these two had, and those of `c` and `d`.
+    fn join_two(
+        &self,
+        lanes: &SeededLanes,
+        z: u32,
+        i: u32,
+        x: &mut LaneNodes,
+        y: &mut LaneNodes,
+        c: &LaneNodes,
+        d: &LaneNodes,
+    )
+        requires tree { self.now.tree_no < MOST_TREES }
+        requires height { z ≤ (params lanes.now.set).a }
+        requires within { i + 2 * GROUP ≤ 2 ^ ((params lanes.now.set).a - z) }
+        ensures x { let p = params lanes.now.set in let t = self.now in
+            AreJoins ((fors_tree p [] lanes.now.pk_seed.now t.idx_tree t.idx_leaf t.tree_no).join z) p.n i
+            x.old y.old x.new }
+        ensures y { let p = params lanes.now.set in let t = self.now in
+            AreJoins ((fors_tree p [] lanes.now.pk_seed.now t.idx_tree t.idx_leaf t.tree_no).join z) p.n (i + GROUP)
+            c.now d.now y.new }
+    {
+        let x_adrs = self.lane_adrs(lanes.set, AdrsType::ForsTree, z, i);
+        let y_adrs = self.lane_adrs(lanes.set, AdrsType::ForsTree, z, i + GROUP as u32);
+        let x_right = odd_lanes(x, y);
+        let y_right = odd_lanes(c, d);
+        *x = even_lanes(x, y);
+        *y = even_lanes(c, d);
+        lanes.h_two(&x_adrs, &y_adrs, x, y, &x_right, &y_right);
+    }
+
+    /// Writes the sixteen nodes of height `z` from index `i` on, as fors_node makes each (Algorithm 15): the first
+    /// eight into `x`, the others into `y`.
+    fn put_sixteen_nodes(
+        &self,
+        lanes: &SeededLanes,
+        sk_seed: &[u8],
+        z: u32,
+        i: u32,
+        x: &mut LaneNodes,
+        y: &mut LaneNodes,
+    )
+        requires sk_seed { length sk_seed.now ≡ (params lanes.now.set).n }
+        requires tree { self.now.tree_no < MOST_TREES }
+        requires height { z ≤ (params lanes.now.set).a }
+        requires within { i + 2 * GROUP ≤ 2 ^ ((params lanes.now.set).a - z) }
+        ensures x { let p = params lanes.now.set in let t = self.now in
+            AreNodes (fors_tree p sk_seed.now lanes.now.pk_seed.now t.idx_tree t.idx_leaf t.tree_no) p.n z i x.new }
+        ensures y { let p = params lanes.now.set in let t = self.now in
+            AreNodes (fors_tree p sk_seed.now lanes.now.pk_seed.now t.idx_tree t.idx_leaf t.tree_no) p.n z
+            (i + GROUP) y.new }
+    {
+        if z == 0 {
+            self.put_leaves(lanes, sk_seed, i, x, y);
+        } else {
+            let mut c = node_lanes(&[]);
+            let mut d = node_lanes(&[]);
+            let next = 2 * i + 2 * GROUP as u32;
+            self.put_sixteen_nodes(lanes, sk_seed, z - 1, 2 * i, x, y);
+            self.put_sixteen_nodes(lanes, sk_seed, z - 1, next, &mut c, &mut d);
+            self.join_two(lanes, z, i, x, y, &c, &d);
+        }
+    }
+
+    /// The eight nodes of height `z` from index `i` on.
     fn eight_nodes(&self, lanes: &SeededLanes, sk_seed: &[u8], z: u32, i: u32) -> LaneNodes
         requires sk_seed { length sk_seed.now ≡ (params lanes.now.set).n }
         requires tree { self.now.tree_no < MOST_TREES }
         requires height { z ≤ (params lanes.now.set).a }
         requires within { i + GROUP ≤ 2 ^ ((params lanes.now.set).a - z) }
-        ensures { let p = params lanes.now.set in let t = self.now in (j : ℕ) → j < GROUP
-            → value_at result j p.n
-            ≡ node (fors_tree p sk_seed.now lanes.now.pk_seed.now t.idx_tree t.idx_leaf t.tree_no) z (i + j) }
+        ensures { let p = params lanes.now.set in let t = self.now in
+            AreNodes (fors_tree p sk_seed.now lanes.now.pk_seed.now t.idx_tree t.idx_leaf t.tree_no) p.n z i result }
     {
         if z == 0 {
             self.leaf_lanes(lanes, sk_seed, i)
         } else {
-            let left = self.eight_nodes(lanes, sk_seed, z - 1, 2 * i);
-            let right = self.eight_nodes(lanes, sk_seed, z - 1, 2 * i + GROUP as u32);
-            self.join_lanes(lanes, z, i, &left, &right)
+            let mut x = node_lanes(&[]);
+            let mut y = node_lanes(&[]);
+            self.put_sixteen_nodes(lanes, sk_seed, z - 1, 2 * i, &mut x, &mut y);
+            self.join_lanes(lanes, z, i, &x, &y)
         }
     }
 

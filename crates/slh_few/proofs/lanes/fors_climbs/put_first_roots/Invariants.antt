@@ -7,4 +7,4 @@ use Rattle.slh_few.proofs.lanes.fors_climbs.put_first_roots.Given as goal
 abbrev pub invariant-loop-turn : goal.invariant-loop-turn
 invariant-loop-turn l =
     let p = params l.context.set in
-    HasChunks p.n l.out (root_given p [] l.context.pk_seed.now l.idx_tree l.idx_leaf l.indices l.sig) (min (8 * l.turn) p.k)
+    HasChunks p.n l.out (root_given p [] l.context.pk_seed.now l.idx_tree l.idx_leaf l.indices l.sig) (min (16 * l.turn) l.count)
