@@ -6,9 +6,13 @@ use Rattle.slh_params.specs.declared.param_set.ParamSet.{ParamSet}
 use Rattle.slh_hash.specs.Keyed.{joined}
 use Rattle.slh_few.specs.Hypertree.{ht_root_from_sig}
 use Rattle.slh_few.specs.Xmss.{xmss_sig_len}
-use Rattle.slh_core.specs.Signatures.{root_of_signature}
+use Rattle.slh_core.specs.Signatures.{root_of_signature, IsValid}
 use Rattle.slh_core.specs.declared.eight.HtPart.{HtPart}
 use Rattle.slh_core.specs.declared.eight.SignedParts.{SignedParts}
+
+-- the signature is valid for the parts put end to end
+abbrev pub IsPartsValid : SignedParts → Type 0
+IsPartsValid x = IsValid x.pk.now (joined x.parts) x.sig.now
 
 -- the key is of this set, and the signature of its length
 abbrev pub IsOfSet : ParamSet → SignedParts → Type 0
@@ -20,7 +24,7 @@ AreOfSet set items = (j : ℕ) (x : SignedParts) → j < 8 → IsOfSet set (slic
 
 -- the root of the top tree that the signature gives
 abbrev pub root_of : SignedParts → List ℕ
-root_of x = root_of_signature x.pk.now (joined x.parts.now) x.sig.now
+root_of x = root_of_signature x.pk.now (joined x.parts) x.sig.now
 
 -- what the hypertree signs, and its signature, are of this set, and give this root
 abbrev pub Gives : ParamSet → List ℕ → HtPart → Type 0

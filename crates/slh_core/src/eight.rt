@@ -1,16 +1,15 @@
 //! Eight signatures, verified side by side (FIPS 205, section 9.3).
 ghost use Rattle.std.specs.Prelude.{◌≡◌, ◌↔◌, ℕ, ◌*◌, ◌<◌, List, Bool, IsTrue, length, slice_index_or};
 ghost use Rattle.arrayvec.specs.ArrayVec.{ArrayVec};
-ghost use Rattle.slh_hash.specs.Keyed.{joined};
 ghost use Rattle.slh_params.specs.Params.{m, sig_len};
 ghost use Rattle.slh_params.specs.ParamSet.{params};
 ghost use Rattle.slh_params.specs.declared.param_set.ParamSet.{ParamSet};
 ghost use Rattle.slh_few.specs.HtSignatures.{AreUnder, IsUnder, top_root};
 ghost use Rattle.slh_few.specs.Xmss.{xmss_sig_len};
 ghost use Rattle.slh_few.specs.declared.hypertree.HtSignature.{HtSignature};
-ghost use Rattle.slh_core.specs.EightSignatures.{AreGiving, AreOfSet, Gives, root_of};
+ghost use Rattle.slh_core.specs.EightSignatures.{AreGiving, AreOfSet, Gives, IsPartsValid, root_of};
 ghost use Rattle.slh_core.specs.Keys.{pk_root};
-ghost use Rattle.slh_core.specs.Signatures.{fors_sig_len, root_of_parts, IsValid};
+ghost use Rattle.slh_core.specs.Signatures.{fors_sig_len, root_of_parts};
 ghost use Rattle.slh_core.specs.declared.eight.SignedParts.{SignedParts};
 
 use crate::comparing::are_same;
@@ -29,7 +28,7 @@ pub struct SignedParts<'a> {
     /// The key that is to have signed.
     pub pk: &'a PublicKey,
     /// The parts which, put end to end, are the message.
-    pub parts: &'a [&'a [u8]],
+    pub parts: [&'a [u8]; 4],
     /// The signature.
     pub sig: &'a [u8],
 }
@@ -39,8 +38,7 @@ pub struct SignedParts<'a> {
 /// signatures are hashed side by side, one in each SIMD lane.
 pub fn verify_eight(items: &[SignedParts; 8]) -> [bool; 8]
     ensures { (j : ℕ) (valid : Bool) (item : SignedParts) → j < 8
-        → let x = slice_index_or items.now j item in
-        IsTrue (slice_index_or result j valid) ↔ IsValid x.pk.now (joined x.parts.now) x.sig.now }
+        → IsTrue (slice_index_or result j valid) ↔ IsPartsValid (slice_index_or items.now j item) }
 {
     let set = items[0].pk.set();
     if are_of_set(set, items) {
@@ -52,7 +50,7 @@ pub fn verify_eight(items: &[SignedParts; 8]) -> [bool; 8]
 
 /// Whether all keys are of this set, and all signatures of its length.
 fn are_of_set(set: ParamSet, items: &[SignedParts; 8]) -> bool
-    ensures { IsTrue result → AreOfSet set items.now }
+    ensures { IsTrue result ↔ AreOfSet set items.now }
 {
     for j in 0..8 {
         if items[j].pk.set() != set || items[j].sig.len() != set.sig_len() {
@@ -104,11 +102,11 @@ impl<'a> HtPart<'a> {
         let (sig_fors, sig_ht) = rest.split_at(fors_sig_len(set));
         let mut buffer = [0; MOST_DIGEST_LEN];
         let digest = &mut buffer[..set.m()];
-        h_msg(set, r, pk.pk_seed(), pk.pk_root(), item.parts, digest);
+        h_msg(set, r, pk.pk_seed(), pk.pk_root(), &item.parts, digest);
         HtPart::of_digest(pk, digest, sig_fors, sig_ht)
     }
 
-    /// The same for `ht_roots_from_sigs`.
+    /// The part as `ht_roots_from_sigs` takes it.
     fn signature(&self) -> HtSignature<'_, 'a>
         ensures under { (set : ParamSet) (root : List ℕ) → Gives set root self.now → IsUnder set result }
         ensures root { (set : ParamSet) (root : List ℕ) → Gives set root self.now → top_root set result ≡ root }
@@ -160,8 +158,7 @@ fn verdicts(items: &[SignedParts; 8], roots: &Leaves) -> [bool; 8]
 fn verify_side_by_side(set: ParamSet, items: &[SignedParts; 8]) -> [bool; 8]
     requires { AreOfSet set items.now }
     ensures { (j : ℕ) (valid : Bool) (item : SignedParts) → j < 8
-        → let x = slice_index_or items.now j item in
-        IsTrue (slice_index_or result j valid) ↔ IsValid x.pk.now (joined x.parts.now) x.sig.now }
+        → IsTrue (slice_index_or result j valid) ↔ IsPartsValid (slice_index_or items.now j item) }
 {
     let parts = [
         HtPart::of(&items[0]),
@@ -179,13 +176,12 @@ fn verify_side_by_side(set: ParamSet, items: &[SignedParts; 8]) -> [bool; 8]
 /// The verdicts, one after another.
 fn verify_in_turn(items: &[SignedParts; 8]) -> [bool; 8]
     ensures { (j : ℕ) (valid : Bool) (item : SignedParts) → j < 8
-        → let x = slice_index_or items.now j item in
-        IsTrue (slice_index_or result j valid) ↔ IsValid x.pk.now (joined x.parts.now) x.sig.now }
+        → IsTrue (slice_index_or result j valid) ↔ IsPartsValid (slice_index_or items.now j item) }
 {
     let mut valid = [false; 8];
     for j in 0..8 {
         let item = &items[j];
-        valid[j] = verify_internal(item.parts, item.sig, item.pk);
+        valid[j] = verify_internal(&item.parts, item.sig, item.pk);
     }
     valid
 }

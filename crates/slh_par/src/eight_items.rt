@@ -1,10 +1,8 @@
 //! Eight signatures at a time (FIPS 205, Algorithms 24 and 25).
 ghost use Rattle.std.specs.Prelude.{◌≡◌, ◌↔◌, ℕ, ◌<◌, Bool, IsTrue, slice_index_or};
-ghost use Rattle.slh_hash.specs.Keyed.{joined};
-ghost use Rattle.slh_core.specs.Signatures.{IsValid};
-ghost use Rattle.slh_par.specs.EightItems.{IsDividedValid, IsFormattedValid};
+ghost use Rattle.slh_core.specs.EightSignatures.{IsPartsValid};
+ghost use Rattle.slh_par.specs.EightItems.{IsFormattedValid};
 ghost use Rattle.slh_par.specs.Verdicts.{IsVerified};
-ghost use Rattle.slh_par.specs.declared.eight_items.Divided.{Divided};
 ghost use Rattle.slh_par.specs.declared.eight_items.Formatted.{Formatted};
 ghost use Rattle.slh_par.specs.declared.verify_item.VerifyItem.{VerifyItem};
 
@@ -31,64 +29,25 @@ impl<'a> Formatted<'a> {
             sig: item.sig,
         }
     }
-}
 
-/// A signature, with its key and the parts of M'.
-#[derive(Clone, Copy)]
-struct Divided<'m> {
-    pk: &'m PublicKey,
-    parts: [&'m [u8]; 4],
-    sig: &'m [u8],
-}
-
-impl<'m> Divided<'m> {
     /// The signature, with M' in parts. If there is no M', no bytes stand for the signature, which are not valid.
-    fn of(formatted: &'m Formatted<'_>) -> Divided<'m>
-        ensures { IsDividedValid result ↔ IsFormattedValid formatted.now }
+    fn parts(&self) -> SignedParts<'_>
+        ensures { IsPartsValid result ↔ IsFormattedValid self.now }
     {
-        let pk = formatted.pk;
-        match &formatted.message {
-            Some(message) => Divided {
+        let pk = self.pk;
+        match &self.message {
+            Some(message) => SignedParts {
                 pk,
                 parts: message.parts(),
-                sig: formatted.sig,
+                sig: self.sig,
             },
-            None => Divided {
+            None => SignedParts {
                 pk,
                 parts: [&[]; 4],
                 sig: &[],
             },
         }
     }
-
-    /// The signature, as `verify_eight` takes it.
-    fn signed(&self) -> SignedParts<'_>
-        ensures { IsValid result.pk.now (joined result.parts.now) result.sig.now ↔ IsDividedValid self.now }
-    {
-        SignedParts {
-            pk: self.pk,
-            parts: &self.parts,
-            sig: self.sig,
-        }
-    }
-}
-
-/// Whether each of eight signatures is valid.
-fn verdicts_of_divided(all: &[Divided; 8]) -> [bool; 8]
-    ensures { (j : ℕ) (valid : Bool) (x : Divided) → j < 8
-        → IsTrue (slice_index_or result j valid) ↔ IsDividedValid (slice_index_or all.now j x) }
-{
-    let [a, b, c, d, e, f, g, h] = all;
-    verify_eight(&[
-        a.signed(),
-        b.signed(),
-        c.signed(),
-        d.signed(),
-        e.signed(),
-        f.signed(),
-        g.signed(),
-        h.signed(),
-    ])
 }
 
 /// Whether each of eight signatures is valid.
@@ -97,15 +56,15 @@ fn verdicts_of_formatted(all: &[Formatted; 8]) -> [bool; 8]
         → IsTrue (slice_index_or result j valid) ↔ IsFormattedValid (slice_index_or all.now j x) }
 {
     let [a, b, c, d, e, f, g, h] = all;
-    verdicts_of_divided(&[
-        Divided::of(a),
-        Divided::of(b),
-        Divided::of(c),
-        Divided::of(d),
-        Divided::of(e),
-        Divided::of(f),
-        Divided::of(g),
-        Divided::of(h),
+    verify_eight(&[
+        a.parts(),
+        b.parts(),
+        c.parts(),
+        d.parts(),
+        e.parts(),
+        f.parts(),
+        g.parts(),
+        h.parts(),
     ])
 }
 

@@ -7,8 +7,7 @@ use Rattle.slh_core.proofs.Names.{function_named_is}
 use Rattle.slh_core.specs.PreHash as pre_hash
 use Rattle.slh_core.specs.declared.pre_hash.PreHash.{PreHash}
 use Rattle.slh_params.proofs.Names.{set_named_is, set_named-standard}
-use Rattle.slh_params.specs.ParamSet as param_set
-use Rattle.slh_params.specs.ParamSet.{params, set_named}
+use Rattle.slh_params.specs.ParamSet.{set_named}
 use Rattle.slh_params.specs.declared.param_set.ParamSet.{ParamSet}
 use Rattle.slh_vectors.specs.Names.{form_name, form_named, pre_hashed, kind_name, kind_named}
 use Rattle.slh_vectors.specs.declared.test.Kind.{Kind}

@@ -2,12 +2,11 @@
 ghost use Rattle.std.specs.Prelude.{◌≡◌, ◌↔◌, ℕ, ◌<◌, Bool, IsTrue, IsSome, IfSome, slice_index_or};
 ghost use Rattle.std.specs.Borrow.{Bor};
 ghost use Rattle.slh_core.specs.Keyed.{joined};
-ghost use Rattle.slh_core.specs.Signatures.{IsValid};
+ghost use Rattle.slh_core.specs.EightSignatures.{IsPartsValid};
 ghost use Rattle.slh_workers.specs.Items.{AreAnswers};
 ghost use Rattle.slh_vectors.specs.Cases.{input_view, test_view, verify, verify_view};
-ghost use Rattle.slh_vectors.specs.EightTests.{IsDividedValid, IsSignedValid, IsTestValid, content_bytes};
+ghost use Rattle.slh_vectors.specs.EightTests.{IsSignedValid, IsTestValid, content_bytes};
 ghost use Rattle.slh_vectors.specs.Outcomes.{HasMessage, IsOutcome, message_of};
-ghost use Rattle.slh_vectors.specs.declared.eight_tests.Divided.{Divided};
 ghost use Rattle.slh_vectors.specs.declared.eight_tests.Signed.{Signed};
 ghost use Rattle.slh_vectors.specs.declared.outcome.Outcome.{Outcome};
 ghost use Rattle.slh_vectors.specs.declared.test.Test.TheVariants.{Verify};
@@ -93,64 +92,25 @@ impl<'a> Signed<'a> {
             sig: test.signature.as_slice(),
         }
     }
-}
 
-/// A signature, with its key and the parts of M'.
-#[derive(Clone, Copy)]
-struct Divided<'m> {
-    pk: &'m PublicKey,
-    parts: [&'m [u8]; 4],
-    sig: &'m [u8],
-}
-
-impl<'m> Divided<'m> {
     /// The signature, with M' in parts. If there is no M', no bytes stand for the signature, which are not valid.
-    fn of(signed: &'m Signed<'_>) -> Divided<'m>
-        ensures { IsDividedValid result ↔ IsSignedValid signed.now }
+    fn parts(&self) -> SignedParts<'_>
+        ensures { IsPartsValid result ↔ IsSignedValid self.now }
     {
-        let pk = &signed.pk;
-        match &signed.content {
-            Some(content) => Divided {
+        let pk = &self.pk;
+        match &self.content {
+            Some(content) => SignedParts {
                 pk,
                 parts: content.parts(),
-                sig: signed.sig,
+                sig: self.sig,
             },
-            None => Divided {
+            None => SignedParts {
                 pk,
                 parts: [&[]; 4],
                 sig: &[],
             },
         }
     }
-
-    /// The signature, as `verify_eight` takes it.
-    fn signed_parts(&self) -> SignedParts<'_>
-        ensures { IsValid result.pk.now (joined result.parts.now) result.sig.now ↔ IsDividedValid self.now }
-    {
-        SignedParts {
-            pk: self.pk,
-            parts: &self.parts,
-            sig: self.sig,
-        }
-    }
-}
-
-/// Whether each of eight signatures is valid.
-fn verdicts_of_divided(all: &[Divided; 8]) -> [bool; 8]
-    ensures { (j : ℕ) (valid : Bool) (x : Divided) → j < 8
-        → IsTrue (slice_index_or result j valid) ↔ IsDividedValid (slice_index_or all.now j x) }
-{
-    let [a, b, c, d, e, f, g, h] = all;
-    verify_eight(&[
-        a.signed_parts(),
-        b.signed_parts(),
-        c.signed_parts(),
-        d.signed_parts(),
-        e.signed_parts(),
-        f.signed_parts(),
-        g.signed_parts(),
-        h.signed_parts(),
-    ])
 }
 
 /// Whether each of eight signatures is valid.
@@ -159,15 +119,15 @@ fn verdicts_of_signed(all: &[Signed; 8]) -> [bool; 8]
         → IsTrue (slice_index_or result j valid) ↔ IsSignedValid (slice_index_or all.now j x) }
 {
     let [a, b, c, d, e, f, g, h] = all;
-    verdicts_of_divided(&[
-        Divided::of(a),
-        Divided::of(b),
-        Divided::of(c),
-        Divided::of(d),
-        Divided::of(e),
-        Divided::of(f),
-        Divided::of(g),
-        Divided::of(h),
+    verify_eight(&[
+        a.parts(),
+        b.parts(),
+        c.parts(),
+        d.parts(),
+        e.parts(),
+        f.parts(),
+        g.parts(),
+        h.parts(),
     ])
 }
 

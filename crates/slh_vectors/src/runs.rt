@@ -85,8 +85,8 @@ fn batches_of<'a, A: Allocator>(
     Ok(batches)
 }
 
-/// The outcome of each test, in their order, by several workers. Of verify tests of one set that follow one another a
-/// worker runs eight at a time; it runs other tests, and the last of them, one by one. Over 2^32 - 1 batches are run in
+/// The outcome of each test, in their order, by several workers. If verify tests of one set follow one another, a worker
+/// runs eight at a time, and the last ones one by one. It runs other tests one by one. Over 2^32 - 1 batches are run in
 /// several runs. Refused only for lack of memory. It waits only for the threads that it started.
 pub fn run_vectors<R: Threads + Sync, A: Allocator + Clone + Send + Sync>(
     rt: &R,

@@ -1,5 +1,5 @@
 -- Each verdict is that on what is made of the item in its place.
-use Rattle.std.proofs.Common.{◌≡◌, ◌↔◌, ℕ, ◌<◌, IsTrue, List, length, get_or, arith, rules}
+use Rattle.std.proofs.Common.{◌≡◌, ◌↔◌, IsTrue, length, get_or, arith, rules}
 use Rattle.slh_core.proofs.EightVerdicts.{at_each_of_eight, verdict_at}
 use Rattle.slh_par.specs.Verdicts.{IsVerified}
 use Rattle.slh_par.proofs.eight_items.verdicts_of_eight.Goals as goal

@@ -1,5 +1,5 @@
 -- Each verdict is that on what is made of the item in its place.
-use Rattle.std.proofs.Common.{◌≡◌, ◌↔◌, ℕ, ◌<◌, IsTrue, List, length, get_or, arith, rules}
+use Rattle.std.proofs.Common.{◌≡◌, ◌↔◌, IsTrue, length, get_or, arith, rules}
 use Rattle.slh_core.proofs.EightVerdicts.{at_each_of_eight, verdict_at}
 use Rattle.std.specs.Borrow.{Bor}
 use Rattle.slh_vectors.specs.Cases.{verify_view}

@@ -1,5 +1,5 @@
 -- The eight items are the whole batch.
-use Rattle.std.proofs.Common.{◌≡◌, length, sym, arith, rules}
+use Rattle.std.proofs.Common.{◌≡◌, length, arith, rules}
 use Rattle.slh_par.proofs.verifying.ValidityBatchQuestionVerifyItem.answers.Goals as goal
 
 pub returns-in_ok-from_array-in-Some : goal.returns-in_ok-from_array-in-Some
