@@ -540,8 +540,13 @@ static long growth(int is_late, size_t wrong) {
 }
 
 /* What may be added to a process that holds no message, in KB. AddressSanitizer adds pages of its own: 1,064 KB of GCC
-   14 were seen, for 180 without it. */
-#ifdef __SANITIZE_ADDRESS__
+   14 were seen, for 180 without it. Clang tells of it by a feature. */
+#ifdef __has_feature
+#if __has_feature(address_sanitizer)
+#define UNDER_SANITIZER
+#endif
+#endif
+#if defined(__SANITIZE_ADDRESS__) || defined(UNDER_SANITIZER)
 enum { MOST_GROWTH = 8192 };
 #else
 enum { MOST_GROWTH = 1023 };
