@@ -36,8 +36,9 @@ FILES = {
     "slh_verify.c": ["verify_head.c", "machine.h", "fixed_memory.c", "parts.h", "verify_calls.c"],
 }
 # The functions that call themselves, and how many calls of each are open at once at most. A FORS tree has the height a,
-# which is at most 14 in the six sets; the first call is for a height of at most a, and each within for one less.
-NESTED = {"slh_few_fors_tree_ForsPlace_eight_nodes": 15}
+# which is at most 14 in the six sets. A node of it is made from sixteen nodes of a height of at most a - 4. Each call
+# within is for one less.
+NESTED = {"slh_few_fors_tree_ForsPlace_put_sixteen_nodes": 11}
 # The functions that compare what is secret, and look at all bytes before they decide. A compiler that inlines one for
 # a known number of bytes can make branches of it. And those that compare twice, which a compiler could do once.
 COMPARISONS = {"slh_jobs_tag_have_same_bytes", "slh_core_hardened_passes", "slh_core_hardened_passes_again"}
