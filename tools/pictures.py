@@ -88,7 +88,8 @@ class Picture:
         far = 5.5
         corners = [None, [(-far, -far), (far, -far), (far, far), (-far, far)],
                    [(0, -far - 2), (far + 2, 0), (0, far + 2), (-far - 2, 0)],
-                   [(0, -far - 1), (far + 1, far), (-far - 1, far)]][series % 4]
+                   [(0, -far - 1), (far + 1, far), (-far - 1, far)],
+                   [(0, far + 1), (far + 1, -far), (-far - 1, -far)]][series % 5]
         if corners is None:
             self.put("circle", cx=round(x, 1), cy=round(y, 1), r=far, class_=f"f{series}")
         else:
@@ -108,7 +109,7 @@ def build_name(build):
 def series_name(build):
     """The name of a series in a legend. OpenSSL's version is the one that the page of the table names."""
     if build != "OpenSSL":
-        return f"Pipitscreen {build}"
+        return build if build.startswith("OpenSSL") else f"Pipitscreen {build}"
     with open(os.path.join(ROOT, "docs/BENCHMARKS.md")) as file:
         version = re.search(r"OpenSSL is (\d+\.\d+\.\d+)", file.read()).group(1)
     return f"OpenSSL {version}, no SHA instructions"
@@ -138,6 +139,8 @@ def draw_log_axis(picture, steps, place, top, bottom):
 def draw_legend(picture, builds, y):
     x = 20
     for series, build in enumerate(builds):
+        if x + 18 + 6.8 * len(series_name(build)) > picture.width:
+            x, y = 20, y + 17
         picture.mark(series, x + 6, y - 4)
         picture.text(x + 18, y, series_name(build))
         x += 44 + 6.8 * len(series_name(build))
@@ -150,7 +153,7 @@ def draw_sign_times():
     bottom = top + row_height * len(times)
     picture = Picture(760, bottom + 50, "Time to sign, by set, for OpenSSL and each build")
     picture.text(20, 28, "Time of one signature, in one thread", "head")
-    draw_legend(picture, builds, 54)
+    draw_legend(picture, builds, 47)
     place = on_log(steps, 80, picture.width - 30)
     draw_log_axis(picture, steps, place, top, bottom)
     for i, (name, row) in enumerate(times.items()):
@@ -172,7 +175,7 @@ def draw_lengths():
     steps, top, bottom, tall = round_steps(min(known), max(known)), 72, 372, 60000
     picture = Picture(760, bottom + 50, "Signature length against time to sign, for the six sets")
     picture.text(20, 28, "Length of a signature in bytes, against the time to make it", "head")
-    draw_legend(picture, builds, 54)
+    draw_legend(picture, builds, 47)
     place, height = on_log(steps, 80, picture.width - 60), lambda it: bottom - (bottom - top) * it / tall
     draw_log_axis(picture, steps, place, top, bottom)
     for length in range(0, tall + 1, 10000):
