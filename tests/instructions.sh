@@ -1,7 +1,8 @@
 #!/usr/bin/env bash
 # Counts the instructions of calls of the library for C, and compares them with tests/instructions.txt: key generation,
-# signing, the jobs of a signature, and verifying. Speed that no clause secures shows here, as work that is done twice
-# or hashes that left the SIMD lanes. A count may be 2 % above or below its line.
+# signing, the jobs of a signature, and verifying. It does so of the program of a release that verifies eight signatures
+# at a time. Speed that no clause secures shows here, as work that is done twice or hashes that left the SIMD lanes. A
+# count may be 2 % above or below its line.
 #
 # usage: tests/instructions.sh [--few] {--dist DIST | PREFIX} [--write]
 #
@@ -36,8 +37,29 @@ counts_instructions() {
         sed "s/^/$1 /" | LC_ALL=C sort >"$work/counts" && [ -s "$work/counts" ]
 }
 
+# Writes the first eight verify tests of a set that have a whole signature as a vector file.
+writes_eight() {
+    python3 - "$here/tests/vectors/slh-dsa-sha2-$1.json" <<'END'
+import json, sys
+tests = [it for it in json.load(open(sys.argv[1])) if it["kind"] == "verify"]
+whole = next(len(it["signature"]) for it in tests if it["valid"])
+json.dump([it for it in tests if len(it["signature"]) == whole][:8], sys.stdout)
+END
+}
+
+# Adds the instructions of the program of a level that verifies eight signatures of a set.
+counts_eight() {
+    writes_eight "$2" >"$work/eight.json" &&
+        valgrind -q --tool=callgrind --callgrind-out-file="$work/eight" "$release/x86-64-$1/slh" vectors \
+            --file "$work/eight.json" >"$work/outcomes" && grep -qx 'passed 8 failed 0' "$work/outcomes" &&
+        sed -n "s/^summary: /$1 eight $2 /p" "$work/eight" >>"$work/counts"
+}
+
 # Whether a count is within 2 % of another one.
 is_near() { awk -v found="$1" -v wanted="$2" 'BEGIN { exit !(found >= 0.98 * wanted && found <= 1.02 * wanted) }'; }
+
+# The lines of the table for a level, without those of the program if no release is given.
+lines_of() { grep "^$1 " "$table" | { [ -n "$release" ] && cat || grep -v ' eight '; }; }
 
 # Tells of each line of the table for a level whether its count is near, and whether each count has a line.
 compares() {
@@ -47,9 +69,9 @@ compares() {
         word=no
         ! is_near "${found:-0}" "$wanted" || word=yes
         tell "$task of $set by $level takes $wanted instructions, and took ${found:-none}" $word
-    done < <(sed -n "s/^$level //p" "$table")
-    one "each call by $level has a line" diff <(cut -d' ' -f1-3 "$work/counts") \
-        <(grep "^$level " "$table" | cut -d' ' -f1-3)
+    done < <(lines_of "$level" | cut -d' ' -f2-)
+    one "each call by $level has a line" diff <(cut -d' ' -f1-3 "$work/counts" | LC_ALL=C sort) \
+        <(lines_of "$level" | cut -d' ' -f1-3)
 }
 
 if ! can_run "counts of instructions" valgrind "${CC:-cc}" || [ "$(uname -sm)" != "Linux x86_64" ]; then
@@ -61,8 +83,11 @@ for level in v2 v3; do
         [ $few = no ] && can_use avx2 || continue
     fi
     one "the calls by $level are counted" counts_instructions $level || continue
+    for set in 128f 192f; do
+        [ -z "$release" ] || one "eight signatures of $set by $level are counted" counts_eight $level $set
+    done
     if [ "${words[1]-}" = --write ]; then
-        cat "$work/counts" >>"$work/table"
+        LC_ALL=C sort "$work/counts" >>"$work/table"
     else
         compares $level
     fi

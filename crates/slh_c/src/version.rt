@@ -5,7 +5,7 @@ ghost use Rattle.std.specs.Prelude.{◌≡◌};
 /// second, and its third.
 #[unsafe(no_mangle)]
 pub extern "C" fn slh_version() -> u32
-    ensures version { result ≡ 12000 }
+    ensures version { result ≡ 13000 }
 {
-    12_000
+    13_000
 }

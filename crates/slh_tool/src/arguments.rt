@@ -160,7 +160,7 @@ const STATUS_HELP: &str = "Exit status: 0 for done, valid, consistent or all tes
 table of refusals, with the usual causes.";
 
 /// The version is that of the file `VERSION`.
-const ABOUT: &str = "slh 0.12.0: keys and signatures of SLH-DSA (FIPS 205) with SHA-2";
+const ABOUT: &str = "slh 0.13.0: keys and signatures of SLH-DSA (FIPS 205) with SHA-2";
 
 /// The program with no subcommand so far, with its purpose and the end of its help.
 fn no_command<'a>(alloc: Global, about: &'a str, help: &'a str) -> Result<Command<'a>, AllocError>
