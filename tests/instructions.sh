@@ -74,7 +74,7 @@ compares() {
         <(lines_of "$level" | cut -d' ' -f1-3)
 }
 
-if ! can_run "counts of instructions" valgrind "${CC:-cc}" || [ "$(uname -sm)" != "Linux x86_64" ]; then
+if ! can_run "counts of instructions" valgrind python3 "${CC:-cc}" || [ "$(uname -sm)" != "Linux x86_64" ]; then
     end_counts
     exit
 fi

@@ -254,7 +254,7 @@ pub struct HtSignature<'c, 'a> {
 }
 
 /// The roots of the top trees that eight signatures under one set give, n bytes each (Algorithm 13, lines 1 to 12). T
-/// and H of all eight are hashed side by side, one in each lane, where the build has lanes for both.
+/// and H of all eight are hashed side by side, one in each lane, if the build has lanes for both.
 pub fn ht_roots_from_sigs(set: ParamSet, signed: &[HtSignature; GROUP]) -> Leaves
     requires { AreUnder set signed.now }
     ensures len { length result.items ≡ GROUP }

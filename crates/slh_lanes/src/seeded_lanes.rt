@@ -97,7 +97,7 @@ impl<'a> SeededLanes<'a> {
         self.digests(adrs, &node_lanes(sk_seed), self.set.n())
     }
 
-    /// PRF, which is F of SK.seed, in each lane of two groups at once: into `x` it writes the secrets at the addresses
+    /// PRF, which is F of SK.seed, in each lane of two groups at once. Writes into `x` the secrets at the addresses
     /// `x_adrs`, and into `y` those at `y_adrs`.
     pub fn prf_two(
         &self,
@@ -178,8 +178,8 @@ impl<'a> SeededLanes<'a> {
         nodes
     }
 
-    /// Runs the chains of two groups of eight on, each from its value after `from` steps by `count` steps: those in `x`
-    /// at the addresses `x_adrs`, and those in `y` at `y_adrs`.
+    /// Runs the chains of two groups of eight on, each from its value after `from` steps by `count` steps. Those in `x`
+    /// have the addresses `x_adrs`, and those in `y` have `y_adrs`.
     pub fn chains_two(
         &self,
         x_adrs: &LaneAdrs,
@@ -207,8 +207,8 @@ impl<'a> SeededLanes<'a> {
         }
     }
 
-    /// Runs eight chains on, that of each lane from its own step and by its own number of steps. A lane that has ended
-    /// keeps its value.
+    /// Runs eight chains on. Each lane has its own first step and its own number of steps. A lane that has ended keeps
+    /// its value.
     pub fn chains_each(
         &self,
         adrs: &LaneAdrs,
@@ -232,8 +232,8 @@ impl<'a> SeededLanes<'a> {
         nodes
     }
 
-    /// Runs the chains of two groups of eight on, that of each lane from its own step and by its own number of steps:
-    /// those in `x` at the addresses `x_adrs`, and those in `y` at `y_adrs`. A lane that has ended keeps its value.
+    /// Runs the chains of two groups of eight on. Each lane has its own first step and its own number of steps. The
+    /// chains in `x` have the addresses `x_adrs`, and those in `y` have `y_adrs`. A lane that has ended keeps its value.
     pub fn chains_each_two(
         &self,
         x_adrs: &LaneAdrs,
@@ -294,7 +294,7 @@ impl<'a> SeededLanes<'a> {
         short_digests(splat_all(&self.short), len, adrs, x)
     }
 
-    /// In each lane of two groups what `digests` gives, of the values in `x` and of those in `y`.
+    /// Puts into each lane of two groups the digest that `digests` gives of the value there.
     fn digests_two(
         &self,
         x_adrs: &LaneAdrs,

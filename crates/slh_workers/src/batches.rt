@@ -29,9 +29,9 @@ pub trait BatchQuestion<T>: Sync {
         ensures { IfOk result (λ answers. AreAnswers (is_answer self.now) items.now answers.items) };
 }
 
-/// Adds the items in batches for these workers: whole ones while there is one for each worker, so that none of them has
-/// nothing to do while another answers eight, and after these each item alone. Refuses `NoMemory` if a growth was
-/// refused; then some batches may be added.
+/// Adds the items in batches for these workers. Whole batches come first; their number is a multiple of the workers'.
+/// After them each item is a batch of its own, so that no worker answers eight while another has nothing to do. Refuses
+/// `NoMemory` if a growth was refused; then some batches may be added.
 pub fn push_batches<'a, T, A: Allocator>(
     batches: &mut Vec<&'a [T], A>,
     items: &'a [T],
