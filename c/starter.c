@@ -58,7 +58,9 @@ void slh_start(char **stack) {
     char **arguments = stack + 1, **environment = arguments + (size_t)*stack + 1;
     char *path = put(text, NAME, 0), *end = read_folder(path);
     if (!end) refuse(put(path, OWN_PATH " can't be read\n", 0));
-    end = put(end, BUILD, (char)('0' + (slh_choose() & LEVEL_MASK)));
+    uint32_t level = slh_choose() & LEVEL_MASK;
+    if (level == BELOW_V2) refuse(put(path, "this processor is not of the level x86-64-v2\n", 0));
+    end = put(end, BUILD, (char)('0' + level));
     system_call(EXECVE, (long)path, (long)arguments, (long)environment);
     refuse(put(end, FAULT, 0));
 }

@@ -17,13 +17,16 @@ Each file gets one word. The first three are right:
   unwritable  the signature could not be written
   added, changed, removed, renamed    the file is otherwise than the manifest lists it
 
-`sign` writes over no signature. At its end it writes the next manifest, unless nothing changed. If files of the
-manifest before are removed, renamed or changed, it ends with status 1, and writes a manifest only with --accept. A
-signature is written whole or not at all, and the disk has it and its name before the report does.
+`sign` writes over no signature, and signs no file that the manifest lists with another content. If the manifest can't
+be relied on, it signs nothing, and its status is 1. At its end it writes the next manifest, unless nothing changed. If
+files of the manifest before are removed, renamed or changed, it ends with status 1, and signs changed files and writes
+a manifest only with --accept. A signature is written whole or not at all, and the disk has it and its name before the
+report does. A file whose times or length change while it is read and signed gets no signature.
 
 `verify` fails without a manifest. With --no-manifest both commands see to signatures alone. A manifest tells that a
 file was removed, renamed, added or rolled back. That all was rolled back, with the manifest, is told by a REPORT that
-has seen a later number, or by --least, the least number to take.
+has seen a later number, or by --least, the least number to take. A manifest lists names, contents and symbolic links.
+It lists no owners, modes, times, hard links or empty folders: sign a tar archive to have these signed.
 
 REPORT is an SQLite database, outside of the folder. Its table `files` has the word for each file and a reason. It
 belongs to a command, a key and a folder, and is refused for others. After a stop (Ctrl-C, or an end by force) the same
@@ -123,7 +126,8 @@ def folder_of(root, name):
 
 @contextlib.contextmanager
 def opened(at, name):
-    """A file to read, and what the system says of it. A pipe is refused, since it may have no end."""
+    """A file to read, and what the system says of it. A pipe is refused, since it may have no end. One that is not the
+    same when the caller has done with it is refused, too."""
     number = os.open(name, os.O_RDONLY | os.O_NOFOLLOW | os.O_NONBLOCK | os.O_CLOEXEC, dir_fd=at)
     try:
         seen = os.fstat(number)
@@ -131,6 +135,8 @@ def opened(at, name):
             raise OSError(f"{name} is no file")
         with open(number, "rb", closefd=False) as file:
             yield file, seen
+        if stamp_of(os.fstat(number)) != stamp_of(seen):
+            raise OSError(f"{name} changed while it was read")
     finally:
         os.close(number)
 
@@ -153,9 +159,8 @@ def keep(part, at, name, mode):
     os.link(part.name, name, dst_dir_fd=at)
 
 
-def sign(secret, message, at, name, mode):
-    """Signs a message with fresh random bytes, verifies, and writes the signature, which the disk then has."""
-    signature = secret.sign(message, verify=True)
+def write_signature(signature, at, name, mode):
+    """Writes a signature, which the disk then has. Returns the word, and the reason if it could not be written."""
     try:
         with new_part(at) as part:
             part.write(signature)
@@ -166,11 +171,16 @@ def sign(secret, message, at, name, mode):
     return "signed", None
 
 
+def stamp_of(it):
+    """What shows whether a file changed."""
+    return it.st_ino, it.st_size, it.st_mtime_ns, it.st_ctime_ns
+
+
 def state_of(*seen):
     """What shows whether files changed, or None if they changed just now: then one more change might not show."""
     if max(it.st_ctime_ns for it in seen) > time.time_ns() - SETTLED:
         return None
-    return " ".join(f"{it.st_ino} {it.st_size} {it.st_mtime_ns} {it.st_ctime_ns}" for it in seen)
+    return " ".join(str(number) for it in seen for number in stamp_of(it))
 
 
 def row(name, word, why=None, content=None, state=None):
@@ -193,14 +203,25 @@ def judge_link(name, at, last):
     return row(name, "link", json.dumps(target), os.fsencode(target))
 
 
-def judge_in(task, secret, name, at, last):
+def sign_in(secret, name, listed, at, last):
+    """The row of a file without a signature. It is signed two times, with fresh random bytes, and verified, unless the
+    manifest lists another content of it."""
+    with opened(at, last) as (file, seen):
+        message = file.read()
+        if listed not in (None, (None, hashlib.sha512(message).digest())):
+            return row(name, "changed", "it is not signed", message)
+        signature = secret.sign(message, verify=True)
+    return row(name, *write_signature(signature, at, last + ".sig", seen.st_mode & 0o666), message)
+
+
+def judge_in(task, secret, name, listed, at, last):
     """The row of a file in a folder. With a secret key it is signed, unless there is a signature."""
     if stat.S_ISLNK(os.lstat(last, dir_fd=at).st_mode):
         return judge_link(name, at, last)
-    message, seen = read(at, last)
     is_manifest = MANIFEST.fullmatch(name)
     if secret and not is_manifest and not is_there(at, last + ".sig"):
-        return row(name, *sign(secret, message, at, last + ".sig", seen.st_mode & 0o666), message)
+        return sign_in(secret, name, listed, at, last)
+    message, seen = read(at, last)
     signature, seen_too = read(at, last + ".sig", task.public.set.lengths.signature + 1)
     state = state_of(seen, seen_too)
     try:
@@ -213,20 +234,20 @@ def judge_in(task, secret, name, at, last):
     return row(name, "valid", None, message, state)
 
 
-def judge(task, secret, name):
-    """The row of one file."""
+def judge(task, secret, name, listed):
+    """The row of one file, and of what the manifest lists of it: None, or the target of a link and a SHA-512."""
     try:
         with folder_of(task.root, name) as (at, last):
-            return judge_in(task, secret, name, at, last)
+            return judge_in(task, secret, name, listed, at, last)
     except (OSError, ValueError, MemoryError) as fault:
         return row(name, "unreadable", str(fault) or type(fault).__name__)
 
 
-def judge_all(task, names):
+def judge_all(task, files):
     """The rows of some files. This is what threads and the workers of a cluster run."""
     secret = slh.SecretKey.load(task.secret) if task.secret else None
     with secret or contextlib.nullcontext():
-        return [judge(task, secret, name) for name in names]
+        return [judge(task, secret, *it) for it in files]
 
 
 # ---- the report ----
@@ -281,12 +302,15 @@ class Report:
             (SELECT 1 FROM found WHERE found.name = files.name AND found.state = files.state)""", (is_all,))
         self.commit()
 
-    def left(self):
-        """The names without a row, of which there may be many."""
+    def left(self, accepts):
+        """The names without a row, of which there may be many, with what the manifest lists of each: that is None for a
+        new file, and for all if changed files are accepted."""
         last = b""
-        page_of = f"SELECT name FROM {LEFT} WHERE name >= ? ORDER BY name LIMIT 1000"
+        page_of = f"""SELECT name, link, sha512 FROM {LEFT} LEFT JOIN manifest USING (name) WHERE name >= ?
+            ORDER BY name LIMIT 1000"""
         while page := self.db.execute(page_of, (last,)).fetchall():
-            yield from (os.fsdecode(name) for name, in page)
+            for name, *listed in page:
+                yield os.fsdecode(name), None if accepts or listed[1] is None else tuple(listed)
             last = page[-1][0] + b"\0"
 
     def add(self, rows):
@@ -586,6 +610,11 @@ def names_in(root, kept, clears):
                     yield name.removesuffix(".sig")
 
 
+def clear_leftovers(root):
+    """Removes what runs, and workers that were lost, left of signatures that they did not finish."""
+    collections.deque(names_in(root, (), True), maxlen=0)
+
+
 def names_of_list(path, root):
     """The files that a list has, each of which has to be in the folder, by their names there."""
     with open(path, "rb") as lines:
@@ -672,7 +701,8 @@ def find_files(task, report, words):
     latest = None if words.no_manifest else manifest_name(newest(task.root, False))
     names = names_in(task.root, {latest, f"{latest}.sig"}, bool(task.secret))
     if words.list:
-        collections.deque(names if task.secret else (), maxlen=0)
+        if task.secret:
+            clear_leftovers(task.root)
         names = names_of_list(words.list, task.root)
     report.find(task.root, names, words.all)
 
@@ -700,8 +730,8 @@ def finish(words, task, report, before):
     return before.number
 
 
-def batches_of(names, size):
-    while batch := list(itertools.islice(names, size)):
+def batches_of(files, size):
+    while batch := list(itertools.islice(files, size)):
         yield batch
 
 
@@ -709,11 +739,13 @@ def work(words, task, report, before, stop):
     """Does all that is left. Returns the count of the files that are not done, and the number of the manifest."""
     total, left = (report.first(f"SELECT count(*) FROM {it}") for it in ("found", LEFT))
     executor, at_a_time = open_executor(words)
-    batches = batches_of(report.left(), FILES[words.command])
+    batches = batches_of(report.left(words.accept), FILES[words.command])
     with progress_of(total - left, total) as progress:
         run(executor, at_a_time, task, batches, report, progress, stop)
     report.commit()
     lacking = report.first(f"SELECT count(*) FROM {LEFT}")
+    if words.cluster and task.secret and not lacking:
+        clear_leftovers(task.root)
     number = 0 if lacking or words.no_manifest else finish(words, task, report, before)
     report.commit()
     tell(report, total - left, lacking, number)
@@ -758,6 +790,9 @@ def main():
         sys.exit(2)
     try:
         before = manifest_before(task, report, words)
+        if before.bad and task.secret:
+            print(f"archive.py: nothing is signed: the manifest can't be relied on: {before.bad}", file=sys.stderr)
+            end(1)
         find_files(task, report, words)
         lacking = work(words, task, report, before, stop)
     except (ValueError, ImportError) as fault:

@@ -2,7 +2,7 @@
 /* A boot loader: of two slots it starts the newest image that is signed, and none that is older than LEAST_VERSION, which
    a device keeps where an image cannot change it. The layout of a slot is that of MCUboot (boot.h).
 
-   Only examples/boot_cortex_m.c is about a board. tests/boot_tests.sh packs and signs images, and runs this on emulated
+   Only examples/boot_cortex_m.c is about a board. tests/test_boot.py packs and signs images, and runs this on emulated
    boards. public_key.h has the public key of the set 128s, as xxd -i writes it. */
 #include "boot.h"
 

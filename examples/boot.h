@@ -12,8 +12,8 @@
 #define SLOT_SIZE 0x8000u
 #endif
 
+#define HEADER_MAGIC 0x96f3b83du /* MCUboot's, as the next one */
 enum {
-    HEADER_MAGIC = 0x3db8f396, /* MCUboot's, with its bytes turned: no MCUboot takes such an image for its own */
     TRAILER_MAGIC = 0x6907,
     TLV_SLH_DSA = 0xa0 /* the first tag that MCUboot leaves to vendors: SLH-DSA-SHA2-128s with SHA2-256 */
 };

@@ -41,7 +41,7 @@ static uint8_t *read_file(const char *path, size_t *len) {
 
 int main(int count, char **words) {
     uint8_t seeds[4 * N], sk[SLH_DSA_SHA2_128F_SECRET_KEY], pk[SLH_DSA_SHA2_128F_PUBLIC_KEY];
-    static uint8_t sig[SLH_DSA_SHA2_128F_SIGNATURE];
+    static uint8_t sig[SLH_DSA_SHA2_128F_SIGNATURE], scratch[2 * sizeof sig];
     if (count != 2) return fputs("usage: sign_file FILE\n", stderr), 2;
     size_t len;
     uint8_t *msg = read_file(words[1], &len);
@@ -51,8 +51,9 @@ int main(int count, char **words) {
 
     expect_done("keygen", slh_keygen(SET, seeds, N, seeds + N, N, seeds + 2 * N, N, sk, sizeof sk));
     expect_done("public", slh_public(SET, sk, sizeof sk, pk, sizeof pk));
-    /* an empty context, and a randomizer of n bytes */
-    expect_done("sign", slh_sign(SET, sk, sizeof sk, msg, len, NULL, 0, seeds + 3 * N, N, sig, sizeof sig));
+    /* two times, which finds a fault of memory or the processor; an empty context, and a randomizer of n bytes */
+    expect_done("sign", slh_sign_twice(SET, sk, sizeof sk, msg, len, NULL, 0, seeds + 3 * N, N, scratch, sizeof scratch,
+                                       sig, sizeof sig));
     slh_erase(seeds, sizeof seeds);
     slh_erase(sk, sizeof sk);
     expect_done("verify", slh_verify(SET, pk, sizeof pk, msg, len, NULL, 0, sig, sizeof sig));

@@ -33,7 +33,7 @@ struct Signed {
 static Signed sign(const slh::Bytes &msg) {
     const auto sk = slh::SecretKey::generate(SLH_DSA_SHA2_128F); // It is erased at the end, also by exceptions.
     slh::Options options;
-    options.verify = true;
+    options.verify = true; // As the two computations, it finds faults of memory and the processor.
     return {sk.public_key(), sk.sign(msg, options)};
 }
 

@@ -56,13 +56,13 @@ lengths = [ctypes.c_size_t() for _ in range(4)]
 if library.slh_lengths(SET, *map(ctypes.byref, lengths)) != 0:
     sys.exit("no such set")
 pk_len, sk_len, sig_len, n = (it.value for it in lengths)
-sk, pk, sig = (ctypes.create_string_buffer(it) for it in (sk_len, pk_len, sig_len))
+sk, pk, sig, scratch = (ctypes.create_string_buffer(it) for it in (sk_len, pk_len, sig_len, 2 * sig_len))
 seeds = [drawn(n) for _ in range(3)]
 try:
     done("slh_keygen", SET, *seeds, sk)
     done("slh_public", SET, sk, pk)
-    # an empty context, and a randomizer of n bytes
-    done("slh_sign", SET, sk, message, b"", os.urandom(n), sig)
+    # two times, which finds a fault of memory or the processor; an empty context, and a randomizer of n bytes
+    done("slh_sign_twice", SET, sk, message, b"", os.urandom(n), scratch, sig)
 finally:
     for it in [*seeds, sk]:
         library.slh_erase(it, ctypes.c_size_t(len(it)))

@@ -13,8 +13,8 @@ unsafe extern "C" {
     fn slh_keygen(set: u32, sk_seed: *const u8, sk_seed_len: usize, sk_prf: *const u8, sk_prf_len: usize,
         pk_seed: *const u8, pk_seed_len: usize, sk: *mut u8, sk_len: usize) -> u32;
     fn slh_public(set: u32, sk: *const u8, sk_len: usize, pk: *mut u8, pk_len: usize) -> u32;
-    fn slh_sign(set: u32, sk: *const u8, sk_len: usize, msg: *const u8, msg_len: usize, ctx: *const u8, ctx_len: usize,
-        randomizer: *const u8, randomizer_len: usize, sig: *mut u8, sig_len: usize) -> u32;
+    fn slh_sign_twice(set: u32, sk: *const u8, sk_len: usize, msg: *const u8, msg_len: usize, ctx: *const u8,
+        ctx_len: usize, randomizer: *const u8, n: usize, scratch: *mut u8, room: usize, sig: *mut u8, len: usize) -> u32;
     fn slh_verify(set: u32, pk: *const u8, pk_len: usize, msg: *const u8, msg_len: usize, ctx: *const u8, ctx_len: usize,
         sig: *const u8, sig_len: usize) -> u32;
 }
@@ -43,9 +43,9 @@ fn keygen(seeds: &Secret) -> Result<(Secret, Vec<u8>), String> {
 
 #[rustfmt::skip]
 fn sign(sk: &Secret, msg: &[u8], ctx: &[u8], randomizer: &[u8]) -> Result<Vec<u8>, String> {
-    let mut sig = vec![0; 17088];
-    done("sign", unsafe { slh_sign(SET, sk.0.as_ptr(), sk.0.len(), msg.as_ptr(), msg.len(), ctx.as_ptr(), ctx.len(),
-        randomizer.as_ptr(), randomizer.len(), sig.as_mut_ptr(), sig.len()) })?;
+    let (mut sig, mut scratch) = (vec![0; 17088], vec![0; 2 * 17088]); // two times finds faults of the processor
+    done("sign", unsafe { slh_sign_twice(SET, sk.0.as_ptr(), sk.0.len(), msg.as_ptr(), msg.len(), ctx.as_ptr(), ctx.len(),
+        randomizer.as_ptr(), randomizer.len(), scratch.as_mut_ptr(), scratch.len(), sig.as_mut_ptr(), sig.len()) })?;
     Ok(sig)
 }
 

@@ -1,5 +1,5 @@
-"""Runs examples/archive.py many times, each time in a process that is forked here. tests/archive_tests.py starts this
-once for each processor, since loading the modules takes most of the time of a short run.
+"""Runs examples/archive.py many times, each time in a process that is forked here. tests/test_archive_ends.py starts
+this once for each processor, since loading the modules takes most of the time of a short run.
 
 usage: archive_forks.py ARCHIVE
 

@@ -1,4 +1,4 @@
-/* Does something at the Nth call that changes a file below a folder. tests/archive_tests.py loads this before
+/* Does something at the Nth call that changes a file below a folder. tests/test_archive_ends.py loads this before
    examples/archive.py, by LD_PRELOAD. The variables are SLH_BELOW, the folder; SLH_PLACE, the number of the call from 1
    on, or 0 for none; SLH_COUNT, a file that gets the number of all calls at the end; and SLH_ACT:
 

@@ -67,6 +67,21 @@ watch_lines() {
     printf %s "$dots"
 }
 
+# For the test command: runs a part by its NAME and COMMAND, whose last line has counts, and adds them up. It notes the
+# processor seconds in SLH_SPENT, and its failure in SLH_FAILURES, but for the tests of pytest, which notes them itself.
+part() {
+    local name=$1 status before=$failed TIMEFORMAT='%U %S'
+    shift
+    printf '\n== %s\n' "$*"
+    { time "$@" 2>&1 | watch_lines "$work/log" yes; status=${PIPESTATUS[0]}; } 2>"$work/time"
+    add_counts "$status" "$work/log"
+    echo "$(tail -n 1 "$work/time") $name" >>"$SLH_SPENT"
+    [ $failed != "$before" ] || return 0
+    [ "$name" = pytest ] || grep 'no proof' "$work/log" | sed "s/^/$name: /" >>"$SLH_FAILURES"
+    [ "$name" = pytest ] && [ -z "$fault" ] ||
+        printf '%s: %s\n    alone: %s\n' "$name" "${fault:-$(tail -n 1 "$work/log")}" "$*" >>"$SLH_FAILURES"
+}
+
 # Prints the counts as the last line. The status is 0 where nothing failed. Where nothing was run, that has failed.
 end_counts() {
     if [ $((passed + failed + skipped)) = 0 ]; then

@@ -21,7 +21,7 @@ work=$(mktemp -d)
 chmod 755 "$work"
 source "$here/tests/library_parts.sh"
 export LC_ALL=C.UTF-8
-programs=(openssl openjdk-25-jdk-headless libbcprov-java botan python3 gcc libc6-dev)
+programs=(openssl openjdk-25-jdk-headless libbcprov-java botan python3-pytest gcc libc6-dev)
 
 # ---- a Debian 13 with these programs ----
 
@@ -31,7 +31,8 @@ outside() {
     trap 'rm -rf --one-file-system "$work"' EXIT
     if has_trixie "$name" &&
         one "the library is installed" "$here/tools/library.sh" ${release:+--dist "$release"} "$work/prefix" &&
-        one "a Debian 13 is made" makes_trixie tests examples bindings docs VERSION LICENSE-* "$work/prefix" &&
+        one "a Debian 13 is made" makes_trixie tests tools pytest.ini examples bindings docs VERSION LICENSE-* \
+            "$work/prefix" &&
         one "it has the programs" installs_in_root "${programs[@]}"; then
         [ $few = no ] || options=(--few)
         runs_inside "$name" ${options[@]+"${options[@]}"}
@@ -170,7 +171,7 @@ inside() {
             one "Bouncy Castle $(readlink $bcprov): its keys of $set" of_bouncy_castle $set
         done
     fi
-    [ $few = yes ] || count "the package for Java" "$here/tests/java_tests.sh" "$here/prefix"
+    [ $few = yes ] || count "the package for Java" pytest --prefix="$here/prefix" "$here/tests/test_java.py"
     end_counts
 }
 

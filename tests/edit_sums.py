@@ -111,7 +111,12 @@ def inner_chunks(crate, path, head, lines, owner, of_trait):
 @functools.lru_cache(None)
 def chunks(crate, path):
     """The chunks of a source file, and its imports of definitions."""
-    lines = [line for line in without_comments(text_of(crate, path)).split("\n") if line.strip()]
+    return chunks_of(crate, path, text_of(crate, path))
+
+
+def chunks_of(crate, path, text):
+    """The same of a text that a source file may have."""
+    lines = [line for line in without_comments(text).split("\n") if line.strip()]
     found, imports, start, number = [], {}, 0, 0
     while number < len(lines):
         line = lines[number]
@@ -200,7 +205,8 @@ def definition(crate, module, name):
     if not path:
         return "", ()
     if path.endswith(".rt"):
-        text = "\n".join(it.text for it in chunks(crate, path)[0] if {name} in it.names) or plain(text_of(crate, path))
+        whole = plain(without_comments(text_of(crate, path)))
+        text = "\n".join(it.text for it in chunks(crate, path)[0] if {name} in it.names) or whole
         known, own = chunks(crate, path)[1], {}
     else:
         own, known = blocks(crate, path)
@@ -250,6 +256,20 @@ def reached(crate, found, texts):
             return found, words
         found, left = found + named, [it for it in left if it not in named]
         words = words.union(*(it.words for it in named))
+
+
+def changed_body(crate, texts):
+    """The function, as NAME or Type::NAME, whose body is all that these texts of source files change, or "" if they
+    change more."""
+    found = []
+    for path, text in texts.items():
+        (old, imports), (new, others) = chunks(crate, path), chunks_of(crate, path, text)
+        if imports != others or [(it.names, it.text) for it in old] != [(it.names, it.text) for it in new]:
+            return ""
+        found += [was for was, now in zip(old, new) if was.body != now.body]
+    if len(found) != 1 or not found[0].is_function:
+        return ""
+    return "::".join(name for some in reversed(found[0].names) for name in some)
 
 
 def sum_of(crate, path, refused, changed):

@@ -1,5 +1,5 @@
 /*
- * For a program that is linked with a libslh.a whose slh_ask_processor is weak (tests/library_parts.sh makes it so):
+ * For a program that is linked with a libslh.a whose slh_ask_processor is weak (tests/machines.py makes it so):
  * the processor is the one of tests/processors.h that the variable PROCESSOR names. The library itself reads no
  * variable. For c/starter.c, which has no C library, the macro PROCESSOR is the place in the table.
  */

@@ -6,8 +6,9 @@
 #
 # usage: tests/fresh_tests.sh [--few] [12] [13]
 #
-# 12 or 13 tests that Debian alone. --few takes 12 if none is named, and runs the test command with --few there. The
-# script has to be root on Debian, with debootstrap (tools/setup.sh installs it) and a mirror of both: otherwise all is
+# 12 or 13 tests that Debian alone. --few takes 12 if none is named. There the test command installs the tools of --few,
+# and runs one test of each file: the others show no more there. Without --few it runs all of them. The script has to be
+# root on Debian, with debootstrap (tools/setup.sh installs it) and a mirror of both: otherwise all is
 # skipped. A root takes up to 7 GB of the folder for temporary files while it is tested. Downloaded packages stay in
 # ~/.cache/slh for the next run. The last line has the counts, and the status is 0 if nothing failed.
 set -u
@@ -44,9 +45,18 @@ copy_in() {
 
 # ---- README's commands ----
 
-# README's commands as they are printed, without those of "Test".
+# README's commands that sign and verify, as they are printed.
 commands() {
-    awk '/^## / { test = $0 == "## Test" } /^    / && !test { print substr($0, 5) }' "$here/README.md"
+    awk '/^## / { is_here = $0 == "## Sign and verify" } /^    / && is_here { print substr($0, 5) }' "$here/README.md"
+}
+
+# README's first command is tools/show.sh. It needs no other tool than a minimal Debian has.
+shows() {
+    diff <(sed -n '/^    /{ s/^    //p; q }' "$here/README.md") <(echo tools/show.sh) &&
+        in_root env PATH=/usr/bin:/bin tools/show.sh >"$work/shown" 2>&1 && grep -qx invalid "$work/shown" || {
+        cat "$work/shown"
+        return 1
+    }
 }
 
 # README names the test command, and no other, for tests.
@@ -83,25 +93,26 @@ has_passed() {
     return 1
 }
 
-# A user without rights gets one line that names the missing tools and how to get them. Tests without tools are skipped.
+# A user without rights gets one line that names the missing tools and how to get them. The tests are skipped.
 tests_as_nobody() {
     in_root setpriv --reuid=65534 --regid=65534 --clear-groups env -u HOME tools/test.sh --release --few \
         >"$work/tested" 2>&1
-    has_passed $? && grep '^missing: .*python3.*tools/setup.sh installs them, as root on Debian' "$work/tested"
+    has_passed $? && grep '^missing: .*python3.*tools/setup.sh installs them, as root on Debian' "$work/tested" &&
+        grep 'SKIPPED, since there is no pytest' "$work/tested"
 }
 
 # Root reads the size of the download before it begins, and no tool is missing afterwards.
 tests_as_root() {
     local options=() tools=()
     [ $few = no ] || options=(--release --few) tools=(--few)
-    in_root tools/test.sh ${options[@]+"${options[@]}"} >"$work/tested" 2>&1
+    in_root env PYTEST_ADDOPTS="${tools:+--one}" tools/test.sh ${options[@]+"${options[@]}"} >"$work/tested" 2>&1
     has_passed $? && grep '^It downloads .* MB, takes .* MB on disk, and about [0-9]* min\.$' "$work/tested" &&
         in_root tools/setup.sh --missing ${tools[@]+"${tools[@]}"}
 }
 
 # Prints the tests that the test command skipped, and its counts.
 tell_skipped() {
-    sed -n '/^skipped:$/,/passed, /s/: SKIPPED, since/ is skipped, since/p' "$work/tested" | sed "s/^/$1: /"
+    sed -n 's/: SKIPPED, since/ is skipped, since/p' "$work/tested" | sort -u | sed "s/^/$1: /"
     echo "$1: $(tail -n 1 "$work/tested")"
 }
 
@@ -120,6 +131,7 @@ test_debian() {
     for shell in "dash -i" "bash --norc -i" "zsh -f -i"; do
         one "Debian $number: README's commands by ${shell%% *}" pastes $shell
     done
+    one "Debian $number: README's first command" shows
     one "Debian $number: the test command as a user" tests_as_nobody
     one "Debian $number: the test command as root" tests_as_root
     tell_skipped "Debian $number"

@@ -1,7 +1,8 @@
 /*
  * Tries what the library chooses for a processor (c/exports/chosen.c): by tests/processors.h and by processors that
- * lack one thing; by 64 threads whose first calls come at once; and the time of a call. It is linked with a libslh.a
- * whose slh_ask_processor and slh_choice are to be seen, the first of them weak (tests/library_parts.sh makes it so).
+ * lack one thing; by 64 threads whose first calls come at once; and the time of a call. Below x86-64-v2 each call has to
+ * be refused. It is linked with a libslh.a whose slh_ask_processor and slh_choice are to be seen, the first of them weak
+ * (tests/machines.py makes it so).
  *
  * usage: levels_tests LEVEL      LEVEL is the best that this processor runs: 2, 3 or 4
  *
@@ -10,6 +11,7 @@
 #define _GNU_SOURCE
 #include "processors.h"
 #include <slh.h>
+#include <slh_internal.h>
 
 #include <pthread.h>
 #include <sched.h>
@@ -50,15 +52,21 @@ static void test_processors(void) {
     for (int i = 0; i < PROCESSORS; i++) {
         tell(processors[i].name, level_for(processors[i].it) == processors[i].level);
         tell("its vectors", slh_choice >> 8 == processors[i].vectors);
+        tell("it is asked once", slh_choice != 0);
     }
 }
 
-/* Each feature that a level needs is taken away in turn. The numbers of bits are of Intel's manual, volume 2, CPUID. */
+/*
+ * Each feature that a level needs is taken away in turn. Without one of x86-64-v2 there is no level. The numbers of bits
+ * are of Intel's manual, volume 2, CPUID.
+ */
 static void test_lacking(void) {
     static const struct {
         size_t word;
         uint32_t bit, level;
     } rows[] = {
+        {0, 0, 0},  {0, 9, 0},  {0, 13, 0}, {0, 19, 0}, {0, 20, 0},  /* SSE3, SSSE3, CMPXCHG16B, SSE4.1, SSE4.2 */
+        {0, 23, 0}, {2, 0, 0},                                       /* POPCNT, LAHF */
         {0, 12, 2}, {0, 22, 2}, {0, 27, 2}, {0, 28, 2}, {0, 29, 2},  /* FMA, MOVBE, OSXSAVE, AVX, F16C */
         {1, 3, 2},  {1, 5, 2},  {1, 8, 2},                           /* BMI1, AVX2, BMI2 */
         {1, 16, 3}, {1, 17, 3}, {1, 28, 3}, {1, 30, 3}, {1, 31, 3},  /* AVX-512 F, DQ, CD, BW, VL */
@@ -75,7 +83,72 @@ static void test_lacking(void) {
         snprintf(what, sizeof what, "without bit %u of word %zu", (unsigned)rows[i].bit, rows[i].word);
         tell(what, level_for(it) == rows[i].level);
     }
-    tell("nothing at all", level_for((struct slh_processor){0, 0, 0, 0}) == 2);
+    tell("nothing at all", level_for((struct slh_processor){0, 0, 0, 0}) == 0);
+}
+
+/*
+ * Below x86-64-v2 each call of c/exports/calls.h is refused, whatever its arguments are. They have the names that they
+ * have there, and all outputs are in one array, which has to stay as it is.
+ */
+static uint8_t painted[KEY], outputs[KEY];
+static size_t numbers[3];
+static uint32_t jobs_of[1];
+
+static void refused(const char *name, uint32_t result) {
+    tell(name, result == SLH_OLD_PROCESSOR && memcmp(outputs, painted, KEY) == 0);
+}
+
+#define SECRET(name, parameters, arguments) refused("slh_" #name, slh_##name arguments);
+#define OPEN SECRET
+#define SIZES(name, parameters, arguments)
+#define HARDENED(name, parameters, arguments) tell("slh_" #name, slh_##name arguments == SLH_HARDENED_INVALID);
+#define VERSION(name, parameters, arguments) tell("slh_" #name, slh_##name arguments == SLH_VERSION_NUMBER);
+
+static void test_calls_below_v2(void) {
+    const uint32_t set = SET, function = SLH_SHA2_256, xmss_levels = 1, fors_levels = 1, job = 0, refusal = SLH_INVALID;
+    const uint8_t *const a = painted, *const b = painted, *const c = painted, *const msg = painted;
+    const uint8_t *const ctx = painted, *const random = painted, *const digest = painted, *const hash = painted;
+    const uint8_t *const answers = painted;
+    uint8_t *const sk = outputs, *const pk = outputs, *const start = outputs, *const answer = outputs;
+    uint8_t *const sig = outputs, *const scratch = outputs, *const front = outputs;
+    char *const name = (char *)outputs;
+    const size_t a_len = KEY, b_len = KEY, c_len = KEY, msg_len = KEY, ctx_len = KEY, random_len = KEY;
+    const size_t digest_len = KEY, hash_len = KEY, answers_len = KEY, sk_len = KEY, pk_len = KEY, start_len = KEY;
+    const size_t answer_len = KEY, sig_len = KEY, scratch_len = KEY, front_len = KEY, name_len = KEY;
+#include "../c/exports/calls.h"
+}
+
+#undef SECRET
+#undef OPEN
+#undef SIZES
+#undef HARDENED
+#undef VERSION
+#define SECRET(name, parameters, arguments)
+#define OPEN SECRET
+#define SIZES(name, parameters, arguments) refused("slh_" #name, slh_##name arguments);
+
+static void test_sizes_below_v2(void) {
+    const uint32_t set = SET, xmss_levels = 1, fors_levels = 1, job = 0;
+    uint32_t *const jobs = jobs_of;
+    size_t *const pk_len = &numbers[0], *const sk_len = &numbers[1], *const sig_len = &numbers[2], *const n = numbers;
+    size_t *const start_len = numbers, *const answers_len = numbers, *const answer_len = numbers, *const at = numbers;
+    size_t *const len = numbers;
+#include "../c/exports/calls.h"
+    tell("no number is written", numbers[0] + numbers[1] + numbers[2] + jobs_of[0] == 0);
+}
+
+/* What needs no code of a level works there. */
+static void test_below_v2(void) {
+    char name[SLH_MAX_NAME];
+    uint8_t bytes[] = {1, 2, 3};
+    level_for(processors[MEROM].it);
+    test_calls_below_v2();
+    test_sizes_below_v2();
+    tell("its name", slh_refusal_name(SLH_OLD_PROCESSOR, name, sizeof name) == SLH_DONE &&
+                         strcmp(name, "OldProcessor") == 0);
+    tell("its text", strstr(slh_refusal_text(SLH_OLD_PROCESSOR), "below x86-64-v2") != NULL);
+    slh_erase(bytes, 2);
+    tell("slh_erase", bytes[0] == 0 && bytes[1] == 0 && bytes[2] == 3);
 }
 
 static pthread_barrier_t barrier;
@@ -164,6 +237,7 @@ int main(int argc, char **argv) {
     if (best < 2 || best > 4) return 2;
     test_processors();
     test_lacking();
+    test_below_v2();
     test_once();
     test_threads(best);
     test_time();

@@ -1,7 +1,7 @@
 /*
  * Lets valgrind's callgrind count the instructions of calls that refuse a wrong tag. The first byte of the tag is
  * wrong, its middle byte, its last byte, or all bytes. A comparison that ends early takes fewer instructions for
- * some of them. tests/compare_tests.sh compiles it, runs it and compares the counts.
+ * some of them. tests/test_compare.py compiles it, runs it and compares the counts.
  *
  * usage: library_compare make FILE                 writes keys, starts and answers, which any build may do
  *        valgrind --tool=callgrind library_compare FILE [CALL]

@@ -59,6 +59,7 @@ struct shared {
 struct call {
     const char *name;
     uint32_t (*sign)(uint8_t *sig);
+    uint32_t (*once)(uint8_t *sig); /* the call that signs once and gives the same bytes */
     uint32_t (*verify)(const uint8_t *sig);
     unsigned share; /* of the flips, one in so many */
     int is_twice;
@@ -94,17 +95,23 @@ static void must(int holds, const char *what) {
 #define KEY_AND_MESSAGE SET, sk, sizeof sk, msg, sizeof msg, ctx, sizeof ctx, randomizer, sizeof randomizer
 #define KEY_AND_DIGEST SET, SLH_SHA2_256, sk, sizeof sk, digest, sizeof digest, ctx, sizeof ctx, randomizer, \
                        sizeof randomizer
+#define KEY_AND_HASHED SET, SLH_SHA2_256, sk, sizeof sk, msg, sizeof msg, ctx, sizeof ctx, randomizer, sizeof randomizer
 static uint32_t sign(uint8_t *sig) { return slh_sign(KEY_AND_MESSAGE, sig, SIGNATURE); }
 static uint32_t sign_digest(uint8_t *sig) { return slh_hash_sign_digest(KEY_AND_DIGEST, sig, SIGNATURE); }
+static uint32_t hash_sign(uint8_t *sig) { return slh_hash_sign(KEY_AND_HASHED, sig, SIGNATURE); }
 #ifdef ONCE
 static uint32_t sign_twice(uint8_t *sig) { return (void)scratch, sign(sig); }
 static uint32_t sign_digest_twice(uint8_t *sig) { return sign_digest(sig); }
+static uint32_t hash_sign_twice(uint8_t *sig) { return hash_sign(sig); }
 #else
 static uint32_t sign_twice(uint8_t *sig) {
     return slh_sign_twice(KEY_AND_MESSAGE, scratch, sizeof scratch, sig, SIGNATURE);
 }
 static uint32_t sign_digest_twice(uint8_t *sig) {
     return slh_hash_sign_digest_twice(KEY_AND_DIGEST, scratch, sizeof scratch, sig, SIGNATURE);
+}
+static uint32_t hash_sign_twice(uint8_t *sig) {
+    return slh_hash_sign_twice(KEY_AND_HASHED, scratch, sizeof scratch, sig, SIGNATURE);
 }
 #endif
 static uint32_t verify(const uint8_t *sig) {
@@ -114,10 +121,16 @@ static uint32_t verify_digest(const uint8_t *sig) {
     return slh_hash_verify_digest(SET, SLH_SHA2_256, pk, sizeof pk, digest, sizeof digest, ctx, sizeof ctx, sig,
                                   SIGNATURE);
 }
+static uint32_t hash_verify(const uint8_t *sig) {
+    return slh_hash_verify(SET, SLH_SHA2_256, pk, sizeof pk, msg, sizeof msg, ctx, sizeof ctx, sig, SIGNATURE);
+}
 
-static const struct call calls[] = {{"slh_sign", sign, verify, 1, 0},
-                                    {"slh_sign_twice", sign_twice, verify, 1, 1},
-                                    {"slh_hash_sign_digest_twice", sign_digest_twice, verify_digest, 5, 1}};
+static const struct call calls[] = {
+    {"slh_sign", sign, sign, verify, 1, 0},
+    {"slh_sign_twice", sign_twice, sign, verify, 1, 1},
+    {"slh_hash_sign_digest_twice", sign_digest_twice, sign_digest, verify_digest, 5, 1},
+    {"slh_hash_sign_twice", hash_sign_twice, hash_sign, hash_verify, 5, 1},
+};
 enum { CALLS = sizeof calls / sizeof calls[0] };
 
 /* ---- the flip ---- */
@@ -331,7 +344,7 @@ static void tell(const struct call *call, unsigned long count, unsigned long fou
 }
 
 static void make_right(const struct call *call) {
-    must((call->verify == verify ? sign : sign_digest)(right) == SLH_DONE && call->verify(right) == SLH_DONE, "sign");
+    must(call->once(right) == SLH_DONE && call->verify(right) == SLH_DONE, "sign");
 }
 
 /* All draws of a call, or one many times. A moment that was not hit is drawn again in the next batch. */

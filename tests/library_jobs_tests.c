@@ -1,7 +1,7 @@
 /*
  * Calls the library for C for signatures and keys as jobs: in rule, with numbers and lengths that are not valid, with
  * answers that were changed or exchanged, and with starts and answers of other keys, sets and messages. The last line has
- * the counts, and the status is 0 where nothing failed. tests/library_tests.sh compiles and runs it.
+ * the counts, and the status is 0 where nothing failed. tests/test_library.py compiles and runs it.
  */
 #include <slh_internal.h>
 

@@ -84,7 +84,7 @@ makes_certificates() {
         sed 's/^# tls = draft/tls = draft/' slh.cnf >tls.cnf &&
         sed '/^slh_required = /d; /^config_diagnostics/d' tls.cnf >open.cnf &&
         sed 's/^workers = .*/workers = 0/' open.cnf >mute.cnf || return
-    bash -e -c "$(block_of "A CA of two levels" 1 && block_of "A CA of two levels" 2)" &&
+    "$here/examples/ca.sh" && unchanged bash -e -c "$(block_of "A CA of two levels" 1)" &&
         cat www.pem issuing.pem >chain.pem && make_self_signed self && make_self_signed next &&
         openssl req -config ca.cnf -x509 -newkey EC -pkeyopt ec_paramgen_curve:P-256 -nodes -keyout ec.key \
             -subj /CN=ec -addext subjectAltName=DNS:localhost -out ec.pem && chmod 644 ./*.key ./*.pem
@@ -104,6 +104,9 @@ is_signature() { unchanged openssl pkeyutl -verify -rawin -certin -inkey self.pe
 
 by_openssl() { openssl "$1" -sign "${@:2}" -inkey self.key -in letter.txt -out made && is_signature made; }
 by_dgst() { openssl dgst "$@" -sign self.key -out made letter.txt && is_signature made; }
+by_dgst_of_more() {
+    head -c $((2 ** 24 + 1)) /dev/zero >more && openssl dgst -sign self.key -out made more && [ -s made ]
+}
 by_cms() {
     openssl cms -sign -binary -nodetach "$@" -in letter.txt -signer self.pem -inkey self.key -outform DER -out made &&
         unchanged openssl cms -verify -binary -inform DER -in made -CAfile self.pem -out read && cmp read letter.txt
@@ -139,6 +142,15 @@ by_node() {
         const key = createPrivateKey(fs.readFileSync("self.key")), text = fs.readFileSync("letter.txt");
         fs.writeFileSync("made", sign(null, text, key));
         if (!verify(null, text, createPublicKey(key), fs.readFileSync("made"))) process.exit(1);' && is_signature made
+}
+# A message above max_message, and the words that Node has for it.
+by_long_node() {
+    node -e 'const {createPrivateKey, sign} = require("crypto"), fs = require("fs");
+        sign(null, Buffer.alloc(2 ** 26 + 1), createPrivateKey(fs.readFileSync("self.key")))'
+}
+node_says_invalid_data() {
+    OPENSSL_CONF=$PWD/slh.cnf by_long_node >said 2>&1
+    cat said && grep -qi 'invalid data' said
 }
 by_cryptography() {
     python3 -c 'from cryptography.hazmat.primitives.serialization import load_pem_private_key
@@ -187,6 +199,7 @@ try_rows() {
     yes_row '`openssl`: `dgst -sign`' by_dgst
     yes_row '`openssl`: `cms -sign -md sha256`' by_cms -md sha256
     no_row '`openssl`: `dgst -sha256 -sign`' "$whole" "leave out \`-sha256\`" by_dgst -sha256
+    no_row '`openssl`: `dgst -sign` of over 16 MiB' "\`dgst\` reads no more" '`pkeyutl -sign -rawin`' by_dgst_of_more
     no_row '`openssl`: `cms -sign` without `-md`' "it finds no digest for the key" "\`-md sha256\`" by_cms
     no_row '`openssl`: `cms -sign -noattr`' "it would sign a digest" "leave out \`-noattr\`" by_cms -noattr -md sha256
     no_row '`openssl`: `smime -sign`' "$pkcs7" "$use_cms" by_smime
@@ -194,6 +207,9 @@ try_rows() {
     yes_row 'languages: Node `crypto.sign(null, ..)`' by_node
     yes_row 'languages: Ruby `OpenSSL::PKey#sign(nil, ..)`' by_ruby
     yes_row 'languages: PHP `openssl_sign` with algorithm 0' by_php 0
+    no_row 'languages: Node `crypto.sign` of more than `max_message`' "it says \`invalid data\`" \
+        "raise \`max_message\`" by_long_node
+    one "Node's words for it" node_says_invalid_data
     no_row 'languages: PHP `openssl_sign` with a digest' "$whole" "algorithm 0" by_php sha256
     no_row 'languages: Python `cryptography` 43' "it has no SLH-DSA keys" "$package" by_cryptography
     no_row '`sign-file` of Linux 6.12' "it signs CMS without attributes" "an ECDSA key" by_sign_file
@@ -453,7 +469,7 @@ each_set_serves() {
 # so.
 chains_of_256f() (
     mkdir -p chains && cd chains && cp ../ca.cnf ../letter.txt ../tls.cnf . && export OPENSSL_CONF=$PWD/tls.cnf || exit
-    bash -e -c "$(block_of "A CA of two levels" 1 | sed '/OPENSSL_CONF/d; s/SHA2-128[sf]/SHA2-256f/')" || exit
+    bash -c "$(sed 's/SHA2-128[sf]/SHA2-256f/; s/-md sha256/-md sha512/' "$here/examples/ca.sh")" || exit
     for name in two three; do
         cat www.pem issuing.pem >$name.pem
         [ $name = two ] || cat root.pem >>$name.pem
@@ -491,7 +507,7 @@ without_the_library() { mv $library $library.away; }
 with_an_older_library() { mv $library $library.away && cp "$here/older/libslh.so.0" $library; }
 with_a_lesser_library() { mv $library $library.away && cp "$here/lesser/libslh.so.0" $library; }
 with_an_unreadable_module() { chmod 600 $module; }
-with_lost_settings() { sed -i 's/^twice = 0/twise = 1/; s/^\(settings = .*\)twice=0/\1twice=1/' broken-*.cnf; }
+with_lost_settings() { sed -i 's/^workers = 1/workres = 4/; s/^\(settings = .*\)workers=1/\1workers=4/' broken-*.cnf; }
 restore() {
     [ ! -e $library.away ] || mv $library.away $library
     chmod 644 $module

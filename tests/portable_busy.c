@@ -1,6 +1,6 @@
 /*
  * Whether slh_verify.c refuses a call that comes in while another is under way, and the other still answers right. It is
- * linked with slh_verify.c that is compiled with -Dmemcpy=coming_in and -DSLH_TRAP=trapped, for tests/portable_tests.sh:
+ * linked with slh_verify.c that is compiled with -Dmemcpy=coming_in and -DSLH_TRAP=trapped, for tests/test_portable.py:
  * a copy of bytes within a call calls again, as an interrupt would. Then threads call side by side.
  *
  * usage: busy SIGNATURE DIGEST     files: an image's signature under 128f, and its SHA-256; public_key.h has the key

@@ -1,6 +1,6 @@
 /*
  * Stands in for malloc and free of slh.c, which is compiled with -Dmalloc=tried_malloc -Dfree=tried_free and
- * -DSLH_TRAP=trapped, in tests/portable_tests.sh. What is given is painted. The program ends with status 9 where what
+ * -DSLH_TRAP=trapped, in tests/test_portable.py. What is given is painted. The program ends with status 9 where what
  * is given back has a byte that is not zero, or where the proved code comes where it never comes. With SLH_REFUSE in
  * the environment all memory is refused.
  */

@@ -1,5 +1,5 @@
 /*
- * Stands before libslh and OpenSSL in a process, by LD_PRELOAD, for tests/provider_tests.sh: it counts what the
+ * Stands before libslh and OpenSSL in a process, by LD_PRELOAD, for tests/test_provider.py: it counts what the
  * provider `slh` calls, and makes calls fail or go wrong where a test asks for it. What it answers is libslh's.
  *
  * At the end it appends a line to the file that SLH_CALLS names: how many keys were made and checked, how many

@@ -1,5 +1,5 @@
 /*
- * Hands messages in pieces to the provider `slh`, for tests/provider_tests.sh, which runs it with the provider under the
+ * Hands messages in pieces to the provider `slh`, for tests/test_provider.py, which runs it with the provider under the
  * sanitizers, too:
  *
  *     provider_pieces MODULES STEPS      the folder that has slh.so, and how many calls the random walk makes

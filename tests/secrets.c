@@ -1,6 +1,6 @@
 /*
  * Runs calls that take secrets under valgrind's memcheck, with SK.seed and SK.prf marked as undefined, so that memcheck
- * tells of each branch and of each address that depends on them. tests/secrets_tests.sh compiles and runs it.
+ * tells of each branch and of each address that depends on them. tests/test_secrets.py compiles and runs it.
  *
  * What everybody may know is declared public where it arises: R at the entry of h_msg, and a value that a one-time key
  * signs (the FORS public key, and the root of the layer below) at the entry of digits_of. Both are functions inside the
@@ -199,7 +199,7 @@ static void pure(size_t len) {
     TRY("slh_sign", 0, 1 + d,
         slh_sign(set, sk, sk_len, msg, sizeof msg, NULL, 0, random_bytes, len, made, sig_len));
     must(memcmp(made, sig, sig_len) == 0, "another signature");
-    TRY("slh_sign_twice", 1, 1 + d,
+    TRY("slh_sign_twice", 2, 1 + d,
         slh_sign_twice(set, sk, sk_len, msg, sizeof msg, NULL, 0, random_bytes, len, scratch, 2 * sig_len, made,
                        sig_len));
     must(memcmp(made, sig, sig_len) == 0, "another signature, signed twice");
@@ -216,7 +216,7 @@ static void pre_hash(size_t len) {
     TRY("slh_hash_sign", 0, 1 + d,
         slh_hash_sign(set, function, sk, sk_len, msg, sizeof msg, NULL, 0, random_bytes, len, made, sig_len));
     must(memcmp(made, sig, sig_len) == 0, "another signature of the pre-hash form");
-    TRY("slh_hash_sign_twice", 1, 1 + d,
+    TRY("slh_hash_sign_twice", 2, 1 + d,
         slh_hash_sign_twice(set, function, sk, sk_len, msg, sizeof msg, NULL, 0, random_bytes, len, scratch,
                             2 * sig_len, made, sig_len));
     must(slh_hash_sign_digest(set, function, sk, sk_len, digest, 32, NULL, 0, random_bytes, len, sig, sig_len) ==
@@ -228,7 +228,7 @@ static void pre_hash(size_t len) {
     memmove(known[known_count++], sig, n);
     TRY("slh_hash_sign_digest", 0, 1 + d,
         slh_hash_sign_digest(set, function, sk, sk_len, digest, 32, NULL, 0, random_bytes, len, made, sig_len));
-    TRY("slh_hash_sign_digest_twice", 1, 1 + d,
+    TRY("slh_hash_sign_digest_twice", 2, 1 + d,
         slh_hash_sign_digest_twice(set, function, sk, sk_len, digest, 32, NULL, 0, random_bytes, len, scratch,
                                    2 * sig_len, made, sig_len));
 }

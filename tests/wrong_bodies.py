@@ -17,8 +17,10 @@ An edit is a file crates/NAME/wrong/EDIT.edit with lines
 
 The functions that a crate's edits turn are first checked as they are, over the libraries that `rt ci`, or a check, has
 built. Then a copy of the crate is edited for each edit, and its function is checked over the work of that check and of
-the edits before it. An edit is refused only if its check says that the proof of this function is missing. A name that
-is not there, a text that can't be read, or another function whose proof is missing without it, is an edit to mend.
+the edits before it. Edits that change only the body of the function that they name are tried together, one a function,
+since no proof depends on another function's body. Of these each that was not refused so is tried alone. An edit is
+refused only if its check says that the proof of this function is missing. A name that is not there, a text that can't
+be read, or another function whose proof is missing without it, is an edit to mend.
 tests/wrong_bodies.txt lists for each edit a sum of the texts that its answer depends on, at which it was seen refused
 (tests/edit_sums.py). An edit that is not as listed makes the run fail, except under --write, and under --gate if it is
 refused. The last line has the counts of edits, and the status is 0 if nothing failed.
@@ -38,12 +40,14 @@ sys.dont_write_bytecode = True
 sys.path.append(os.path.join(os.path.dirname(os.path.dirname(os.path.abspath(__file__))), "tools"))
 import kit
 from counts import count, counts, end_counts
-from edit_sums import files, sum_of, text_of
+from edit_sums import changed_body, files, sum_of, text_of
 from kit import ROOT, USES
 
 LIST = os.path.join(ROOT, "tests", "wrong_bodies.txt")
 PARTS = ("src", "specs", "proofs")
 SHARE = 32
+# The most edits that one check tries.
+TOGETHER = 12
 # What the prover says of a proof file that names what the edit took away, and of what only depends on a refused answer.
 NAMES = re.compile(r"(note: )?(\./)?proofs/.*"
                    r"(has no field|is not in scope|has no `|was not admitted|is no name|which was rejected)", re.S)
@@ -84,9 +88,10 @@ def edits(crate):
     return [path for path in files(crate, "wrong") if path.endswith(".edit")]
 
 
-def read_edit(crate, path):
-    """The function that has to be refused and the texts of the changed files, or why the edit can't be applied."""
-    refused, file, old, texts = "", "", "", {}
+def read_edit(crate, path, before=()):
+    """The function that has to be refused and the texts of the changed files, or why the edit can't be applied. The
+    texts that edits before it have left may be given."""
+    refused, file, old, texts = "", "", "", dict(before)
     for line in text_of(crate, path).split("\n"):
         word, _, rest = line.partition(": ") if ": " in line else (line.rstrip(":"), "", "")
         if word == "refused":
@@ -151,9 +156,26 @@ def verdict(status, said, refused, changed):
     return True, proofs[0].partition("\n")[0][:160]
 
 
+def of_function(said, refused):
+    """What a check of several functions said of one of them."""
+    at = re.compile(rf"(?:\./)?proofs/(?:\S+/)?{refused.replace('::', '/')}/\S+:\d+:\d+: |fn \S*::{refused}: ")
+    return "\n".join(it for it in messages(said) if at.match(it) or it.startswith("only="))
+
+
+def verdict_together(status, said, refused, functions, changed):
+    """Whether a check of several edited functions refused this one. `False` may also mean that it can't be told."""
+    missing = re.findall(r"^fn (\S+): (?:no proof|not proved)(?:: (it calls )?.*)?$", said, re.M)
+    is_asked = lambda name: any(f"::{name}".endswith(f"::{it}") for it in functions)
+    others = [name for name, calls in missing if not calls and not is_asked(name)]
+    if others or any(is_unread(it, changed) for it in messages(said)):
+        return False, "the check of several edits tells nothing"
+    return verdict(status, of_function(said, refused), refused, changed)
+
+
 def reads_answers():
     """Whether what the prover was seen to say is read as it was meant: of an edit that takes a call away, which a proof
-    names, nothing is known; of one that changes a value the function is refused."""
+    names, nothing is known; of one that changes a value the function is refused. Of two edits one may be refused, and
+    the other not, or nothing may be known of it."""
     at = "./proofs/t_stream/TStream/finish/Answers.antt"
     ends = "fn slh_hash::t_stream::TStream::finish: not proved\nonly=1 proved=0\n"
     after = f"{at}:12:5: error: 1 declaration that depends on `value`, which was rejected, was not checked: len\n{ends}"
@@ -161,7 +183,13 @@ def reads_answers():
     wrapped = f"{at}:10:44: error: `value`: this can't be read\n  record `After-finish` has no field `n`\n"
     other = f"{at}:10:5: error: `value`: this term has another type\n  found `take 24 x`\n"
     said = [verdict(1, text + after, "TStream::finish", {})[0] for text in (gone, wrapped, other)]
-    return said == [False, False, True]
+    both = "TStream::finish", "TStream::take"
+    more = "fn slh_hash::t_stream::TStream::take: not proved\n"
+    same = [verdict_together(1, text, both[0], both, {})[0] for text in (
+        gone + more + after, other + more + after, f"{other}fn slh_hash::midstate::take: not proved\n{after}",
+        f"src/t_stream.rt:1:1: error: expected the end\n{other}{after}")]
+    take = verdict_together(1, other + more + after, both[1], both, {})[0]
+    return said == [False, False, True] and same == [False, True, False, False] and not take
 
 
 def check(crate, folder, functions, kept, jobs):
@@ -178,17 +206,14 @@ def prepare(crate, some, kept, jobs):
     own = os.path.join(ROOT, "crates", crate, "out", "incremental")
     shutil.copytree(own, kept) if os.path.isdir(own) else os.mkdir(kept)
     if kit.lacking(crate):
-        return f"{kit.lacking(crate)[0]} is not built (rt ci builds it)"
+        return kit.how_to_build(crate)
     functions = sorted({read_edit(crate, path)[0] for path in some} - {""})
     ran = check(crate, os.path.join(ROOT, "crates", crate), functions, kept, jobs)
     return "" if ran.returncode == 0 else f"without an edit it is not proved: {ran.stdout[-300:]}"
 
 
-def try_edit(crate, path, kept):
-    """Tries an edit over what `kept` has: whether it is refused, and what was said."""
-    refused, texts, why = read_edit(crate, path)
-    if why:
-        return False, f"BAD EDIT: {why}"
+def check_edited(crate, texts, functions, kept):
+    """A check of functions of a copy of the crate in which files have these texts."""
     with tempfile.TemporaryDirectory(prefix="rt-edit-") as copy:
         for part in PARTS:
             if os.path.isdir(os.path.join(ROOT, "crates", crate, part)):
@@ -196,18 +221,63 @@ def try_edit(crate, path, kept):
         for file, text in texts.items():
             with open(f"{copy}/{file}", "w", encoding="utf-8") as it:
                 it.write(text)
-        ran = check(crate, copy, [refused], kept, 1)
+        return check(crate, copy, functions, kept, 1)
+
+
+def try_edit(crate, path, kept):
+    """Tries an edit over what `kept` has: whether it is refused, and what was said."""
+    refused, texts, why = read_edit(crate, path)
+    if why:
+        return False, f"BAD EDIT: {why}"
+    ran = check_edited(crate, texts, [refused], kept)
     return verdict(ran.returncode, ran.stdout, refused, texts)
 
 
-def try_edits(crate, some, kept):
-    """Tries edits of a crate in turn."""
-    found = []
+def try_together(crate, group, kept):
+    """Tries edits in one check over what `kept` has. By path, what was said of each that was refused: of the others
+    nothing is known."""
+    functions, texts = {}, {}
+    for path in group:
+        refused, after, why = read_edit(crate, path, texts)
+        if not why:
+            functions[path], texts = refused, after
+    ran = check_edited(crate, texts, [*functions.values()], kept)
+    found = {path: verdict_together(ran.returncode, ran.stdout, refused, functions.values(), texts)
+             for path, refused in functions.items()}
+    return {path: said for path, (is_refused, said) in found.items() if is_refused}
+
+
+def groups(crate, some):
+    """Edits of a crate as they are tried together: each changes the body of the function that it refuses and no more,
+    and no two of a group the same. Each other one is alone."""
+    found, alone = [], []
     for path in some:
+        refused, texts, why = read_edit(crate, path)
+        body = "" if why else changed_body(crate, texts)
+        if not body or refused != body and ("::" in body or refused.rpartition("::")[2] != body):
+            alone.append({refused: path})
+            continue
+        fitting = [it for it in found if refused not in it and len(it) < TOGETHER]
+        if not fitting:
+            found.append({})
+        (fitting or found[-1:])[0][refused] = path
+    return [list(it.values()) for it in found + alone]
+
+
+def try_edits(crate, some, kept):
+    """Tries groups of edits of a crate in turn."""
+    found = []
+    for group in some:
         start = time.monotonic()
-        found.append((crate, path, *try_edit(crate, path, kept)))
-        told = f"{'refused' if found[-1][2] else 'FAILED'} in {time.monotonic() - start:.0f} s: {found[-1][3]}"
-        print(f"{crate}/{os.path.basename(path)}: {told}", flush=True)
+        known = try_together(crate, group, kept) if len(group) > 1 else {}
+        if known:
+            print(f"{crate}: {len(known)} of {len(group)} refused in {time.monotonic() - start:.0f} s", flush=True)
+        for path in group:
+            start = time.monotonic()
+            is_refused, said = (True, known[path]) if path in known else try_edit(crate, path, kept)
+            found.append((crate, path, is_refused, said))
+            told = f"{'refused' if is_refused else 'FAILED'} in {time.monotonic() - start:.0f} s: {said}"
+            print(f"{crate}/{os.path.basename(path)}: {told}", flush=True)
     return found
 
 
@@ -225,14 +295,15 @@ def try_all(runs, jobs):
         def go_on(crate, part):
             kept = f"{room}/{crate} {part}"
             shutil.copytree(f"{room}/{crate}", kept)
-            found = try_edits(crate, runs[crate][part::jobs], kept)
+            found = try_edits(crate, shares[crate][part::jobs], kept)
             shutil.rmtree(kept)
             return found
 
         failed = dict(zip(runs, pool.map(begin, runs)))
         failed = {crate: why for crate, why in failed.items() if why}
         found = [(crate, path, False, f"not tried: {why}") for crate, why in failed.items() for path in runs[crate]]
-        parts = [(it, part) for it in runs if it not in failed for part in range(min(jobs, len(runs[it])))]
+        shares = {it: groups(it, runs[it]) for it in runs if it not in failed}
+        parts = [(it, part) for it in shares for part in range(min(jobs, len(shares[it])))]
         return found + [it for ran in pool.map(lambda it: go_on(*it), parts) for it in ran]
 
 

@@ -15,35 +15,65 @@ from contracts import crates, edits, functions, read, sources, ROOT
 
 HEAD = """<!doctype html>
 <html lang="en">
+<head>
 <meta charset="utf-8">
 <meta name="viewport" content="width=device-width, initial-scale=1">
-<title>Pipitscreen: every call and its contract</title>
+<title>Pipitscreen VERSION: every call and its contract</title>
 <style>
 :root { color-scheme: light dark; font-family: sans-serif; line-height: 1.4 }
-body { max-width: 75rem; margin: 0 auto; padding: 0 1rem }
-header { position: sticky; top: 0; padding: .5rem 0; background: Canvas }
+body { max-width: 75rem; margin: 0 auto; padding: 0 1rem; overflow-wrap: anywhere }
+#bar { position: sticky; top: 0; padding: .5rem 0; background: Canvas }
 input { width: 100%; font: inherit; padding: .4rem; box-sizing: border-box }
 section { border-top: 1px solid GrayText; padding: .5rem 0; scroll-margin-top: 5rem }
-pre { overflow-x: auto; margin: .3rem 0 } pre a { text-decoration-style: dotted }
+pre { margin: .3rem 0; white-space: pre-wrap } pre a { text-decoration-style: dotted }
 h3 { margin: 0; font-size: 1rem } :target { outline: 2px solid Highlight }
+nav a { display: inline-block; padding: .2rem .5rem .2rem 0 }
+@media (max-width: 40rem) { body { padding: 0 .5rem } pre { font-size: .8rem } }
 </style>
-<header><label>Search calls, clauses, definitions and wrong bodies
-<input id="search" type="search" placeholder="sign_join authentic"></label> <output id="count"></output></header>
+</head>
+<body>
+<header>
+<h1>Every call of Pipitscreen VERSION and its contract</h1>
+<p>For auditors: what does a call require and ensure? A prover has checked each function against its contract. A
+<code>requires</code> holds if the caller meets it, an <code>ensures</code> once the call has returned. Each word of a
+clause links to its definition.</p>
+<dl>
+<dt><code>x.now</code></dt><dd>the value that the reference x points to, if the call can't change it</dd>
+<dt><code>x.old</code>, <code>x.new</code></dt><dd>the value that a <code>&amp;mut</code> reference points to: at the
+call, and at the return</dd>
+<dt><code>x.entry</code></dt><dd>the parameter x, which has a reference in it, as the caller passed it</dd>
+<dt><code>result</code></dt><dd>the value that the call returns</dd>
+</dl>
+<nav aria-label="Crates"><b>Crates:</b> CRATES</nav>
+</header>
+<div id="bar"><label>Search calls, clauses, definitions and wrong bodies
+<input id="search" type="search" placeholder="sign_join authentic"></label> <output id="count"></output></div>
 <main>
 """
 TAIL = """</main>
 <script>
 const field = document.getElementById("search"), all = [...document.querySelectorAll("section")];
-const texts = all.map((it) => it.textContent.toLowerCase());
+const texts = all.map((it) => it.textContent.toLowerCase()), parts = [...document.querySelector("main").children];
+const names = new Map(all.map((it) => [it, it.querySelector("h3").textContent.toLowerCase().split(/[ :]+/).slice(1)]));
+// Sections with a word's own name come first, then those whose name has the word in it, then all others.
+function rank(part, words) {
+    const own = names.get(part) ?? [];
+    if (words.length === 0 || words.some((word) => own.includes(word))) return 0;
+    return words.some((word) => own.some((name) => name.includes(word))) ? 1 : 2;
+}
 function show() {
     const words = field.value.toLowerCase().split(/\\s+/).filter(Boolean);
     const found = all.filter((it, i) => !(it.hidden = !words.every((word) => texts[i].includes(word))));
+    const ranks = new Map(parts.map((it) => [it, rank(it, words)]));
+    for (const it of parts) if (!names.has(it)) it.hidden = words.length > 0;
+    document.querySelector("main").append(...parts.toSorted((one, other) => ranks.get(one) - ranks.get(other)));
     document.getElementById("count").textContent = `${found.length} of ${all.length}`;
 }
 function open() {
     const words = location.hash.match(/^#q=(.*)/);
     const target = words ? null : document.getElementById(decodeURIComponent(location.hash.slice(1)));
-    if (words || (target && target.closest("section").hidden)) field.value = words ? decodeURIComponent(words[1]) : "";
+    const section = target?.closest("section");
+    if (words || section?.hidden) field.value = words ? decodeURIComponent(words[1]) : "";
     show();
     if (target) target.scrollIntoView();
 }
@@ -51,6 +81,8 @@ field.addEventListener("input", show);
 addEventListener("hashchange", open);
 open();
 </script>
+</body>
+</html>
 """
 DEFINES = re.compile(r"^(?:abbrev |unfoldable )?pub (?:record |data |inductive )?([\w']+)\b|^ *pub ([\w']+) :", re.M)
 
@@ -137,10 +169,14 @@ def main():
         sys.exit(__doc__)
     known = {f"{crate}.{module}.{name}" for crate in crates() for module, text in modules(crate)
              for pair in DEFINES.findall(text) for name in pair if name}
-    calls = "".join(it for crate in crates() for it in calls_of(crate, known))
+    calls = {crate: "".join(calls_of(crate, known)) for crate in crates()}
     definitions = "".join(it for crate in crates() for it in definitions_of(crate, known))
+    with open(os.path.join(ROOT, "VERSION")) as file:
+        head = HEAD.replace("VERSION", file.read().strip())
+    head = head.replace("CRATES", " ".join(f'<a href="#{it}">{it}</a>' for it in calls if calls[it]))
+    shown = "".join(text.replace("<section", f'<section id="{it}"', 1) for it, text in calls.items())
     with open(sys.argv[1], "w") as file:
-        file.write(f"{HEAD}<h2>Calls</h2>\n{calls}<h2>Definitions</h2>\n{definitions}{TAIL}")
+        file.write(f"{head}<h2>Calls</h2>\n{shown}<h2>Definitions</h2>\n{definitions}{TAIL}")
 
 
 main()

@@ -10,8 +10,7 @@
 # usage: tools/debian.sh [DIST] FOLDER
 #
 # DIST is a folder as tools/release.sh writes it (default: dist). A file whose hash is not the one in its SHA256SUMS is
-# not packaged. Shared objects are stripped, as Debian's have to be. The man page and the completions are made of the
-# program's own help texts, so it has to run here. It needs dpkg-dev, binutils and python3. Files are dated by
+# not packaged. Shared objects are stripped, as Debian's have to be. It needs dpkg-dev and binutils. Files are dated by
 # SOURCE_DATE_EPOCH, without it by the last commit, and without .git by CHANGELOG.md, to which `git archive` gives the
 # date of its commit: so packages of one commit are the same bits. DEBFULLNAME and DEBEMAIL name another maintainer.
 set -euo pipefail
@@ -50,6 +49,7 @@ dated=$(LC_ALL=C date -R -u -d "@$SOURCE_DATE_EPOCH")
 upstream=$(sed -n 's/^version //p' "$dist/BUILD")
 version=$upstream-1
 maintainer="${DEBFULLNAME:-Pipitscreen maintainers} <${DEBEMAIL:-maintainers@users.noreply.pipitscreen.example}>"
+has_share=$(grep -q '  share/' "$dist/SHA256SUMS" && echo yes || echo no)
 escaped=$(sed 's|[\\/&]|\\&|g' <<<"$maintainer") # for sed
 lib=usr/lib/x86_64-linux-gnu
 
@@ -64,6 +64,19 @@ put() {
         exit 1
     fi
     install -D -m "$1" "$dist/$2" "$root/$3"
+}
+
+# The same for a FILE of share/ (tools/share.sh), and what makes those that a release up to 0.13.0 does not have.
+put_share() {
+    if [[ $has_share = yes ]]; then put 644 "share/$1" "$2"; else install -D -m 644 "$work/share/$1" "$root/$2"; fi
+}
+
+make_share() { [[ $has_share = yes ]] || "$here/tools/share.sh" "$work" "$@"; }
+
+# The same for a page, which Debian has zipped.
+put_zipped() {
+    put_share "$1" "$2"
+    gzip -9n "$root/$2"
 }
 
 # Writes standard input into a file of a package: PATH.
@@ -147,20 +160,18 @@ make_libslh_dev() {
     done
     put 644 x86-64-v2/libslh_verify.a $lib/libslh_verify.a
     ln -s libslh.so.0 "$root/$lib/libslh.so"
-    gzip -9n <"$here/bindings/debian/slh.3" | write usr/share/man/man3/slh.3.gz
-    for call in $(sed -n 's/^\.SH \(slh_\)/\1/p' "$here/bindings/debian/slh.3"); do
+    make_share
+    put_zipped man/man3/slh.3 usr/share/man/man3/slh.3
+    for call in $(zcat "$root/usr/share/man/man3/slh.3.gz" | sed -n 's/^\.SH \(slh_\)/\1/p'); do
         ln -s slh.3.gz "$root/usr/share/man/man3/$call.3.gz"
     done
     pkgconfig slh "SLH-DSA (FIPS 205) with SHA-2, proved by machine"
     pkgconfig slh_verify "Verifying signatures of SLH-DSA (FIPS 205) with SHA-2, proved by machine"
-    write $lib/cmake/slh/slh-config.cmake <"$here/bindings/cmake/slh-config.cmake"
-    sed "s/@version@/$upstream/; s/@pointer@/8/" "$here/bindings/cmake/slh-config-version.cmake.in" |
-        write $lib/cmake/slh/slh-config-version.cmake
+    put_share cmake/slh-config.cmake $lib/cmake/slh/slh-config.cmake
+    put_share cmake/slh-config-version.cmake.in $lib/cmake/slh/slh-config-version.cmake
+    sed -i "s/@version@/$upstream/; s/@pointer@/8/" "$root/$lib/cmake/slh/slh-config-version.cmake"
     build libslh-dev
 }
-
-# What the program says of itself, as the man page or completions: KIND.
-texts() { "$here/bindings/debian/from_help.py" "$root/usr/lib/slh/x86-64-v2/slh" "$upstream" "$1"; }
 
 make_slh() {
     local level
@@ -169,16 +180,17 @@ make_slh() {
         put 755 $level/slh usr/lib/slh/$level/slh
     done
     put 755 x86-64/slh usr/bin/slh
-    texts man | gzip -9n | write usr/share/man/man1/slh.1.gz
-    texts bash | write usr/share/bash-completion/completions/slh
-    texts zsh | write usr/share/zsh/vendor-completions/_slh
+    make_share "$root/usr/lib/slh/x86-64-v2/slh" "$upstream"
+    put_zipped man/man1/slh.1 usr/share/man/man1/slh.1
+    put_share bash-completion/completions/slh usr/share/bash-completion/completions/slh
+    put_share zsh/site-functions/_slh usr/share/zsh/vendor-completions/_slh
     gzip -9n <"$here/docs/FORMATS.md" | write usr/share/doc/slh/FORMATS.md.gz
     build slh usr/lib/slh/x86-64-v{2,3,4}/slh
 }
 
 # The provider is compiled here, over the files of libslh0 and libslh-dev. Without OpenSSL 3.5 there is none.
 make_slh_openssl() {
-    local prefix=$work/prefix status=0
+    local prefix=$work/prefix status=0 name
     mkdir -p "$prefix/lib"
     cp -r "$work/libslh-dev/usr/include" "$prefix/"
     cp "$work/libslh0/$lib/libslh.so.0" "$prefix/lib/"
@@ -190,7 +202,7 @@ make_slh_openssl() {
     install -D -m 644 "$prefix/lib/ossl-modules/slh.so" "$root/$lib/ossl-modules/slh.so"
     strip --strip-unneeded "$root/$lib/ossl-modules/slh.so"
     gzip -9n <"$here/docs/OPENSSL.md" | write usr/share/doc/slh-openssl/OPENSSL.md.gz
-    write usr/share/doc/slh-openssl/ca.cnf <"$here/examples/ca.cnf"
+    for name in ca.cnf ca.sh; do write usr/share/doc/slh-openssl/$name <"$here/examples/$name"; done
     sed "s|@MODULE@|/$lib/ossl-modules/slh.so|" "$here/bindings/openssl/slh.cnf.in" | write etc/ssl/slh.cnf
     echo /etc/ssl/slh.cnf | write DEBIAN/conffiles
     build slh-openssl

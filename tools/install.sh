@@ -11,14 +11,13 @@
 #
 # usage: tools/install.sh PREFIX
 #
-# SLH_BUILD=1 and what is done without rt are as tools/library.sh says. Man page and completions are made of the
-# program's own help texts and of the refusals in docs/FORMATS.md, by python3: without it they are left out, with a
-# message on standard error. The status is 0 if all else is installed. If a file is damaged or missing, and can't be
-# built, the status is 2, and nothing is installed.
+# SLH_BUILD=1 and what is done without rt are as tools/library.sh says. Nothing is installed of a release but files that
+# its SHA256SUMS lists. If a file is damaged or missing, and can't be built, the status is 2, and nothing is installed.
 set -euo pipefail
 here=$(cd "$(dirname "${BASH_SOURCE[0]}")/.." && pwd)
 source "$here/tools/released.sh"
 levels=(x86-64-v2 x86-64-v3 x86-64-v4) chooser=x86-64
+all_texts=(share/{man/man1/slh.1,bash-completion/completions/slh,zsh/site-functions/_slh}) texts=("${all_texts[@]}")
 if [ $# != 1 ] || [[ $1 = -* ]]; then
     echo "usage: tools/install.sh PREFIX" >&2
     exit 2
@@ -27,32 +26,23 @@ umask 022
 work=$(mktemp -d)
 trap 'rm -rf "$work"' EXIT
 
-if takes_release $chooser/slh "${levels[@]/%//slh}"; then
-    made=$here/dist version=$(release_says version)
+if has_release && ! lists "${texts[0]}"; then texts=(); fi # releases up to 0.13.0
+
+if takes_release $chooser/slh "${levels[@]/%//slh}" ${texts[@]+"${texts[@]}"}; then
+    made=$here/dist
+    [ ${#texts[@]} != 0 ] || echo "install.sh: the release has no man page and no completions: none are installed" >&2
 else
     command -v rt >/dev/null || {
         echo "install.sh: there is nothing to install: rt is not on the path to build it" >&2
         exit 2
     }
     (cd "$here/crates/slh" && rt check) >&2
-    made=$work/made version=$(cat "$here/VERSION")
+    made=$work/made
     for level in $chooser "${levels[@]}"; do
         "$here/tools/program.sh" "$level" "$made/$level/slh"
     done
-fi
-
-# What the program says of itself, as the man page or completions: KIND FILE.
-texts() {
-    mkdir -p "$(dirname "$work/share/$2")"
-    "$here/bindings/debian/from_help.py" "$made/x86-64-v2/slh" "$version" "$1" >"$work/share/$2"
-}
-
-if command -v python3 >/dev/null; then
-    texts man man/man1/slh.1
-    texts bash bash-completion/completions/slh
-    texts zsh zsh/site-functions/_slh
-else
-    echo "install.sh: python3 is not on the path: there are no man page and no completions" >&2
+    "$here/tools/share.sh" "$made" "$made/x86-64-v2/slh" "$(cat "$here/VERSION")"
+    texts=("${all_texts[@]}")
 fi
 
 "$here/tools/library.sh" "$1"
@@ -60,7 +50,7 @@ prefix=$(cd "$1" && pwd)
 for level in "${levels[@]}"; do
     install -D -m 755 "$made/$level/slh" "$prefix/lib/slh/$level/slh"
 done
-for file in man/man1/slh.1 bash-completion/completions/slh zsh/site-functions/_slh; do
-    [ ! -f "$work/share/$file" ] || install -D -m 644 "$work/share/$file" "$prefix/share/$file"
+for file in ${texts[@]+"${texts[@]}"}; do
+    install -D -m 644 "$made/$file" "$prefix/$file"
 done
 install -D -m 755 "$made/$chooser/slh" "$prefix/bin/slh"

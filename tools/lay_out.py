@@ -20,7 +20,8 @@ The script knows each instruction that it lets through, by its whole line. It re
 pointer is stored, loaded, returned or made of a number in a way that was not looked at. It also refuses a function
 that reads or writes a part of a pointer's slot as a number, as far as the function itself shows it.
 
-tests/boards_tests.sh tries each rule, and runs all vectors with noise in the unused half of each slot (--noise).
+tests/test_lay_out.py tries each rule, and tests/test_boards.py runs all vectors with noise in the unused half of each
+slot (--noise).
 """
 import re
 import sys

@@ -23,7 +23,8 @@
 # For a board there are slh_verify.h, libslh_verify.a with what pkg-config and CMake read, and libslh_verify_128.a,
 # which is smaller and takes the sets of 128 bits alone.
 #
-# DIST is a release, a folder as tools/release.sh writes it: what it has is installed, whatever the sources are.
+# DIST is a release, a folder as tools/release.sh writes it: what it has is installed, whatever the sources are. Nothing
+# is installed of a release but files that its SHA256SUMS lists, and what is written here.
 # SLH_BUILD=1 takes none of dist/. Where rt is not on the path, so that nothing can be built, the release is installed
 # whatever the sources are, and it is told that they differ. A build needs rt: `rt check` proves what is not proved yet.
 # Under --after-ci it builds, and only the topmost crate is proved, over the libraries that `rt ci` has just proved and
@@ -54,6 +55,8 @@ trap 'rm -rf "$work"' EXIT
 files=(x86-64/{libslh.a,libslh.so.0} x86-64-v{2,3,4}/libslh.a x86-64-v2/libslh_verify.a)
 [ "$target" = x86-64 ] || mapfile -t files < <(listed "$target")
 headers=(include/{slh.h,slh.hpp,slh_internal.h,slh_verify.h})
+beside=(share/{cmake/slh-config.cmake,cmake/slh-config-version.cmake.in,man/man3/slh.3})
+if has_release && ! lists "${beside[0]}"; then beside=(); fi # releases up to 0.13.0
 if [ "$after_ci" = given ] || ! command -v rt >/dev/null; then
     has_release || [ "$after_ci" = no ] || {
         echo "library.sh: there is no release in $dist" >&2
@@ -64,11 +67,14 @@ if [ "$after_ci" = given ] || ! command -v rt >/dev/null; then
         exit 2
     }
 fi
-[ "$after_ci" != given ] || are_whole BUILD "${files[@]}" "${headers[@]}" || exit 2
-is_released() { [ "$after_ci" = no ] && [ ${#files[@]} != 0 ] && takes_release "${files[@]}" "${headers[@]}"; }
+wanted=(BUILD "${files[@]}" "${headers[@]}" ${beside[@]+"${beside[@]}"})
+[ "$after_ci" != given ] || are_whole "${wanted[@]}" || exit 2
+is_released() { [ "$after_ci" = no ] && [ ${#files[@]} != 0 ] && takes_release "${wanted[@]}"; }
 if [ "$after_ci" = given ] || is_released; then
     made=$dist version=$(release_says version)
     how="the release $version"
+    [ ${#beside[@]} != 0 ] ||
+        echo "library.sh: the release $version has no files for CMake and no manual page: none are installed" >&2
 else
     command -v rt >/dev/null || {
         echo "library.sh: there is nothing to install: rt is not on the path to build it" >&2
@@ -77,6 +83,8 @@ else
     [ "$after_ci" = yes ] || { (cd "$here/crates/slh_c" && rt check) && (cd "$here/crates/slh_c_verify" && rt check); } >&2
     "$here/tools/target.sh" "$target" "$work"
     cp -r "$here/c/include" "$work/"
+    "$here/tools/share.sh" "$work"
+    beside=(share)
     [ "$target" = x86-64 ] || mapfile -t files < <(cd "$work" && printf '%s\n' "$target"/*)
     made=$work version=$(cat "$here/VERSION") how="built of the sources"
 fi
@@ -103,9 +111,8 @@ END
 
 # Writes what find_package(slh) of CMake reads.
 cmake_files() {
-    install -d "$prefix/lib/cmake/slh"
-    install -m 644 "$here/bindings/cmake/slh-config.cmake" "$prefix/lib/cmake/slh/"
-    sed "s/@version@/$version/; s/@pointer@/$(pointer)/g" "$here/bindings/cmake/slh-config-version.cmake.in" \
+    install -D -m 644 -t "$prefix/lib/cmake/slh" "$made/share/cmake/slh-config.cmake"
+    sed "s/@version@/$version/; s/@pointer@/$(pointer)/g" "$made/share/cmake/slh-config-version.cmake.in" \
         >"$prefix/lib/cmake/slh/slh-config-version.cmake"
 }
 
@@ -120,9 +127,9 @@ pointer() {
 
 # The manual page, which each call has a link to.
 manual() {
-    local call
-    install -D -m 644 "$here/bindings/debian/slh.3" "$prefix/share/man/man3/slh.3"
-    for call in $(sed -n 's/^\.SH \(slh_\)/\1/p' "$here/bindings/debian/slh.3"); do
+    local call page=share/man/man3/slh.3
+    install -D -m 644 "$made/$page" "$prefix/$page"
+    for call in $(sed -n 's/^\.SH \(slh_\)/\1/p' "$made/$page"); do
         ln -sf slh.3 "$prefix/share/man/man3/$call.3"
     done
 }
@@ -148,8 +155,10 @@ else
     if has libslh_verify.a; then
         pkgconfig slh_verify "Verifying signatures of SLH-DSA (FIPS 205) with SHA-2, proved by machine"
     fi
-    cmake_files
-    if has libslh.a || has slh.c; then manual; fi
+    if [ ${#beside[@]} != 0 ]; then
+        cmake_files
+        if has libslh.a || has slh.c; then manual; fi
+    fi
 fi
 if [ "$target" = x86-64 ]; then
     # Releases up to 0.4 put the code for a level there, and glibc would load it in place of what is installed now.

@@ -23,6 +23,10 @@ import sys
 import tempfile
 
 HERE = pathlib.Path(__file__).resolve().parent.parent
+sys.dont_write_bytecode = True
+sys.path.append(str(HERE / "tests"))
+import board  # noqa: E402
+
 OFF = 0.02
 OTHER_LIBC = os.confstr("CS_GNU_LIBC_VERSION") != "glibc 2.36"
 LEVELS = {"x86-64-v2": "ssse3", "x86-64-v3": "avx2", "x86-64-v4": "avx512bw"}
@@ -63,11 +67,9 @@ OTHERS = {
 }
 IN_README = [(r"\(N KB; N KB\s+for\s+verifying\s+alone\)", ["lib/libslh.a", "lib/libslh_verify.a"])]
 SPREAD = r"`slh_keygen`\s+varies\s+by\s+N,\s+`slh_sign`\s+by\s+N,\s+`slh_sign_job`\s+by\s+N"
-# The boards with pointers of 32 bits, and how tests/board.sh runs a program for one; none counts RISC-V's instructions.
-BOARDS = {"thumbv7em": [], "thumbv6m": ["--m0"], "riscv32imac": None}
-# How a program for a board is linked and run by itself: the processor, the emulator, and where flash and memory are.
-CORTEX = {"thumbv7em": ("cortex-m4", ["-M", "mps2-an386"], "0", "4M"),
-          "thumbv6m": ("cortex-m0plus", ["-M", "netduinoplus2", "-cpu", "cortex-m0"], "0x08000000", "128K")}
+# The boards with pointers of 32 bits: tests/board.py runs a program for those with a Cortex. Nothing counts RISC-V's
+# instructions.
+BOARDS = [*board.CORTEX, "riscv32imac"]
 LINKERS = {"thumbv7em": ["arm-none-eabi-ld"], "riscv32imac": ["riscv64-linux-gnu-ld", "-m", "elf32lriscv"]}
 MEGAHERTZ = 64
 RISCV = ["riscv64-linux-gnu-gcc", "-march=rv32imac", "-mabi=ilp32", "-std=c11", "-O2", "-ffreestanding", "-fno-builtin",
@@ -149,14 +151,22 @@ def memory_facts(headers, work):
     return {f"memory for {name}": int(it) for name, it in zip(SETS, run(program).split(), strict=True)}
 
 
+def said_on(target, include, file):
+    """The output of the program for a board, which has to end with 0."""
+    status, said = board.measured(target, include, file)
+    if status:
+        sys.exit(f"the program for {target} ended with status {status}: {said}")
+    return said
+
+
 def portable_facts(folder, work):
-    """The sizes of the portable C, its memory by sets, and what tests/board.sh measures on the emulated board."""
+    """The sizes of the portable C, its memory by sets, and what tests/board.py measures on the emulated board."""
     files = {name: next(folder.rglob(name)) for name in PORTABLE}
     facts = {f"portable {name}": file.stat().st_size for name, file in files.items()}
     headers = folder / "include" if (folder / "include").is_dir() else HERE / "c/include"
     facts |= memory_facts(headers, work)
     if all(map(shutil.which, ("arm-none-eabi-gcc", "qemu-system-arm"))):
-        said = run(HERE / "tests/board.sh", headers, files["slh_verify.c"])
+        said = said_on("thumbv7em", headers, files["slh_verify.c"])
         facts |= {f"board {name}": int(number) for name, number in re.findall(r"^(\w+): (\d+)$", said, re.M)}
     return facts
 
@@ -172,7 +182,7 @@ def stand_ins(archive, work):
 
 def kept_for(target, call, archive, work):
     """The bytes that a board's linker keeps of an archive for one call, without what the archive asks for."""
-    is_arm, kept = BOARDS[target] is not None, work / "kept"
+    is_arm, kept = target in board.CORTEX, work / "kept"
     linker, *words = LINKERS["thumbv7em" if is_arm else "riscv32imac"]
     if not shutil.which(linker):
         return None
@@ -183,32 +193,26 @@ def kept_for(target, call, archive, work):
 
 def stack_of_cortex(target, archive, work):
     """The line of tests/board_stack.c on an emulated Cortex-M."""
-    processor, machine, flash, memory = CORTEX[target]
-    script = (HERE / "examples/board.ld").read_text()
-    script = re.sub(r"ORIGIN = 0, LENGTH = \d+K", f"ORIGIN = {flash}, LENGTH = 1M", script)
-    (work / "stack.ld").write_text(script.replace("LENGTH = 64K", f"LENGTH = {memory}"))
-    run("arm-none-eabi-gcc", f"-mcpu={processor}", "-mthumb", "-Os", "-std=c11", "-nostartfiles", "-ffunction-sections",
-        "--specs=rdimon.specs", "-Wl,--gc-sections,--defsym=end=bss_end", "-T", work / "stack.ld", "-I",
+    (work / "stack.ld").write_text(board.linker_script(target, memory=board.CORTEX[target].memory))
+    run(*board.compiler(target), "--specs=rdimon.specs", "-Wl,--defsym=end=bss_end", "-T", work / "stack.ld", "-I",
         HERE / "c/include", HERE / "tests/board_stack.c", HERE / "tests/board_calls.c", archive, "-o", work / "stack")
-    return run("qemu-system-arm", *machine, "-display", "none", "-serial", "none", "-monitor", "none",
-               "-semihosting-config", "enable=on,target=native", "-kernel", work / "stack")
+    return run(*board.emulator(target), work / "stack")
 
 
 def board_facts(target, folder, work):
     """The code of a board's archives, and of the larger one the stack and the instructions under an emulator."""
     files = {name: next(folder.rglob(name)) for name in ("libslh_verify.a", "libslh_verify_128.a")}
     facts = {f"code of {target} {name}": code_of("size", it) for name, it in files.items()}
-    how, said = BOARDS[target], ""
+    said = ""
     kept = kept_for(target, "slh_hash_verify_digest", files["libslh_verify_128.a"], work)
     facts |= {} if kept is None else {f"{target} by digest": kept}
-    if how is not None and all(map(shutil.which, ("arm-none-eabi-gcc", "qemu-system-arm"))):
+    if target in board.CORTEX and all(map(shutil.which, ("arm-none-eabi-gcc", "qemu-system-arm"))):
         try:
-            said = run(HERE / "tests/board.sh", *how, HERE / "c/include", files["libslh_verify.a"])
+            said = said_on(target, HERE / "c/include", files["libslh_verify.a"])
             said += stack_of_cortex(target, files["libslh_verify.a"], work)
-        except subprocess.CalledProcessError as fault:
-            if fault.returncode != 3:  # the emulator takes no such processor
-                raise
-    elif how is None and all(map(shutil.which, (RISCV[0], "qemu-riscv32"))):
+        except board.NoProcessor as cause:
+            print(cause)
+    elif target not in board.CORTEX and all(map(shutil.which, (RISCV[0], "qemu-riscv32"))):
         run(*RISCV, "-I", HERE / "c/include", HERE / "tests/board_stack.c", files["libslh_verify.a"],
             "-o", work / "bare")
         said = run("qemu-riscv32", work / "bare")
@@ -340,10 +344,10 @@ def machines_page(page):
     page.row(r"\| `slh_verify` alone \| N \| N \| N \| N \|", ["bytes"] * 4, [f"growth by {it}" for it in archives])
     page.stack_table()
     page.row(SPREAD, ["thousands"] * 3, [f"spread of {it}" for it in ("slh_keygen", "slh_sign", "slh_sign_job")])
-    boards_and_portable(page)
+    page.row(r"`slh\.c` \(N KB\), `slh_verify\.c` \(N KB\)", ["KB"] * 2, [f"portable {it}" for it in PORTABLE])
 
 
-def boards_and_portable(page):
+def devices_page(page):
     for target in (*LEVELS, "aarch64"):
         page.row(rf"\| {target} \| N \| N \| N \| N \|", ["bytes", "bytes", "stack", "stack"],
                  [f"code of {target} libslh_verify.a", f"{target} growth", f"{target} stack of slh_verify",
@@ -353,8 +357,7 @@ def boards_and_portable(page):
                  [f"code of {target} libslh_verify.a", f"code of {target} libslh_verify_128.a", f"{target} by digest",
                   f"{target} stack"])
         page.row(rf"\| `{target}` \|(?:[^|\n]*\|){{5}} N \| N \|", ["bytes"] * 2,
-                 [f"{target} instructions", f"{target} ms"], is_needed=BOARDS[target] is not None)
-    page.row(r"`slh\.c` \(N KB\), `slh_verify\.c` \(N KB\)", ["KB"] * 2, [f"portable {it}" for it in PORTABLE])
+                 [f"{target} instructions", f"{target} ms"], is_needed=target in board.CORTEX)
     head = r"\| 128s \| 128f \| 192s \| 192f \| 256s \| 256f \|\n\|[-|]+\n"
     page.row(head + r"\| N \| N \| N \| N \| N \| N \|", ["exactly"] * 6, [f"memory for {it}" for it in SETS])
     page.row("memory of the calls that was written, of N ", ["exactly"], ["memory for 128s"])
@@ -369,7 +372,7 @@ def readme_page(page):
         page.sizes_are_known()
 
 
-PAGES = {"docs/LIBRARY.md": library_page, "docs/MACHINES.md": machines_page,
+PAGES = {"docs/LIBRARY.md": library_page, "docs/MACHINES.md": machines_page, "docs/DEVICES.md": devices_page,
          "README.md": readme_page}
 
 

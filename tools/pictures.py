@@ -2,7 +2,8 @@
 """Draws the pictures of docs/pictures from the tables of docs: times and lengths (BENCHMARKS, FORMATS), the crates and
 what each may touch (ARCHITECTURE), and two threads at a board (BOARD). It draws all builds that a table has. A picture
 has a background of its own, light or dark as its reader's system is. The script also checks that the steps of the
-board's table follow from one another, and that README's sentence on speed has the times of the table.
+board's table follow from one another, that no line of the crates runs through a box, and that README's sentence on
+speed has the times of the table.
 
 Usage: tools/pictures.py           draws them
        tools/pictures.py --check   fails where a picture or that sentence is not what the tables say
@@ -240,8 +241,8 @@ def draw_panel(picture, sets, places, height, panel):
 
 # In which column a crate stands. Its row follows from the crates above it.
 COLUMNS = {
-    "slh": 2, "slh_c": 0, "slh_c_verify": 1, "slh_tool": 2, "slh_jobs": 0, "slh_par": 1.5, "slh_files": 4,
-    "slh_key_files": 4, "slh_vectors": 3, "slh_subtrees": 0.3, "slh_core": 1.5, "slh_workers": 2.8, "slh_io": 4,
+    "slh": 2, "slh_c": 0, "slh_c_verify": 1, "slh_tool": 2, "slh_jobs": 0, "slh_par": 2, "slh_files": 4,
+    "slh_key_files": 4, "slh_vectors": 3, "slh_subtrees": 0.3, "slh_core": 1.3, "slh_workers": 2.8, "slh_io": 4,
     "slh_few": 0.7, "slh_board": 2.8, "slh_lanes": 0.2, "slh_tree": 1.3, "slh_hash": 0.2, "slh_width": 2,
     "slh_params": 0.7,
 }
@@ -266,22 +267,46 @@ def wrapped(text, width):
     return lines
 
 
-def draw_crates():
-    found, wide, tall, pitch = crates(), 160, 48, 66
-    row = lambda name: 1 + max((row(user) for user, (_, below) in found.items() if name in below), default=-1)
-    place = {name: (20 + COLUMNS[name] * 172, 70 + row(name) * pitch) for name in found}
-    height = max(y for _, y in place.values()) + tall + 20
-    picture = Picture(888, height, "The crates as layers, with what each may touch")
-    picture.text(20, 28, "The crates, and what each may touch", "head")
-    draw_crates_legend(picture, 52)
+# The width and the height of a crate's box.
+WIDE, TALL = 160, 48
+
+
+def runs_through(line, place):
+    """Whether a line that runs downwards meets the box at a place."""
+    (x1, y1, x2, y2), (x, y) = line, place
+    top, bottom = max(y, y1), min(y + TALL, y2)
+    if top > bottom:
+        return False
+    at = [x1 + (x2 - x1) * (it - y1) / (y2 - y1) for it in (top, bottom)]
+    return min(at) <= x + WIDE and max(at) >= x
+
+
+def crate_lines(found, place):
+    """The lines from each crate to those right below it, none of which runs through the box of a third."""
     for name, (_, below) in found.items():
         for other in below:
             (x, y), (to_x, to_y) = place[name], place[other]
-            picture.line(x + wide / 2, y + tall, to_x + wide / 2, to_y, "rule")
+            line = x + WIDE / 2, y + TALL, to_x + WIDE / 2, to_y
+            crossed = [it for it in found if it not in (name, other) and runs_through(line, place[it])]
+            if crossed:
+                sys.exit(f"crates.svg: the line from {name} to {other} runs through {crossed[0]}")
+            yield line
+
+
+def draw_crates():
+    found, pitch = crates(), 66
+    row = lambda name: 1 + max((row(user) for user, (_, below) in found.items() if name in below), default=-1)
+    place = {name: (20 + COLUMNS[name] * 172, 70 + row(name) * pitch) for name in found}
+    height = max(y for _, y in place.values()) + TALL + 20
+    picture = Picture(888, height, "The crates as layers, with what each may touch")
+    picture.text(20, 28, "The crates, and what each may touch", "head")
+    draw_crates_legend(picture, 52)
+    for line in crate_lines(found, place):
+        picture.line(*line, "rule")
     for name, (touch, _) in found.items():
         x, y = place[name]
-        picture.box(x, y, wide, tall, "back")
-        picture.box(x, y, wide, tall, f"box b{kind_colour(touch)}")
+        picture.box(x, y, WIDE, TALL, "back")
+        picture.box(x, y, WIDE, TALL, f"box b{kind_colour(touch)}")
         picture.text(x + 8, y + 16, name, "bold mono")
         for i, line in enumerate(wrapped(touch, 23)):
             picture.text(x + 8, y + 30 + 12 * i, line, "small")

@@ -7,9 +7,12 @@
 #   dist/TARGET/                  what tools/target.sh makes for each other machine: archives, slh.dll, slh.wasm
 #   dist/portable/                slh.c and slh_verify.c
 #   dist/include/                 the headers
-#   dist/BUILD                    the version, the hash of the sources (tools/sources.sh), the kit, and the hashes of
-#                                 what compiles: its files, tools/clang.sh, and wasm2c
+#   dist/share/                   what is installed beside them, as tools/share.sh writes it
+#   dist/BUILD                    the version, the hashes of the sources and of those of share/ (tools/sources.sh), the
+#                                 kit, and the hashes of what compiles: its files, tools/clang.sh, and wasm2c
+#   dist/SBOM.spdx.json           the bill of materials, as tools/sbom.py writes it
 #   dist/SHA256SUMS               the hashes of all these files
+#   dist/SHA256SUMS.sig           its signature, if SLH_RELEASE_KEY names a secret key file (tools/sign_release.sh)
 #
 # usage: tools/release.sh [--after-ci] VERSION     VERSION is that of the file VERSION, and nothing is uncommitted
 #        tools/release.sh [--after-ci] --check [FOLDER]     builds all again and compares, bit for bit
@@ -34,6 +37,9 @@ fi
 [ $# = 1 ] || [ "$#-${1-}" = 2---check ] || usage
 work=$(mktemp -d)
 trap 'rm -rf "$work"' EXIT
+
+# Whether share/ is made of what the release's was made of: pages may change, and the sources be those of the release.
+has_share_of_release() { [ "$(release_says share)" = "$("$here/tools/sources.sh" share)" ]; }
 
 has_wasm2c() { "$here/tools/portable.py" wasm2c >/dev/null 2>&1; }
 
@@ -63,11 +69,14 @@ build() {
         "$here/tools/program.sh" "$level" "$1/$level/slh"
     done
     install -D -m 644 -t "$1/include" "$here"/c/include/*.h "$here"/c/include/*.hpp
+    "$here/tools/share.sh" "$1" "$1/x86-64-v2/slh" "$(cat "$here/VERSION")"
     {
         echo "version $(cat "$here/VERSION")"
         echo "sources $("$here/tools/sources.sh")"
+        echo "share $("$here/tools/sources.sh" share)"
         kit_lines
     } >"$1/BUILD"
+    "$here/tools/sbom.py" "$1"
     (cd "$1" && find . -type f -printf '%P\0' | LC_ALL=C sort -z | xargs -0 sha256sum >"$work/sums" && mv "$work/sums" SHA256SUMS)
 }
 
@@ -85,6 +94,7 @@ write() {
         exit 2
     fi
     build "$work/dist"
+    [ -z "${SLH_RELEASE_KEY-}" ] || "$here/tools/sign_release.sh" "$work/dist" "$SLH_RELEASE_KEY"
     rm -rf "$here/dist"
     mv "$work/dist" "$here/dist"
     write_numbers
@@ -96,7 +106,7 @@ write_numbers() {
     local folder targets=()
     "$here/tools/library.sh" "$work/prefix" >&2
     for folder in "$here"/dist/*/; do
-        case "$folder" in */x86-64/ | */include/) continue ;; esac
+        case "$folder" in */x86-64/ | */include/ | */share/) continue ;; esac
         folder=${folder%/} && targets+=("${folder##*/}=$folder")
     done
     "$here/tools/numbers.py" --write "x86-64=$work/prefix" "${targets[@]}" >&2
@@ -115,12 +125,16 @@ check() {
     local file made=$work/dist
     [ -z "$1" ] || made=$(realpath -m "$1")
     has_release || not_compared "there is no release in dist/"
-    mapfile -t files < <(cd "$here/dist" && find . -type f ! -name SHA256SUMS -printf '%P\n' | LC_ALL=C sort)
+    mapfile -t files < <(cd "$here/dist" && find . -type f ! -name SHA256SUMS ! -name SHA256SUMS.sig -printf '%P\n' |
+        LC_ALL=C sort)
     for file in "${files[@]}"; do
         tell "dist/$file has the hash that SHA256SUMS lists" "$(are_whole "$file" && echo yes || echo no)"
     done
     tell "SHA256SUMS lists no other file" "$(diff <(printf '%s\n' "${files[@]}") \
         <(awk '{ print $2 }' "$here/dist/SHA256SUMS") >&2 && echo yes || echo no)"
+    [ ! -f "$here/dist/SBOM.spdx.json" ] ||
+        tell "the bill of materials lists what is in dist/" \
+            "$("$here/tools/sbom.py" --check "$here/dist" >&2 && echo yes || echo no)"
     has_sources_of_release || not_compared "the sources are not those of dist/BUILD"
     tell "dist/BUILD has the version of the file VERSION" \
         "$([ "$(release_says version)" = "$(cat "$here/VERSION")" ] && echo yes || echo no)"
@@ -129,9 +143,11 @@ check() {
         not_compared "the kit is not that of dist/BUILD"
     ! has_wasm2c || diff <(kit_lines | grep ^wabt/) <(grep ^wabt/ "$here/dist/BUILD") >&2 ||
         not_compared "wasm2c is not that of dist/BUILD"
+    has_share_of_release || skip "dist/share" "its sources are not those of dist/BUILD"
     build "$made"
     for file in "${files[@]}"; do
-        [ "$file" = BUILD ] || { [ "${file%%/*}" = portable ] && ! has_wasm2c; } ||
+        [ "$file" = BUILD ] || [ "$file" = SBOM.spdx.json ] || { [ "${file%%/*}" = portable ] && ! has_wasm2c; } ||
+            { [ "${file%%/*}" = share ] && ! has_share_of_release; } ||
             tell "dist/$file is built again bit for bit" "$(cmp "$here/dist/$file" "$made/$file" >&2 && echo yes || echo no)"
     done
     end_counts

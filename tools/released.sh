@@ -25,12 +25,26 @@ programs_here() {
 # The files of a target that SHA256SUMS lists, but for programs.
 listed() {
     [ ! -f "$dist/SHA256SUMS" ] ||
-        awk -v at="$1/" 'index($2, at) == 1 && at != "include/" && $2 != at "slh" { print $2 }' "$dist/SHA256SUMS"
+        awk -v at="$1/" 'index($2, at) == 1 && at !~ /^(include|share)\/$/ && $2 != at "slh" { print $2 }' \
+            "$dist/SHA256SUMS"
+}
+
+# Whether SHA256SUMS lists a file.
+lists() { awk -v file="$1" '$2 == file { found = 1 } END { exit !found }' "$dist/SHA256SUMS"; }
+
+# Whether each line of SHA256SUMS has a hash and the path of a file within dist/. The first that has not is told.
+has_plain_list() {
+    local line
+    line=$(grep -Ev -m 1 '^[0-9a-f]{64}  [A-Za-z0-9_][A-Za-z0-9._-]*(/[A-Za-z0-9_][A-Za-z0-9._-]*)*$' \
+        "$dist/SHA256SUMS") || return 0
+    echo "${0##*/}: ${dist#"$here/"}/SHA256SUMS is damaged: it has a line that names no file there: $line" >&2
+    return 1
 }
 
 # Whether these files of dist/ have the hashes that SHA256SUMS lists. The first that has not is told.
 are_whole() {
     local file listed name=${dist#"$here/"}
+    has_plain_list || return 1
     for file in "$@"; do
         listed=$(awk -v file="$file" '$2 == file { print $1 }' "$dist/SHA256SUMS")
         if [ ! -f "$dist/$file" ]; then
@@ -92,10 +106,10 @@ looked_at() {
 }
 
 # Whether there is a note, the user's own, and all is as it was noted. It sets `found` to what was found then. The two
-# hashes are looked at meanwhile.
+# hashes are looked at meanwhile. Nothing but files is opened: a FIFO would be waited for.
 is_as_noted() {
     local sum name sums=
-    [ -n "$note" ] && [ -O "$note" ] && read -r found <"$note" || return 1
+    [ -n "$note" ] && [ -f "$note" ] && [ -O "$note" ] && [ -f "$dist/$file" ] && read -r found <"$note" || return 1
     cmp -s "$note" <(echo "$found" && looked_at) &
     while read -r sum name; do
         [ "$name" != BUILD ] && [ "$name" != "$file" ] || sums+="$sum  $name"$'\n'

@@ -39,25 +39,35 @@ nm binutils
 make make
 pkg-config pkg-config
 python3 python3
+pytest python3-pytest python3-pytest-xdist
 - python3-venv python3-setuptools python3-wheel python3-distributed python3-tqdm
 - python3-prometheus-client e2fsprogs
-- librust-rand-core-dev
+- librust-rand-core-dev librust-sha2-dev librust-arrayvec-dev librust-thiserror-dev
 git git
 xxd xxd
 openssl openssl
 rustc rustc
 cargo cargo
+rustfmt rustfmt
+cargo-clippy rust-clippy
 go golang-go
 node nodejs
 cmake cmake
 clang clang
 valgrind valgrind
+abidiff abigail-tools
 - libc6-dbg
 lintian lintian
 man man-db
 zsh zsh
 rsvg-convert librsvg2-bin
 unshare util-linux
+age age
+ssss-split ssss
+strace strace
+mypy mypy
+esbuild esbuild
+tsc node-typescript
 debootstrap debootstrap"
 of_other_machines="aarch64-linux-gnu-gcc gcc-aarch64-linux-gnu
 arm-linux-gnueabihf-gcc gcc-arm-linux-gnueabihf

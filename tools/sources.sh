@@ -2,12 +2,17 @@
 # Prints the SHA-256 of all that the program and the library for C are made of: the crates `slh`, `slh_c`,
 # `slh_c_verify` and those below them, with their lines of crates.txt, their sources, definitions and proofs, and
 # without tests; the C round the exports and that of the portable C, the headers, and c/starter.c; HANDLES and VERSION;
-# and the scripts that build. It needs no kit.
+# and the scripts that build. It needs no kit. With `share` it is that of what tools/share.sh reads.
 #
-# usage: tools/sources.sh
+# usage: tools/sources.sh [share]
 set -euo pipefail
 cd "$(dirname "${BASH_SOURCE[0]}")/.."
 export LC_ALL=C
+if [ "${1-}" = share ]; then
+    sha256sum VERSION bindings/cmake/slh-config{.cmake,-version.cmake.in} bindings/debian/{from_help.py,slh.3} \
+        docs/FORMATS.md tools/share.sh | sha256sum | cut -d ' ' -f 1
+    exit
+fi
 
 # The crates `slh`, `slh_c` and `slh_c_verify` and those below them, each with its line.
 lines() {
@@ -30,7 +35,7 @@ mapfile -t crates < <(lines | sed 's/[: ].*//')
     lines
     {
         find HANDLES VERSION c/{exports,include,portable} c/starter.c \
-            tools/{clang.sh,for_128.sed,for_hook.sed,for_size.sed,kit.py,lay_out.py,portable.py,program.sh,target.sh} -type f -print0
+            tools/{clang.sh,for_128.sed,for_hook.sed,for_machine.sed,for_size.sed,kit.py,lay_out.py,portable.py,program.sh,target.sh} -type f -print0
         find "${crates[@]/#/crates/}" -path '*/out' -prune -o -path '*/tests/*' -o -name 'tests.*' \
             -o \( -path '*/src/*' -o -path '*/specs/*' -o -path '*/proofs/*' \) -type f -print0
     } | sort -z | xargs -0 sha256sum

@@ -215,7 +215,7 @@ share_coff() {
 
 # Makes libslh.a of a TARGET, and what the table has beside it.
 make_exports() {
-    local target=$1 parts=$work/$1-exports all='SECRET|OPEN|SIZES' level highest number kinds defines=() "${columns[@]}"
+    local target=$1 parts=$work/$1-exports all='[A-Z]+' level highest number kinds defines=() "${columns[@]}"
     describe "$target"
     mkdir "$parts"
     if [ ${#levels[@]} = 0 ]; then
@@ -245,7 +245,8 @@ described() {
 }
 
 # Makes libslh_verify.a of a TARGET, which is described, and whose proved object is there. The linker keeps what its
-# calls reach, and so drops the other calls.
+# calls reach, and so drops the other calls. These calls are weak: a program that is linked with libslh.a, too, takes
+# them from there, in whatever order it names the two.
 cut_verify() {
     local file=$work/$1.o
     if [ "$verify" != slh_c ]; then
@@ -253,6 +254,7 @@ cut_verify() {
         proved_object "$verify" "$1" 1 "$file" "" small
     fi
     "$linker" -r --gc-sections --discard-all "${verify_calls[@]/#/--undefined=}" -o "$work/slh_verify.o" "$file"
+    as llvm-objcopy --weaken "$work/slh_verify.o"
     archive "$1/libslh_verify.a" "$work/slh_verify.o"
 }
 

@@ -10,6 +10,7 @@ import subprocess
 import sys
 
 OPTION = re.compile(r"^ +(?:(-\w), )?(--[a-z-]+)(?: <([A-Z]+)>)? {2,}(\S.*)$")
+USUAL = re.compile(r"^  (\d+ \w+) {2,}(\S.*)$")
 COMMAND = re.compile(r"^  ([a-z]+) {2,}(\S.*)$")
 FORMATS = pathlib.Path(__file__).resolve().parents[2] / "docs" / "FORMATS.md"
 REFUSALS = "### Refusals of the program"
@@ -20,7 +21,7 @@ seeds of a key are read from standard input, and `--random` takes the randomizer
 
 Keys are text files, which name their parameter set. Signatures are raw bytes. Each command writes its result to
 standard output. A shell empties the file after `>` before slh starts: write to a new name, and rename it if the exit
-status is 0.
+status is 0. After `set -C` the shell refuses to write over a file.
 
 Hardware that fails while it signs can allow forgeries. `--twice` signs two times and writes the signature only if both
 results agree. `--random` makes each signature another one.
@@ -28,7 +29,7 @@ results agree. `--random` makes each signature another one.
 
 EXAMPLES = {
     "To make a key pair, which for a 192 set takes 72 random bytes and for a 256 set 96:": """\
-umask 077
+umask 077; set -C
 openssl rand -hex 48 | slh keygen --set SLH-DSA-SHA2-128f > secret.key
 slh public --key secret.key > public.key
 """,
@@ -49,7 +50,7 @@ slh sign --key secret.key --message disk.img --prehash SHA2-256 \\
 STATUS = {
     "0": "done, `valid`, `consistent`, or all tests passed",
     "1": "`invalid`, `inconsistent`, or a test failed",
-    "2": "refused: standard error has the number and the name of the refusal. "
+    "2": "refused: standard error has the number and the name of the refusal, and a terminal also the cause. "
          "Nothing was written to standard output, unless a write failed (33).",
 }
 
@@ -96,11 +97,17 @@ def man_options(options):
 
 
 def man_end(text):
-    """The paragraph at the end of a command's help text, with its example as it is typed."""
-    *lines, last = [it for it in text.split("\n") if not it.startswith("Refusals: ")]
-    if lines:
-        yield from (".PP", *map(roff, lines))
-    yield from (".PP", "Example:", *man_typed(last.removeprefix("Example: ")))
+    """The paragraph at the end of a command's help text: notes, its usual refusals, and its example as it is typed."""
+    before, example = text.split("Example: ")
+    lines = [it for it in before.splitlines() if not it.startswith(("Refusals: ", "Usual refusals:"))]
+    refusals = [it.groups() for it in map(USUAL.match, lines) if it]
+    notes = [it for it in lines if not USUAL.match(it)]
+    if notes:
+        yield from (".PP", *map(roff, notes))
+    yield from (".PP", "Usual refusals:")
+    for name, cause in refusals:
+        yield from (".TP", f"\\fB{name}\\fR", roff(cause))
+    yield from (".PP", "Example:", *man_typed(example))
 
 
 def man_typed(text):
@@ -149,7 +156,9 @@ def man(program, commands, version):
     for status, text in STATUS.items():
         yield from (".TP", f"\\fB{status}\\fR", man_text(text))
     yield ".SH REFUSALS"
-    yield roff("A refusal is a line on standard error, slh: NUMBER NAME. The first fault that is found is reported.")
+    yield roff("A refusal is a line on standard error, slh: NUMBER NAME. The first fault that is found is reported. "
+               "If standard error is a terminal, one sentence on the cause follows. It is found by another look at the "
+               "arguments and files.")
     yield from man_refusals()
     yield from (".SH FILES", ".TP", ".I /usr/share/doc/slh/FORMATS.md.gz")
     yield "Formats of keys, and the refusals of the library. In the repository it is docs/FORMATS.md."
@@ -163,6 +172,10 @@ def values(option, sets):
     if long == "--set":
         return sets
     return re.findall(r"SHA2-[0-9/]+", sentence) if long == "--prehash" else []
+
+
+def options_of(text):
+    return " ".join(it[1] for it in text.options)
 
 
 def bash(program, commands, sets):
@@ -179,10 +192,10 @@ def bash(program, commands, sets):
             yield f'    {name}) words="{" ".join(known)}" ;;'
     yield "    *)"
     yield "        case $COMP_CWORD-${COMP_WORDS[1]} in"
-    yield f'        1-*) words="{" ".join(name for name, _ in program.commands)} --help" ;;'
+    yield f'        1-*) words="{" ".join(name for name, _ in program.commands)} {options_of(program)}" ;;'
     yield f'        2-help) words="{" ".join(commands)}" ;;'
     for name, command in commands.items():
-        yield f'        *-{name}) words="{" ".join(it[1] for it in command.options)}" ;;'
+        yield f'        *-{name}) words="{options_of(command)}" ;;'
     yield "        esac"
     yield "        ;;"
     yield "    esac"

@@ -14,7 +14,7 @@ import (
 
 // TestFaultsOfMemoryAreFound flips one bit of a signature in memory while its second computation runs.
 func TestFaultsOfMemoryAreFound(t *testing.T) {
-	for name, call := range callsOf(generate(t), &Options{Twice: true}) {
+	for name, call := range callsOf(generate(t), nil) {
 		for _, at := range []int{0, 8000, 17080} {
 			var signature, scratch []byte
 			var err error

@@ -51,7 +51,7 @@ func ReadPublicKeyFile(path string) (*PublicKey, error) {
 }
 
 // MarshalKeyFile returns the text of a key file of version 2, which is the caller's to overwrite. It returns
-// ErrDestroyed.
+// ErrErased.
 func (secret *SecretKey) MarshalKeyFile() ([]byte, error) {
 	var text []byte
 	err := secret.use(func(key []byte) error {
@@ -70,7 +70,7 @@ func (public *PublicKey) MarshalKeyFile() ([]byte, error) {
 }
 
 // WriteFile writes a new key file of version 2, which its owner alone may read (mode 0600). A file that exists is
-// refused, with an error that is fs.ErrExist. If writing fails, the new file is removed. It returns ErrDestroyed.
+// refused, with an error that is fs.ErrExist. If writing fails, the new file is removed. It returns ErrErased.
 func (secret *SecretKey) WriteFile(path string) error {
 	text, err := secret.MarshalKeyFile()
 	if err != nil {

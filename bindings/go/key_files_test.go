@@ -40,7 +40,7 @@ func (it *latin1) UnmarshalJSON(text []byte) error {
 	return nil
 }
 
-// A row is a command line of tests/vectors/commands, as tests/commands.py reads it.
+// A row is a command line of tests/vectors/commands, as tests/test_commands.py reads it.
 type row struct {
 	Words          []string
 	Status         int
@@ -227,8 +227,8 @@ func TestFilesAreNew(t *testing.T) {
 	if err := secret.WriteFile(filepath.Join(folder, "none", "secret.key")); !errors.Is(err, fs.ErrNotExist) {
 		t.Error(err)
 	}
-	secret.Destroy()
-	if err := secret.WriteFile(filepath.Join(folder, "destroyed.key")); err != slh.ErrDestroyed {
+	secret.Erase()
+	if err := secret.WriteFile(filepath.Join(folder, "destroyed.key")); err != slh.ErrErased {
 		t.Error(err)
 	}
 	if names, err := os.ReadDir(folder); err != nil || len(names) != 2 {

@@ -89,8 +89,8 @@ func (public *PublicKey) verify(it *form, signature []byte) error {
 }
 
 // A SecretKey has 4n bytes, SK.seed, SK.prf, PK.seed and PK.root. It is a crypto.Signer. It is printed as its set, and
-// encoders get ErrMarshal. All copies of a SecretKey share its bytes; go vet reports such copies. After Destroy each
-// call that needs the bytes returns ErrDestroyed, or panics with it if it returns no error.
+// encoders get ErrMarshal. All copies of a SecretKey share its bytes; go vet reports such copies. After Erase each
+// call that needs the bytes returns ErrErased, or panics with it if it returns no error.
 type SecretKey struct {
 	_ noCopy
 	redacted
@@ -101,9 +101,9 @@ var _ crypto.Signer = (*SecretKey)(nil)
 
 // held has the bytes of a secret key, which all copies of a SecretKey share.
 type held struct {
-	lock        sync.Mutex
-	key         hidden
-	isDestroyed bool
+	lock     sync.Mutex
+	key      hidden
+	isErased bool
 }
 
 // newSecret returns the secret key of these bytes, which have the set's length and are not copied. A key that is
@@ -118,15 +118,15 @@ func newSecret(set Set, bytes []byte) (*SecretKey, error) {
 	return &SecretKey{redacted: redacted{set, lengths}, held: it}, nil
 }
 
-// taken returns a copy for one call, which has to be erased. So Destroy need not wait for calls that run.
+// taken returns a copy for one call, which has to be erased. So Erase need not wait for calls that run.
 func (secret *SecretKey) taken() ([]byte, error) {
 	if secret.held == nil {
 		return nil, NoSuchSet // the zero value is the key of no set
 	}
 	secret.held.lock.Lock()
 	defer secret.held.lock.Unlock()
-	if secret.held.isDestroyed {
-		return nil, ErrDestroyed
+	if secret.held.isErased {
+		return nil, ErrErased
 	}
 	return copied(secret.held.key.bytes()), nil
 }
@@ -139,12 +139,19 @@ func copied(bytes []byte) []byte {
 	return it
 }
 
-// Destroy overwrites the bytes with zeros, for copies of this SecretKey, too. Calls that run in other goroutines end
+// Erase overwrites the bytes with zeros, for copies of this SecretKey, too. Calls that run in other goroutines end
 // under a copy of their own, which they then erase.
-func (secret *SecretKey) Destroy() {
+func (secret *SecretKey) Erase() {
 	if secret.held != nil {
 		secret.held.destroy()
 	}
+}
+
+// Destroy is Erase.
+//
+// Deprecated: use Erase. A later release removes this name.
+func (secret *SecretKey) Destroy() {
+	secret.Erase()
 }
 
 // destroy overwrites the bytes.
@@ -152,7 +159,7 @@ func (it *held) destroy() {
 	it.lock.Lock()
 	defer it.lock.Unlock()
 	erase(it.key.bytes())
-	it.isDestroyed = true
+	it.isErased = true
 }
 
 // NewSecretKey returns the secret key of these bytes. Call Check once on one that comes from elsewhere. It is refused
@@ -168,8 +175,8 @@ func NewSecretKey(set Set, bytes []byte) (*SecretKey, error) {
 	return newSecret(set, copied(bytes))
 }
 
-// Generate makes a key (Algorithm 21). Its seeds come from the source, or from crypto/rand if that is nil. It is
-// refused as NoSuchSet. If the source fails, the error is no Refusal, and wraps the source's.
+// Generate makes a key (Algorithm 21) and checks it. Its seeds come from the source, or from crypto/rand if that is
+// nil. It is refused as Keygen is. If the source fails, the error is no Refusal, and wraps the source's.
 func Generate(source io.Reader, set Set) (*SecretKey, error) {
 	lengths, err := set.Lengths()
 	if err != nil {
@@ -184,8 +191,8 @@ func Generate(source io.Reader, set Set) (*SecretKey, error) {
 	return Keygen(set, seeds[:n], seeds[n:2*n], seeds[2*n:])
 }
 
-// Keygen makes the key of three seeds of n bytes each (Algorithm 18). They are as secret as the key. It is refused as
-// NoSuchSet and BadSeedLength.
+// Keygen makes the key of three seeds of n bytes each (Algorithm 18), and checks it as Check does. The seeds are as
+// secret as the key. It is refused as NoSuchSet and BadSeedLength. It returns ErrFault if the check finds another root.
 func Keygen(set Set, skSeed, skPrf, pkSeed []byte) (*SecretKey, error) {
 	lengths, err := set.Lengths()
 	if err != nil {
@@ -197,14 +204,32 @@ func Keygen(set Set, skSeed, skPrf, pkSeed []byte) (*SecretKey, error) {
 		}
 	}
 	bytes := make([]byte, lengths.SecretKey)
-	err = done(uninterrupted(func() C.uint32_t {
-		return C.slh_keygen(C.uint32_t(set), at(skSeed), size(skSeed), at(skPrf), size(skPrf), at(pkSeed), size(pkSeed),
-			at(bytes), size(bytes))
-	}))
+	if err := makeKey(set, skSeed, skPrf, pkSeed, bytes); err != nil {
+		return nil, err
+	}
+	secret, err := newSecret(set, bytes)
 	if err != nil {
 		return nil, err
 	}
-	return newSecret(set, bytes)
+	if err := secret.Check(); err == ErrInvalid {
+		secret.Erase()
+		return nil, ErrFault
+	} else if err != nil {
+		secret.Erase()
+		return nil, err
+	}
+	return secret, nil
+}
+
+// makeKey is keyOf. A test puts one with faults in its place.
+var makeKey = keyOf
+
+// keyOf writes the bytes of the key of three seeds.
+func keyOf(set Set, skSeed, skPrf, pkSeed, bytes []byte) error {
+	return done(uninterrupted(func() C.uint32_t {
+		return C.slh_keygen(C.uint32_t(set), at(skSeed), size(skSeed), at(skPrf), size(skPrf), at(pkSeed), size(pkSeed),
+			at(bytes), size(bytes))
+	}))
 }
 
 // Set returns the parameter set.
@@ -212,7 +237,7 @@ func (secret *SecretKey) Set() Set {
 	return secret.set
 }
 
-// Bytes returns a copy of the 4n bytes, which is the caller's to erase. It panics with ErrDestroyed.
+// Bytes returns a copy of the 4n bytes, which is the caller's to erase. It panics with ErrErased.
 func (secret *SecretKey) Bytes() []byte {
 	key, err := secret.taken()
 	if err != nil {
@@ -235,12 +260,12 @@ func (secret *SecretKey) Equal(other crypto.PrivateKey) bool {
 	return err == nil && otherErr == nil && subtle.ConstantTimeCompare(one, another) == 1
 }
 
-// Public returns the *PublicKey, for crypto.Signer. It panics with ErrDestroyed.
+// Public returns the *PublicKey, for crypto.Signer. It panics with ErrErased.
 func (secret *SecretKey) Public() crypto.PublicKey {
 	return secret.PublicKey()
 }
 
-// PublicKey returns the public key, the last 2n bytes. It panics with ErrDestroyed.
+// PublicKey returns the public key, the last 2n bytes. It panics with ErrErased.
 func (secret *SecretKey) PublicKey() *PublicKey {
 	public := make([]byte, secret.lengths.PublicKey)
 	err := secret.use(func(key []byte) error {
@@ -268,7 +293,8 @@ func (secret *SecretKey) Check() error {
 // Options, *Options or a struct that embeds one, or the default if opts are of another type. The randomizer comes from
 // the source, or from crypto/rand if that is nil. It is refused as ContextTooLong if the context has over 255 bytes, as
 // NoSuchFunction and as BadDigestLength, and by Workers above 1 as AnswersDisagree under a key that Check finds
-// invalid. Twice and Verify return ErrFault. If the source fails, the error is no Refusal, and wraps the source's.
+// invalid. It returns ErrFault if two computations differ or options.Verify finds an invalid signature. If the source
+// fails, the error is no Refusal, and wraps the source's.
 func (secret *SecretKey) Sign(source io.Reader, message []byte, opts crypto.SignerOpts) ([]byte, error) {
 	options := optionsOf(opts)
 	return secret.sign(source, options, pureOrDigest(secret.set, options, message))
@@ -331,7 +357,7 @@ func (secret *SecretKey) made(options Options, it *form, key, randomizer []byte)
 		begin := func(start []byte) C.uint32_t { return it.start(key, randomizer, start) }
 		return secret.signJobs(key, options, begin)
 	}
-	if !options.Twice {
+	if options.runs() == 1 {
 		return secret.written(func(sig []byte) C.uint32_t { return it.sign(key, randomizer, sig) })
 	}
 	scratch := newScratch(2 * secret.lengths.Signature)

@@ -10,7 +10,7 @@ import (
 )
 
 // Options say how a signature is made or verified. Nil stands for the zero value: the pure form, the empty context, a
-// fresh randomizer, and one thread. Verifying reads Context and Hash alone.
+// fresh randomizer, one thread, and two computations that are compared. Verifying reads Context and Hash alone.
 type Options struct {
 	// Context has at most 255 bytes.
 	Context []byte
@@ -23,8 +23,13 @@ type Options struct {
 	// has jobs. Under a key that Check finds invalid they return AnswersDisagree, while one goroutine returns a
 	// signature that is not valid. A digest is always signed by one goroutine.
 	Workers int
-	// Twice computes a signature two times and compares all bytes, for callers who must survive hardware faults. Several
-	// workers do each job two times. If the results differ, the call returns ErrFault and no signature.
+	// Once computes a signature one time, which takes half the time. By default it is computed two times, and several
+	// workers do each job two times. If the results differ, the call returns ErrFault and no signature. Without this
+	// comparison a fault of the hardware can give a signature from which others are forged.
+	Once bool
+	// Twice asks for two computations, even if Once is set.
+	//
+	// Deprecated: two computations are the default. A later release removes this option.
 	Twice bool
 	// Verify verifies a signature under the key's own public key before it is returned. If it is not valid, it is
 	// overwritten, and the call returns ErrFault.
@@ -44,12 +49,12 @@ func (options *Options) value() Options {
 	return *options
 }
 
-// runs returns how many times workers do each job.
+// runs returns how many times a signature is computed.
 func (options Options) runs() int {
-	if options.Twice {
-		return 2
+	if options.Once && !options.Twice {
+		return 1
 	}
-	return 1
+	return 2
 }
 
 // all returns the options. A struct that embeds Options has this method, too.

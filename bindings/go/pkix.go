@@ -80,7 +80,7 @@ func (public *PublicKey) MarshalPKIXPEM() ([]byte, error) {
 }
 
 // MarshalPKCS8 returns the key as PKCS#8 in DER, not encrypted, which is the caller's to overwrite. It returns
-// ErrDestroyed.
+// ErrErased.
 func (secret *SecretKey) MarshalPKCS8() ([]byte, error) {
 	var der []byte
 	err := secret.use(func(key []byte) error {
@@ -91,7 +91,7 @@ func (secret *SecretKey) MarshalPKCS8() ([]byte, error) {
 }
 
 // MarshalPKCS8PEM returns the key as PKCS#8 in PEM, not encrypted, which is the caller's to overwrite. It returns
-// ErrDestroyed.
+// ErrErased.
 func (secret *SecretKey) MarshalPKCS8PEM() ([]byte, error) {
 	der, err := secret.MarshalPKCS8()
 	if err != nil {

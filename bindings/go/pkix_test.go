@@ -195,10 +195,10 @@ func TestPKIXRefuses(t *testing.T) {
 	if _, err := ParsePKCS8SecretKeyPEM(text[:len(text)-1]); err != nil {
 		t.Fatal(err)
 	}
-	secret.Destroy()
+	secret.Erase()
 	_, err = secret.MarshalPKCS8()
 	_, second = secret.MarshalPKCS8PEM()
-	if err != ErrDestroyed || second != ErrDestroyed {
+	if err != ErrErased || second != ErrErased {
 		t.Fatal(err, second)
 	}
 }

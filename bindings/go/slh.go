@@ -14,7 +14,7 @@
 // valid, and ErrInvalid if it is not.
 //
 // Each signature has a fresh randomizer, from crypto/rand unless another source is given or Options.Deterministic asks
-// for none. SecretKey.Destroy overwrites a secret key. A call overwrites its own copies of it before it returns. Slices
+// for none. SecretKey.Erase overwrites a secret key. A call overwrites its own copies of it before it returns. Slices
 // that a caller hands in, and those of SecretKey.Bytes and MarshalKeyFile, are the caller's.
 //
 // A secret key is printed as its set, a public key as its set and a fingerprint. Encoders get ErrMarshal for a secret
@@ -92,12 +92,17 @@ func (set Set) Lengths() (Lengths, error) {
 // ErrInvalid says that a signature is not valid, or that the root of a secret key is not the one that its seeds give.
 var ErrInvalid = errors.New("slh: invalid")
 
-// ErrDestroyed says that a secret key was destroyed.
-var ErrDestroyed = errors.New("slh: the secret key was destroyed")
+// ErrErased says that a secret key was erased.
+var ErrErased = errors.New("slh: the secret key was erased")
 
-// ErrFault says that two computations of a signature differ (Options.Twice), or that the signature is not valid
-// (Options.Verify). It was overwritten. Memory or the processor failed, or Check finds the key invalid.
-var ErrFault = errors.New("slh: 38 Fault: two computations differ, or the signature is not valid")
+// ErrDestroyed is ErrErased.
+//
+// Deprecated: use ErrErased. A later release removes this name.
+var ErrDestroyed = ErrErased
+
+// ErrFault says that two computations of a signature differ, that the signature is not valid (Options.Verify), or that
+// a new key is not. What was made is overwritten. Memory or the processor failed, or Check finds the key invalid.
+var ErrFault = errors.New("slh: 38 Fault: two computations differ, or the signature or the new key is not valid")
 
 // A Refusal is the number of the reason why a call was refused (docs/FORMATS.md, "Refusals"): use
 // errors.Is(err, slh.ContextTooLong). Errors of lengths wrap it, and say which length was expected and which was given.

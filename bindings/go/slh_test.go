@@ -144,7 +144,7 @@ func TestSignVectors(t *testing.T) {
 	}
 }
 
-// signatures returns the signatures of each call that signs in the test's form, by one goroutine, by two, and twice.
+// signatures returns the signatures of each call that signs in the test's form, by one goroutine, by two, and once.
 func signatures(t *testing.T, test vector) map[string][]byte {
 	t.Helper()
 	secret, err := NewSecretKey(test.set(t), test.Sk)
@@ -152,10 +152,10 @@ func signatures(t *testing.T, test vector) map[string][]byte {
 		t.Fatal(err)
 	}
 	made := map[string][]byte{}
-	for _, options := range []Options{{Workers: 1, Verify: true}, {Workers: 2}, {Twice: true, Verify: true}} {
+	for _, options := range []Options{{Workers: 1, Verify: true}, {Workers: 2}, {Once: true, Verify: true}} {
 		options.Context, options.Deterministic = test.Context, len(test.Random) == 0
 		for name, call := range test.calls(t, secret, options) {
-			name = fmt.Sprintf("%s, %d workers, twice %v", name, options.Workers, options.Twice)
+			name = fmt.Sprintf("%s, %d workers, once %v", name, options.Workers, options.Once)
 			if made[name], err = call(); err != nil {
 				t.Error(test.Set, test.Form, name, err)
 			}
@@ -350,7 +350,7 @@ func TestRefusals(t *testing.T) {
 	for _, hash := range []crypto.Hash{0, crypto.MD5, crypto.SHA3_256, 99} {
 		_, err = secret.HashSign(nil, hash, nil, nil)
 		expectRefusal(t, err, NoSuchFunction, 9, "NoSuchFunction")
-		_, err = secret.HashSignDigest(nil, hash, nil, &Options{Twice: true})
+		_, err = secret.HashSignDigest(nil, hash, nil, &Options{Once: true})
 		expectRefusal(t, err, NoSuchFunction, 9, "NoSuchFunction")
 	}
 	_, err = secret.Sign(nil, make([]byte, 32), crypto.SHA3_256)
@@ -370,7 +370,7 @@ func TestLengthsAreTold(t *testing.T) {
 	_, seed := Keygen(fast, make([]byte, 16), make([]byte, 17), nil)
 	_, digest := secret.HashSignDigest(nil, crypto.SHA512_256, make([]byte, 64), nil)
 	_, signed := secret.Sign(nil, nil, context)
-	_, twice := secret.HashSign(nil, crypto.SHA256, nil, &Options{Context: make([]byte, 300), Twice: true})
+	_, once := secret.HashSign(nil, crypto.SHA256, nil, &Options{Context: make([]byte, 300), Once: true})
 	_, both := secret.HashSignDigest(nil, crypto.SHA256, nil, context)
 	for wanted, err := range map[string]error{
 		"slh: 3 BadLength: a public key of SLH-DSA-SHA2-256s has 64 bytes, not 63": public,
@@ -378,7 +378,7 @@ func TestLengthsAreTold(t *testing.T) {
 		"slh: 10 BadSeedLength: a seed of SLH-DSA-SHA2-128f has 16 bytes, not 17":  seed,
 		"slh: 16 BadDigestLength: a digest of SHA-512/256 has 32 bytes, not 64":    digest,
 		"slh: 2 ContextTooLong: a context has at most 255 bytes, not 256":          signed,
-		"slh: 2 ContextTooLong: a context has at most 255 bytes, not 300":          twice,
+		"slh: 2 ContextTooLong: a context has at most 255 bytes, not 300":          once,
 		"slh: 16 BadDigestLength: a digest of SHA-256 has 32 bytes, not 0":         both,
 	} {
 		if err == nil || err.Error() != wanted {
@@ -427,7 +427,7 @@ func panicOf(call func()) (found interface{}) {
 func errorsOf(it *SecretKey) []error {
 	_, text := it.MarshalKeyFile()
 	errs, message := []error{it.Check(), text}, make([]byte, 32)
-	for _, options := range []*Options{nil, {Workers: 2}, {Twice: true}, {Verify: true}, {Hash: crypto.SHA256}} {
+	for _, options := range []*Options{nil, {Workers: 2}, {Once: true}, {Verify: true}, {Hash: crypto.SHA256}} {
 		_, signed := it.Sign(nil, message, options)
 		_, hashed := it.HashSign(nil, crypto.SHA256, message, options)
 		_, digested := it.HashSignDigest(nil, crypto.SHA256, message, options)
@@ -446,20 +446,20 @@ func TestADestroyedKeyDoesNothing(t *testing.T) {
 	var shared SecretKey
 	reflect.ValueOf(&shared).Elem().Set(reflect.ValueOf(secret).Elem())
 	held := secret.held.key.bytes()
-	secret.Destroy()
-	secret.Destroy()
+	secret.Erase()
+	secret.Erase()
 	if !isZeros(held) || !bytes.Equal(given, kept.Bytes()) {
 		t.Error("the key's bytes are not zeros, or the caller's are")
 	}
 	for _, it := range []*SecretKey{secret, &shared} {
 		for number, err := range errorsOf(it) {
 			var refusal Refusal
-			if err != ErrDestroyed || errors.As(err, &refusal) || errors.Is(err, ErrInvalid) {
+			if err != ErrErased || errors.As(err, &refusal) || errors.Is(err, ErrInvalid) {
 				t.Error(number, err)
 			}
 		}
 		for number, call := range []func(){func() { it.Bytes() }, func() { it.PublicKey() }, func() { it.Public() }} {
-			if found := panicOf(call); found != ErrDestroyed {
+			if found := panicOf(call); found != ErrErased {
 				t.Error(number, found)
 			}
 		}
@@ -470,7 +470,11 @@ func TestADestroyedKeyDoesNothing(t *testing.T) {
 			t.Error(text)
 		}
 	}
-	new(SecretKey).Destroy()
+	new(SecretKey).Erase()
+	new(SecretKey).Destroy() // the deprecated name
+	if ErrDestroyed != ErrErased {
+		t.Error("the deprecated name is of another error")
+	}
 	expectRefusal(t, new(SecretKey).Check(), NoSuchSet, 8, "NoSuchSet")
 }
 
@@ -497,9 +501,9 @@ func TestDestroyWhileSigning(t *testing.T) {
 			t.Fatal(err)
 		}
 	}
-	secret.Destroy()
+	secret.Erase()
 	for ended := 0; ended < 4; {
-		if err := <-results; err == ErrDestroyed {
+		if err := <-results; err == ErrErased {
 			ended++
 		} else if err != nil {
 			t.Fatal(err)
@@ -534,7 +538,7 @@ func expectErased(t *testing.T, seen *signing, rooms int) {
 
 func TestBuffersOfSecretsAreErased(t *testing.T) {
 	secret, failed := generate(t), errors.New("a job that fails")
-	options := map[*Options]int{{Workers: 2}: 1, {Workers: 2, Twice: true}: 2, {Workers: 3, Twice: true}: 2}
+	options := map[*Options]int{{Workers: 2, Once: true}: 1, {Workers: 2}: 2, {Workers: 3, Once: true, Twice: true}: 2}
 	for options, rooms := range options {
 		expectErased(t, watched(func() { sign(t, secret, "letter", options) }, nil), rooms)
 		fail := func(next task) error {
@@ -573,7 +577,7 @@ func TestFaultsAreFound(t *testing.T) {
 		for _, at := range []int{0, 16, 32, -1} {
 			for number := 0; number < 4; number++ {
 				wrongRun, workers, runs := number%2, 2+number/2, 0
-				options := &Options{Workers: workers, Twice: true}
+				options := &Options{Workers: workers}
 				flip := func(next task) error {
 					if next.job != job {
 						return nil
@@ -610,7 +614,7 @@ func callsOf(secret *SecretKey, options *Options) map[string]func() ([]byte, err
 func TestVerifyFindsFaults(t *testing.T) {
 	secret := generate(t)
 	defer func() { makeSignature = (*SecretKey).made }()
-	for _, options := range []*Options{{Verify: true}, {Verify: true, Twice: true}, {Verify: true, Workers: 2}} {
+	for _, options := range []*Options{{Verify: true}, {Verify: true, Once: true}, {Verify: true, Workers: 2}} {
 		for name, call := range callsOf(secret, options) {
 			for _, at := range []int{0, 17087} {
 				var seen []byte
@@ -631,7 +635,7 @@ func TestVerifyFindsFaults(t *testing.T) {
 // TestVerifyRefusesAWrongRoot signs under a key whose signatures are not valid.
 func TestVerifyRefusesAWrongRoot(t *testing.T) {
 	wrong := wrongRoot(t, generate(t))
-	for _, options := range []*Options{{Verify: true}, {Verify: true, Twice: true}} {
+	for _, options := range []*Options{{Verify: true}, {Verify: true, Once: true}} {
 		for name, call := range callsOf(wrong, options) {
 			if signature, err := call(); err != ErrFault || signature != nil {
 				t.Error(name, err)
@@ -680,10 +684,46 @@ func TestForgottenKeysAreErased(t *testing.T) {
 	}
 }
 
+// TestSignaturesAreComputedTwice counts the calls that compute two signatures: each has memory for both.
+func TestSignaturesAreComputedTwice(t *testing.T) {
+	secret, asked := generate(t), 0
+	defer func(before func(int) []byte) { newScratch = before }(newScratch)
+	newScratch = func(count int) []byte {
+		asked++
+		return make([]byte, count)
+	}
+	calls := map[*Options]int{nil: 1, {}: 1, {Once: true}: 0, {Twice: true}: 1, {Once: true, Twice: true}: 1}
+	for options, wanted := range calls {
+		for name, call := range callsOf(secret, options) {
+			asked = 0
+			if signature, err := call(); err != nil || len(signature) != 17088 || asked != wanted {
+				t.Error(name, options, err, asked)
+			}
+		}
+	}
+}
+
+// TestFaultsOfNewKeysAreFound flips one bit of SK.seed, PK.seed and PK.root of a new key.
+func TestFaultsOfNewKeysAreFound(t *testing.T) {
+	defer func() { makeKey = keyOf }()
+	for _, at := range []int{0, 32, 63} {
+		var made []byte
+		makeKey = func(set Set, skSeed, skPrf, pkSeed, bytes []byte) error {
+			made = bytes
+			err := keyOf(set, skSeed, skPrf, pkSeed, bytes)
+			bytes[at] ^= 1
+			return err
+		}
+		if secret, err := Generate(nil, fast); err != ErrFault || secret != nil || !isZeros(made) {
+			t.Error(at, err)
+		}
+	}
+}
+
 func TestTwiceSignsTheSame(t *testing.T) {
 	secret, hashed := generate(t), digest(crypto.SHA256, []byte("letter"))
 	for _, workers := range []int{0, 1, 3} {
-		once, twice := &Options{Deterministic: true}, &Options{Deterministic: true, Workers: workers, Twice: true}
+		once, twice := &Options{Deterministic: true, Once: true}, &Options{Deterministic: true, Workers: workers}
 		if !bytes.Equal(sign(t, secret, "letter", once), sign(t, secret, "letter", twice)) {
 			t.Error(workers, "sign otherwise")
 		}
@@ -828,7 +868,7 @@ func TestOptionsMayBeEmbedded(t *testing.T) {
 	if err != nil {
 		t.Fatal(err)
 	}
-	options := Options{Context: []byte("letters"), Twice: true, Verify: true}
+	options := Options{Context: []byte("letters"), Once: true, Verify: true}
 	signature, err := secret.Sign(nil, []byte("Dear reader,"), mine{options, "letters"})
 	if err != nil || secret.PublicKey().Verify([]byte("Dear reader,"), signature, &options) != nil {
 		t.Error("the options of a struct that embeds them are dropped")

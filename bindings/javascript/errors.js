@@ -15,7 +15,7 @@ export class Erased extends Error {
     }
 }
 
-/** `twice` or `verify` found a wrong signature, which is not given. */
+/** A wrong signature or a wrong new key was found, which is not given. */
 export class Fault extends Error {
     constructor(message) {
         super(message);

@@ -52,8 +52,8 @@ export class Erased extends Error {
 }
 
 /**
- * `twice` found two different signatures, or `verify` an invalid one: memory or the processor failed, or the key's
- * PK.root is not the root of its seeds (`check`). No signature is given, and those that were made are overwritten.
+ * Two computations of a signature differ, `verify` found an invalid one, or a new key is wrong: memory or the processor
+ * failed, or the key's PK.root is not the root of its seeds (`check`). What was made is overwritten, and not given.
  */
 export class Fault extends Error {
     constructor(message: string);
@@ -89,7 +89,15 @@ export interface SignOptions {
     randomizer?: Uint8Array;
     /** No randomizer (FIPS 205, section 9.2): more exposed to hardware faults. */
     deterministic?: boolean;
-    /** Signs two times and compares all bytes, in twice the time. Throws a Fault if they differ. */
+    /**
+     * Signs one time, which takes half the time. By default the signature is computed two times and compared, and a
+     * difference is a Fault: a fault of the hardware can else give a signature from which others are forged.
+     */
+    once?: boolean;
+    /**
+     * Signs two times, even with `once`.
+     * @deprecated this is the default, and a later release removes the option
+     */
     twice?: boolean;
     /** Verifies the signature under the key's own public part. Throws a Fault if it is not valid. */
     verify?: boolean;
@@ -149,7 +157,7 @@ export interface SecretKey {
 
     /**
      * Signs a message in the pure form (Algorithm 22). Throws a Refusal: ContextTooLong for a context of over 255
-     * bytes; BadRandomizerLength. Throws a Fault if `twice` or `verify` finds one.
+     * bytes; BadRandomizerLength. Throws a Fault if two computations differ, or if `verify` finds one.
      */
     sign(message: Uint8Array, options?: SignOptions): Uint8Array;
 
@@ -171,12 +179,12 @@ export interface Library {
     /** The lengths of a set's keys and signatures. Throws a Refusal: NoSuchSet. */
     lengths(set: ParameterSet | ParameterSetName): Lengths;
 
-    /** Makes a key from random bytes of crypto.getRandomValues (Algorithm 21). Throws a Refusal: NoSuchSet. */
+    /** Makes a key from random bytes of crypto.getRandomValues (Algorithm 21). Throws as `keygen`. */
     generate(set: ParameterSet | ParameterSetName): SecretKey;
 
     /**
-     * Makes the key of three seeds of n bytes each (Algorithm 18). They are as secret as the key. Throws a Refusal:
-     * NoSuchSet, BadSeedLength.
+     * Makes the key of three seeds of n bytes each (Algorithm 18), and checks it. They are as secret as the key. Throws
+     * a Refusal: NoSuchSet, BadSeedLength. Throws a Fault if `check` finds another root.
      */
     keygen(set: ParameterSet | ParameterSetName, skSeed: Uint8Array, skPrf: Uint8Array, pkSeed: Uint8Array): SecretKey;
 
@@ -199,8 +207,16 @@ export interface Library {
     parsePublicKey(file: Uint8Array | string): PublicKey;
 }
 
+/** The type of a class of the engine, or never if the program's libraries of types do not have it. */
+type InstanceOf<Class> = Class extends { prototype: infer Instance } ? Instance : never;
+type Url = typeof globalThis extends { URL: infer Class } ? InstanceOf<Class> : never;
+type Module = typeof globalThis extends { WebAssembly: { Module: infer Class } } ? InstanceOf<Class> : never;
+
+/** What `load` takes: a URL of slh.wasm, its bytes, or the compiled module. */
+export type Source = Url | ArrayBuffer | ArrayBufferView | Module;
+
 /**
- * Makes an instance of slh.wasm: the one beside slh.js, or of a URL, of its bytes, or of a compiled module. Throws an
- * Error if this engine has no WebAssembly.
+ * Makes an instance of slh.wasm: the one beside slh.js, or the one that is given. Throws an Error if this engine has no
+ * WebAssembly.
  */
-export function load(source?: URL | ArrayBuffer | ArrayBufferView | WebAssembly.Module): Promise<Library>;
+export function load(source?: Source): Promise<Library>;

@@ -39,13 +39,16 @@ const UNKNOWN_SET = 12;
 const BAD_DIGEST_LENGTH = 16;
 const BAD_RANDOMIZER_LENGTH = 17;
 
-const SIGN_OPTIONS = ["context", "randomizer", "deterministic", "twice", "verify"];
+const SIGN_OPTIONS = ["context", "randomizer", "deterministic", "once", "twice", "verify"];
 const VERIFY_OPTIONS = ["context"];
 const INSPECT = Symbol.for("nodejs.util.inspect.custom");
 
 // The bytes of each key. They are not fields: consoles of browsers and debuggers print private fields, too. Those of a
 // public key may be secret, if somebody took a secret key for one.
 const bytesOf = new WeakMap();
+
+// All secret keys, so that `erase` can tell one from a Proxy of it.
+const secretKeys = new WeakSet();
 
 function fillRandom(bytes) {
     return globalThis.crypto.getRandomValues(bytes);
@@ -179,6 +182,7 @@ class SecretKey {
 
     constructor(calls, set, bytes) {
         bytesOf.set(this, keyBytes(calls, bytes, calls.lengths(set).secretKey));
+        secretKeys.add(this);
         this.#calls = calls;
         this.#set = set;
     }
@@ -206,6 +210,9 @@ class SecretKey {
     }
 
     erase() {
+        if (!secretKeys.has(this)) {
+            throw new TypeError("nothing was erased: call erase on the SecretKey, not on a Proxy or an object over it");
+        }
         bytesOf.get(this)?.fill(0);
         bytesOf.delete(this);
     }
@@ -231,12 +238,13 @@ class SecretKey {
 
     #sign(form, hash, text, options) {
         const own = readOptions(options, SIGN_OPTIONS);
-        const { context = NONE, twice = false, verify = false } = own;
-        checkedFlags({ twice, verify });
+        const { context = NONE, once = false, twice = false, verify = false } = own;
+        checkedFlags({ once, twice, verify });
+        const isOnce = once && !twice; // the deprecated word prevails
         const randomizer = this.#randomizer(own);
         const { signature: length } = this.#calls.lengths(this.#set);
-        const call = twice ? `slh_${form}_twice` : `slh_${form}`;
-        const given = [this.#held(), text, context, randomizer, ...(twice ? [new Scratch(2 * length)] : [])];
+        const call = isOnce ? `slh_${form}` : `slh_${form}_twice`;
+        const given = [this.#held(), text, context, randomizer, ...(isOnce ? [] : [new Scratch(2 * length)])];
         const lengths = lengthsOf(hash, text, context);
         const signature = this.#calls.write(call, length, [this.#set, ...hash], lengths, ...given);
         if (verify) this.#verify(`slh_${form.replace("sign", "verify")}`, hash, text, context, signature);
@@ -282,6 +290,18 @@ class SecretKey {
     }
 }
 
+/** A key that was just made. Erases it and throws a Fault, unless PK.root is the root of its seeds. */
+function expectConsistent(secret) {
+    let isConsistent = false;
+    try {
+        isConsistent = secret.check();
+    } finally {
+        if (!isConsistent) secret.erase();
+    }
+    if (!isConsistent) throw new Fault("the root of the key that was made is not the one that its seeds give");
+    return secret;
+}
+
 /** The calls over the module. `load` makes it. */
 class Library {
     #calls;
@@ -315,7 +335,7 @@ class Library {
         const seeds = [skSeed, skPrf, pkSeed];
         const given = seeds.map(byteLength).find((it) => it !== n);
         const made = this.#calls.write("slh_keygen", secretKey, [number], { [BAD_SEED_LENGTH]: [n, given] }, ...seeds);
-        return this.#takeKey(number, made);
+        return expectConsistent(this.#takeKey(number, made));
     }
 
     secretKey(set, bytes) {
@@ -348,7 +368,7 @@ class Library {
 
 /** Reads the module's bytes. Node's fetch does not read files. */
 async function read(url) {
-    if (url.protocol === "file:") return (await import("node:fs/promises")).readFile(url);
+    if (url.protocol === "file:") return (await import("./read_file.js")).readFile(url);
     const response = await fetch(url);
     if (!response.ok) throw new Error(`${url}: ${response.status}`);
     return response.arrayBuffer();

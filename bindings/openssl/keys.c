@@ -165,8 +165,9 @@ static void *generation_run(void *handed, OSSL_CALLBACK *tell, void *arg) {
     (void)tell, (void)arg;
     if (key == NULL) return NULL;
     key->has = PUBLIC | PRIVATE;
-    if (slh_keygen(it->set->number, it->seeds, n, it->seeds + n, n, it->seeds + 2 * n, n, key->sk, 4 * n) == SLH_DONE)
-        return key;
+    uint32_t result = slh_keygen(it->set->number, it->seeds, n, it->seeds + n, n, it->seeds + 2 * n, n, SK(key));
+    if (result == SLH_DONE && slh_check(it->set->number, SK(key)) == SLH_DONE) return key;
+    if (result == SLH_DONE) fail(PROV_R_INVALID_KEY, "the key that was made is wrong, by a fault");
     return key_free(key), NULL;
 }
 

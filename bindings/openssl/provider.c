@@ -74,7 +74,7 @@ static int read_number(const char *text, unsigned long least, unsigned long most
 static int read_core(struct provider *prov, const OSSL_CORE_HANDLE *handle, const OSSL_DISPATCH *in) {
     char *version = NULL, *workers = NULL, *twice = NULL, *tls = NULL, *max_message = NULL;
     unsigned major = 0, minor = 0;
-    unsigned long threads = 1, times = 0, most = 1ul << 26;
+    unsigned long threads = 1, times = 1, most = 1ul << 26;
     OSSL_PARAM params[] = {TEXT(OSSL_PROV_PARAM_CORE_VERSION, version), TEXT("workers", workers), TEXT("twice", twice),
                            TEXT("tls", tls), TEXT("max_message", max_message), OSSL_PARAM_construct_end()};
     while (in->function_id != 0 && in->function_id != OSSL_FUNC_CORE_GET_PARAMS) in++;

@@ -124,10 +124,27 @@ static int digest_verify_init(void *it, const char *digest, void *key, const OSS
 static int sign_init(void *it, void *key, const OSSL_PARAM params[]) { return init(it, NULL, key, params, PRIVATE); }
 static int verify_init(void *it, void *key, const OSSL_PARAM params[]) { return init(it, NULL, key, params, PUBLIC); }
 
+static uint32_t make_internal(const struct signature *it, const uint8_t *msg, size_t msg_len, uint8_t *sig) {
+    return slh_sign_internal(it->set->number, SK(it->key), msg, msg_len, ALL(it, entropy), sig, it->set->sig_len);
+}
+
+/* libslh has no call that signs two times in the internal form. */
+static uint32_t make_internal_twice(const struct signature *it, const uint8_t *msg, size_t msg_len, uint8_t *sig) {
+    size_t len = it->set->sig_len;
+    uint8_t *both = OPENSSL_malloc(2 * len);
+    if (both == NULL) return SLH_NO_MEMORY;
+    uint32_t result = make_internal(it, msg, msg_len, both);
+    if (result == SLH_DONE) result = make_internal(it, msg, msg_len, both + len);
+    if (result == SLH_DONE && CRYPTO_memcmp(both, both + len, len) != 0)
+        result = SLH_FAULT, fail(PROV_R_FAILED_TO_SIGN, "two computations differ, by a fault");
+    if (result == SLH_DONE) memcpy(sig, both, len);
+    OPENSSL_clear_free(both, 2 * len);
+    return result;
+}
+
 static uint32_t make(const struct signature *it, const uint8_t *msg, size_t msg_len, uint8_t *sig) {
     uint32_t set = it->set->number;
-    if (it->encoding == 0)
-        return slh_sign_internal(set, SK(it->key), msg, msg_len, ALL(it, entropy), sig, it->set->sig_len);
+    if (it->encoding == 0) return (it->twice ? make_internal_twice : make_internal)(it, msg, msg_len, sig);
     if (it->workers > 1 || it->twice) return sign_by_jobs(it, msg, msg_len, sig);
     return slh_sign(set, SK(it->key), msg, msg_len, ALL(it, context), ALL(it, entropy), sig, it->set->sig_len);
 }
@@ -147,7 +164,6 @@ static int sign(void *handed, unsigned char *sig, size_t *len, size_t room, cons
     if (sig == NULL) return *len = it.set->sig_len, 1;
     if (room < it.set->sig_len) return fail(PROV_R_INVALID_SIGNATURE_SIZE, "there is no room for the signature");
     if (!is_whole(&it, msg)) return 0;
-    if (it.encoding == 0 && it.twice) return fail(PROV_R_FAILED_TO_SIGN, "twice is of the pure form alone");
     if (msg_len > PTRDIFF_MAX || (msg_len != 0 && in < out + it.set->sig_len && out < in + msg_len))
         return fail(PROV_R_INVALID_DATA, "the message is too long, or overlaps the signature");
     if (it.entropy_len == 0 && !it.deterministic) {

@@ -1,12 +1,9 @@
-"""Builds the wheel and the source distribution, by setuptools. pyproject.toml has the other metadata.
+"""What setuptools builds: a wheel with the portable C, if the library's folder has no shared object, and the source
+distribution. slh_wheel.py beside this file builds all other wheels, and says what SLH_PREFIX is.
 
-    SLH_PREFIX=PREFIX pip install bindings/python
-
-PREFIX is the absolute path of a folder that tools/library.sh has installed into. The wheel has its shared object, and
-is for the machine of that: Linux on x86-64, ARM or RISC-V, or Windows. Where there is none, as `tools/library.sh
---target portable` leaves it, the portable C is compiled: the wheel is then for this kind of machine. A source
-distribution has the portable C and its headers in the folder `library`, and takes these where there is no SLH_PREFIX.
-The same files give the same wheel, bit for bit, by the same setuptools.
+The portable C is as `tools/library.sh --target portable` leaves it. A wheel with it is for this kind of machine. A
+source distribution has the portable C and its headers in the folder `library`, and takes these if there is no
+SLH_PREFIX. The same files give the same wheel, bit for bit, by the same setuptools. pyproject.toml has the metadata.
 """
 
 from __future__ import annotations
@@ -25,52 +22,12 @@ try:
 except ImportError:  # setuptools before 70.1
     from wheel.bdist_wheel import bdist_wheel
 
-HERE = pathlib.Path(__file__).resolve().parent
-INSIDE = HERE / "library"
-VERSION = HERE.parent.parent / "VERSION"
+sys.path.insert(0, str(pathlib.Path(__file__).resolve().parent))
+import slh_wheel  # noqa: E402
 
-
-def library_prefix() -> pathlib.Path:
-    """The folder that SLH_PREFIX names, or the one inside. pip builds here, where a relative path names another one."""
-    named = os.environ.get("SLH_PREFIX", "")
-    prefix = INSIDE if named == "" else pathlib.Path(named)
-    if not prefix.is_absolute() or not (prefix / "include" / "slh_verify.h").is_file():
-        sys.exit(
-            "setup.py: SLH_PREFIX has to be the absolute path of the folder that tools/library.sh has installed into,"
-            f" and is {named!r}"
-        )
-    return prefix
-
-
-def version_of(prefix: pathlib.Path) -> str:
-    """The version that the header of a library says."""
-    header = (prefix / "include" / "slh_verify.h").read_text(encoding="ascii")
-    return re.findall(r'^#define SLH_VERSION "(.*)"$', header, re.MULTILINE)[0]
-
-
-def library_version(prefix: pathlib.Path) -> str:
-    """The version of the library, which has to be that of the repository or of the source distribution."""
-    wanted = version_of(INSIDE) if INSIDE.is_dir() else VERSION.read_text(encoding="ascii").strip()
-    if version_of(prefix) != wanted:
-        sys.exit(f"setup.py: the library in {prefix} is not of the version {wanted}")
-    return wanted
-
-
-PREFIX = library_prefix()
-NAME = "libslh.so.0"
-DLL = PREFIX / "bin" / "slh.dll"
-SHARED = DLL if DLL.is_file() else PREFIX / "lib" / NAME
-# The platform tags, by the first bytes of a file and by the class and the machine of ELF.
-MACHINES = {(2, 62): "x86_64", (2, 183): "aarch64", (2, 243): "riscv64", (1, 40): "armv7l"}
-
-
-def platform_of(shared: pathlib.Path) -> str:
-    """The platform tag of a wheel with this shared object."""
-    head = shared.read_bytes()[:20]
-    if head[:2] == b"MZ":
-        return "win_amd64"
-    return "linux_" + MACHINES[head[4], int.from_bytes(head[18:20], "little")]
-SOURCE = PREFIX / "src" / "slh.c"
+PREFIX = slh_wheel.library_prefix()
+SHARED = slh_wheel.shared_of(PREFIX)
+SOURCE = slh_wheel.source_of(PREFIX)
 
 
 class Library(build_ext.build_ext):
@@ -82,7 +39,7 @@ class Library(build_ext.build_ext):
         self.force = True
 
     def get_ext_filename(self, fullname: str) -> str:
-        return os.path.join(*fullname.split(".")[:-1], NAME)
+        return os.path.join(*fullname.split(".")[:-1], slh_wheel.NAME)
 
     def get_export_symbols(self, ext: setuptools.Extension) -> list[str]:
         """The calls, where a linker has to be told them, as on Windows."""
@@ -98,8 +55,6 @@ class Library(build_ext.build_ext):
             self.mkpath(os.path.dirname(target))
             self.copy_file(str(SHARED), target)
             return
-        if not SOURCE.is_file():
-            sys.exit(f"setup.py: there is neither lib/libslh.so.0, bin/slh.dll nor src/slh.c in {PREFIX}")
         ext.sources = [str(SOURCE)]
         ext.include_dirs = [str(PREFIX / "include")]
         is_msvc = self.compiler.compiler_type == "msvc"
@@ -111,7 +66,7 @@ class Wheel(bdist_wheel):
     """A wheel for any Python 3: what is compiled knows nothing of Python."""
 
     def get_tag(self) -> tuple[str, str, str]:
-        return "py3", "none", platform_of(SHARED) if SHARED.is_file() else super().get_tag()[2]
+        return "py3", "none", slh_wheel.platform_of(SHARED) if SHARED.is_file() else super().get_tag()[2]
 
 
 class Sources(sdist.sdist):
@@ -121,8 +76,10 @@ class Sources(sdist.sdist):
         if not SOURCE.is_file():
             sys.exit(f"setup.py: there is no src/slh.c in {PREFIX}: install it by tools/library.sh --target portable")
         super().make_release_tree(base_dir, files)
+        # setuptools does not take it for a module of the package.
+        shutil.copy(slh_wheel.__file__, base_dir)
         for source in (SOURCE, *sorted((PREFIX / "include").glob("*.h"))):
-            target = pathlib.Path(base_dir, INSIDE.name, source.parent.name)
+            target = pathlib.Path(base_dir, slh_wheel.INSIDE.name, source.parent.name)
             target.mkdir(parents=True, exist_ok=True)
             shutil.copy(source, target)
 
@@ -130,7 +87,7 @@ class Sources(sdist.sdist):
 # Where nothing else is said, the files of the wheel have the oldest time that a wheel can say.
 os.environ.setdefault("SOURCE_DATE_EPOCH", "315532800")
 setuptools.setup(
-    version=library_version(PREFIX),
+    version=slh_wheel.library_version(PREFIX),
     packages=["slh"],
     package_data={"slh": ["py.typed"]},
     ext_modules=[setuptools.Extension("slh.libslh", sources=[])],

@@ -1,5 +1,5 @@
-// A program for tests/packages_memory.py, which describes it. If a signal interrupts a thread, the system saves the
-// registers. So this sends itself many signals, by which Go's runtime interrupts goroutines. And on x86-64 it looks for
+// A program for check_memory of tests/packages.py. If a signal interrupts a thread, the system saves the registers. So
+// this sends itself many signals, by which Go's runtime interrupts goroutines. And on x86-64 it looks for
 // SK.seed and SK.prf in xmm0 to xmm15 after calls.
 package main
 
@@ -57,7 +57,7 @@ func main() {
 	expect(err)
 	public := secret.PublicKey()
 	for number := 0; number < 8; number++ {
-		options := slh.Options{Deterministic: true, Twice: number&1 != 0, Verify: number&2 != 0, Workers: number & 4}
+		options := slh.Options{Deterministic: true, Once: number&1 != 0, Verify: number&2 != 0, Workers: number & 4}
 		_, err = secret.HashSign(nil, crypto.SHA256, message, &options)
 		expect(err)
 		_, err = secret.HashSignDigest(nil, crypto.SHA256, make([]byte, 32), &options)

@@ -6,7 +6,7 @@ import java.security.KeyPairGenerator;
 import java.security.Signature;
 import java.util.Arrays;
 
-/** A program for tests/packages_memory.py, which says what it does. */
+/** A program for `check_memory` of tests/packages.py, which says what it does. */
 final class Erased {
     private static final SlhProvider PROVIDER = new SlhProvider();
     private static final byte[] MESSAGE = "letter".getBytes();
@@ -41,7 +41,7 @@ final class Erased {
 
     private static void signs(SlhPrivateKey key) throws Exception {
         SlhSignatureSpec plain = SlhSignatureSpec.DEFAULT;
-        for (SlhSignatureSpec spec : new SlhSignatureSpec[] {plain, plain.deterministic(), plain.twice().verified()}) {
+        for (SlhSignatureSpec spec : new SlhSignatureSpec[] {plain, plain.deterministic(), plain.once().verify()}) {
             for (String form : new String[] {"SLH-DSA", "HASH-SLH-DSA"}) {
                 Signature signing = Signature.getInstance(form, PROVIDER);
                 signing.initSign(key);

@@ -1,4 +1,4 @@
-// A program for tests/packages_memory.py, which says what it does.
+// A program for `check_memory` of tests/packages.py, which says what it does.
 import { once } from "node:events";
 import { mkdtempSync, rmSync } from "node:fs";
 import { tmpdir } from "node:os";
@@ -20,7 +20,7 @@ const publicKey = secret.public();
 const signature = secret.sign(message, { deterministic: true });
 secret.hashSign(SLH_SHA2_256, message);
 secret.hashSignDigest(SLH_SHA2_256, new Uint8Array(32));
-secret.sign(message, { twice: true, verify: true });
+secret.sign(message, { once: true, verify: true });
 if (!secret.check() || !publicKey.verify(message, signature)) process.exit(1);
 const folder = mkdtempSync(join(tmpdir(), "slh-"));
 await dump(secret, join(folder, "secret.key"));

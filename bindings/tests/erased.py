@@ -1,4 +1,4 @@
-"""A program for tests/packages_memory.py, which says what it does."""
+"""A program for `check_memory` of tests/packages.py, which says what it does."""
 import os
 import sys
 import tempfile
@@ -37,12 +37,12 @@ with slh.SecretKey.generate(slh.Set.SLH_DSA_SHA2_128F) as secret:
     sys.stdin.readline()
     secret.check()
     public = secret.public()
-    made = [secret.sign(MESSAGE, **HOW), secret.sign(MESSAGE, twice=True, verify=True, **HOW)]
-    for twice in (False, True):
-        secret.hash_sign(FUNCTION, MESSAGE, twice=twice)
-        secret.hash_sign_digest(FUNCTION, DIGEST, twice=twice)
-    for workers, twice in ((1, False), (3, False), (1, True), (3, True)):
-        with slh.Signer(workers, twice=twice, verify=twice) as signer:
+    made = [secret.sign(MESSAGE, **HOW), secret.sign(MESSAGE, once=True, verify=True, **HOW)]
+    for once in (False, True):
+        secret.hash_sign(FUNCTION, MESSAGE, once=once)
+        secret.hash_sign_digest(FUNCTION, DIGEST, once=once)
+    for workers, once in ((1, False), (3, False), (1, True), (3, True)):
+        with slh.Signer(workers, once=once, verify=once) as signer:
             signer.hash_sign(secret, FUNCTION, MESSAGE)
             made.append(signer.sign(secret, MESSAGE, **HOW))
     for signature in made:

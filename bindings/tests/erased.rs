@@ -1,4 +1,4 @@
-//! A program for tests/packages_memory.py, which says what it does.
+//! A program for `check_memory` of tests/packages.py, which says what it does.
 use std::{
     env, fs,
     io::{stdin, Read},
@@ -10,11 +10,12 @@ use slh::{AnySecretKey, Error, Function, Options, Randomizer, SecretKey, Signer,
 type Secret = SecretKey<SlhDsaSha2_128f>;
 
 const MESSAGE: &[u8] = b"letter";
-const ONCE: Options<'_> = Options { context: b"", randomizer: Randomizer::Deterministic, twice: false, verify: false };
+const ONCE: Options<'_> =
+    Options { context: b"", randomizer: Randomizer::Deterministic, once: true, twice: false, verify: false };
 
 /// Signs by a key in each form, and by jobs.
 fn sign_by(secret: &Secret) -> Result<(), Error> {
-    for options in [ONCE, Options { twice: true, verify: true, ..ONCE }] {
+    for options in [ONCE, Options { once: false, verify: true, ..ONCE }] {
         secret.public().verify(MESSAGE, &secret.sign_with(MESSAGE, options)?)?;
         secret.hash_sign(Function::Sha2_256, MESSAGE, options)?;
         secret.hash_sign_digest(Function::Sha2_256, &[0; 32], options)?;

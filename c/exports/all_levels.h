@@ -1,6 +1,7 @@
 /*
  * For the library of several levels of x86-64: exports.c calls the proved export of the best level, which is named
- * slh_NAME_v2, slh_NAME_v3 or slh_NAME_v4. SLH_HIGHEST is the highest that there is, 3 or 4.
+ * slh_NAME_v2, slh_NAME_v3 or slh_NAME_v4. SLH_HIGHEST is the highest that there is, 3 or 4. On a processor that has
+ * not even x86-64-v2 no proved export is called: its first instruction of that level would end the program.
  */
 #ifndef SLH_ALL_LEVELS_H
 #define SLH_ALL_LEVELS_H
@@ -26,13 +27,33 @@
 #else
 #define JUMP_IF_V4(level, it)
 #endif
-#define OPEN(name, parameters, arguments)                \
+#define JUMP_TO_LEVEL(name, arguments, below_v2)     \
+    uint32_t level = level_of(choice());             \
+    JUMP_IF_V4(level, slh_##name##_v4 arguments)     \
+    if (level == 3) JUMP slh_##name##_v3 arguments;  \
+    if (level == BELOW_V2) return below_v2;          \
+    JUMP slh_##name##_v2 arguments;
+#define OF_LEVELS(name, parameters, arguments, below_v2) \
     PROVED(name, parameters)                             \
-    uint32_t slh_##name parameters {                     \
-        uint32_t level = level_of(choice());             \
-        JUMP_IF_V4(level, slh_##name##_v4 arguments)     \
-        if (level == 3) JUMP slh_##name##_v3 arguments;  \
-        JUMP slh_##name##_v2 arguments;                  \
+    uint32_t slh_##name parameters { JUMP_TO_LEVEL(name, arguments, below_v2) }
+#define OPEN(name, parameters, arguments) OF_LEVELS(name, parameters, arguments, SLH_OLD_PROCESSOR)
+#define HARDENED(name, parameters, arguments) OF_LEVELS(name, parameters, arguments, SLH_HARDENED_INVALID)
+#define VERSION(name, parameters, arguments) OF_LEVELS(name, parameters, arguments, SLH_VERSION_NUMBER)
+
+/* The proved code has no name for the refusal that is ours. */
+static uint32_t put_own_name(uint32_t refusal, char *name, size_t name_len) {
+    static const char own[] = "OldProcessor";
+    (void)refusal;
+    if (name_len < sizeof own) return SLH_BAD_OUTPUT_LENGTH;
+    memset(name, 0, name_len);
+    memcpy(name, own, sizeof own);
+    return SLH_DONE;
+}
+#define NAME(name, parameters, arguments)                                \
+    PROVED(name, parameters)                                             \
+    uint32_t slh_##name parameters {                                     \
+        if (refusal == SLH_OLD_PROCESSOR) return put_own_name arguments; \
+        JUMP_TO_LEVEL(name, arguments, SLH_OLD_PROCESSOR)                \
     }
 
 #define DEPTHS(name, ...) static const uint32_t name##_depths_v2[] = {__VA_ARGS__};

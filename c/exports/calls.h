@@ -1,11 +1,21 @@
 /*
  * The proved exports, a line each. SECRET(NAME, PARAMETERS, ARGUMENTS) stands for a call that takes secrets, and OPEN
- * for a call that takes none. SIZES stands for a call without secrets that writes sizes. The file that includes this
- * one defines these macros; without a definition of its own, SIZES is OPEN. The compiler compares each line with the
- * headers. a, b and c are SK.seed, SK.prf and PK.seed.
+ * for a call that takes none. Some of the latter have kinds of their own: SIZES if it writes sizes, HARDENED if it
+ * returns a hardened verdict, VERSION if it returns a version, NAME if it writes a refusal's name. The file that
+ * includes this one defines these macros. A kind that it does not define is OPEN. The compiler compares each line with
+ * the headers. a, b and c are SK.seed, SK.prf and PK.seed.
  */
 #ifndef SIZES
 #define SIZES OPEN
+#endif
+#ifndef HARDENED
+#define HARDENED OPEN
+#endif
+#ifndef VERSION
+#define VERSION OPEN
+#endif
+#ifndef NAME
+#define NAME OPEN
 #endif
 SECRET(keygen,
        (uint32_t set, const uint8_t *a, size_t a_len, const uint8_t *b, size_t b_len, const uint8_t *c, size_t c_len,
@@ -76,9 +86,9 @@ SECRET(keygen_join,
        (uint32_t set, uint32_t xmss_levels, const uint8_t *a, size_t a_len, const uint8_t *b, size_t b_len,
         const uint8_t *c, size_t c_len, const uint8_t *answers, size_t answers_len, uint8_t *sk, size_t sk_len),
        (set, xmss_levels, a, a_len, b, b_len, c, c_len, answers, answers_len, sk, sk_len))
-OPEN(version,
-     (void),
-     ())
+VERSION(version,
+        (void),
+        ())
 OPEN(verify,
      (uint32_t set, const uint8_t *pk, size_t pk_len, const uint8_t *msg, size_t msg_len, const uint8_t *ctx,
       size_t ctx_len, const uint8_t *sig, size_t sig_len),
@@ -91,14 +101,14 @@ OPEN(hash_verify,
      (uint32_t set, uint32_t function, const uint8_t *pk, size_t pk_len, const uint8_t *msg, size_t msg_len,
       const uint8_t *ctx, size_t ctx_len, const uint8_t *sig, size_t sig_len),
      (set, function, pk, pk_len, msg, msg_len, ctx, ctx_len, sig, sig_len))
-OPEN(verify_hardened,
-     (uint32_t set, const uint8_t *pk, size_t pk_len, const uint8_t *msg, size_t msg_len, const uint8_t *ctx,
-      size_t ctx_len, const uint8_t *sig, size_t sig_len),
-     (set, pk, pk_len, msg, msg_len, ctx, ctx_len, sig, sig_len))
-OPEN(hash_verify_digest_hardened,
-     (uint32_t set, uint32_t function, const uint8_t *pk, size_t pk_len, const uint8_t *digest, size_t digest_len,
-      const uint8_t *ctx, size_t ctx_len, const uint8_t *sig, size_t sig_len),
-     (set, function, pk, pk_len, digest, digest_len, ctx, ctx_len, sig, sig_len))
+HARDENED(verify_hardened,
+         (uint32_t set, const uint8_t *pk, size_t pk_len, const uint8_t *msg, size_t msg_len, const uint8_t *ctx,
+          size_t ctx_len, const uint8_t *sig, size_t sig_len),
+         (set, pk, pk_len, msg, msg_len, ctx, ctx_len, sig, sig_len))
+HARDENED(hash_verify_digest_hardened,
+         (uint32_t set, uint32_t function, const uint8_t *pk, size_t pk_len, const uint8_t *digest, size_t digest_len,
+          const uint8_t *ctx, size_t ctx_len, const uint8_t *sig, size_t sig_len),
+         (set, function, pk, pk_len, digest, digest_len, ctx, ctx_len, sig, sig_len))
 OPEN(verify_front,
      (uint32_t set, const uint8_t *pk, size_t pk_len, const uint8_t *ctx, size_t ctx_len, const uint8_t *sig,
       size_t sig_len, uint8_t *front, size_t front_len),
@@ -114,7 +124,7 @@ OPEN(verify_internal,
 SIZES(lengths,
       (uint32_t set, size_t *pk_len, size_t *sk_len, size_t *sig_len, size_t *n),
       (set, pk_len, sk_len, sig_len, n))
-OPEN(refusal_name,
+NAME(refusal_name,
      (uint32_t refusal, char *name, size_t name_len),
      (refusal, name, name_len))
 SIZES(sign_jobs,

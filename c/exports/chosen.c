@@ -9,6 +9,9 @@
 #define AVX BIT(28)
 #define AVX512F BIT(16)
 
+/* What x86-64-v2 adds: SSE3, SSSE3, CMPXCHG16B, SSE4.1, SSE4.2 and POPCNT; LAHF. */
+#define V2_LEAF_1_ECX (BIT(0) | BIT(9) | BIT(13) | BIT(19) | BIT(20) | BIT(23))
+#define V2_LEAF_80000001_ECX BIT(0)
 /* What x86-64-v3 adds, but for LZCNT: FMA, MOVBE, AVX and F16C; BMI1, AVX2 and BMI2. */
 #define V3_LEAF_1_ECX (BIT(12) | BIT(22) | AVX | BIT(29))
 #define V3_LEAF_7_EBX (BIT(3) | BIT(5) | BIT(8))
@@ -29,10 +32,11 @@ static int has(uint32_t found, uint32_t wanted) { return (found & wanted) == wan
 static uint32_t choice_for(struct slh_processor it) {
     int avx = has(it.leaf_1_ecx, OSXSAVE | AVX) && has(it.xcr0, XCR0_AVX);
     int avx512 = avx && has(it.leaf_7_ebx, AVX512F) && has(it.xcr0, XCR0_AVX512);
-    int v3 = avx && has(it.leaf_1_ecx, V3_LEAF_1_ECX) && has(it.leaf_7_ebx, V3_LEAF_7_EBX) &&
+    int v2 = has(it.leaf_1_ecx, V2_LEAF_1_ECX) && has(it.leaf_80000001_ecx, V2_LEAF_80000001_ECX);
+    int v3 = v2 && avx && has(it.leaf_1_ecx, V3_LEAF_1_ECX) && has(it.leaf_7_ebx, V3_LEAF_7_EBX) &&
              has(it.leaf_80000001_ecx, V3_LEAF_80000001_ECX);
     int v4 = SLH_HIGHEST == 4 && v3 && avx512 && has(it.leaf_7_ebx, V4_LEAF_7_EBX);
-    return (uint32_t)(2 + v3 + v4) | (uint32_t)(avx + avx512) << VECTORS_SHIFT;
+    return (uint32_t)(BELOW_V2 + v2 + v3 + v4) | (uint32_t)(avx + avx512) << VECTORS_SHIFT;
 }
 
 uint32_t slh_choice;

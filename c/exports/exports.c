@@ -2,8 +2,9 @@
  * The calls of the library for C, round the proved exports: tools/target.sh renames these and joins them to this file.
  * Nothing here is proved.
  *
- * With SLH_ALL_LEVELS each call goes to the code for the best level of x86-64 that processor and system have. One that
- * takes secrets then clears what the proved export left below the stack pointer and in registers.
+ * With SLH_ALL_LEVELS each call goes to the code for the best level of x86-64 that processor and system have, and is
+ * refused on a processor that has none of them. One that takes secrets then clears what the proved export left below
+ * the stack pointer and in registers.
  */
 #include "exports.h"
 #include <slh_internal.h>
@@ -29,6 +30,7 @@ static inline uint32_t row_of(uint32_t set) { return set <= SETS ? set : 0; }
     PROVED(name, parameters)                                                                  \
     uint32_t slh_##name parameters {                                                          \
         uint32_t chosen = choice(), level = level_of(chosen);                                 \
+        if (level == BELOW_V2) return SLH_OLD_PROCESSOR;                                      \
         uint32_t result = CALL(level, name, arguments);                                       \
         size_t depth = DEPTH(level, name, row_of(set)) + SLH_MORE_DEPTH;                      \
         return slh_clear(result, depth, vectors_of(chosen));                                  \
@@ -37,7 +39,10 @@ static inline uint32_t row_of(uint32_t set) { return set <= SETS ? set : 0; }
 
 #include "refusal_text.c"
 
-uint32_t slh_level(void) { return level_of(choice()); }
+uint32_t slh_level(void) {
+    uint32_t level = level_of(choice());
+    return level != BELOW_V2 ? level : 0;
+}
 
 /* The barrier tells the compiler that the bytes are read. */
 void slh_erase(void *bytes, size_t n) {

@@ -22,6 +22,9 @@ HIDDEN void *slh_memset(void *to, int byte, size_t n);
  */
 HIDDEN uint32_t slh_clear(uint32_t result, size_t depth, uint32_t vectors);
 
+/* Stands for the level of a processor below x86-64-v2, for which there is no code. */
+enum { BELOW_V2 = 1 };
+
 #ifdef __x86_64__
 /* Answers of CPUID and XGETBV. `xcr0` is 0 if the system has not enabled XGETBV. */
 struct slh_processor {
@@ -30,7 +33,10 @@ struct slh_processor {
 
 HIDDEN struct slh_processor slh_ask_processor(void);
 
-/* The chosen level (2, 3 or 4) in the lowest byte, and the vectors above it. It is 0 before the first call. */
+/*
+ * The chosen level (2, 3 or 4, or BELOW_V2) in the lowest byte, and the vectors above it. It is 0 before the first
+ * call.
+ */
 extern HIDDEN uint32_t slh_choice;
 enum { LEVEL_MASK = 0xff, VECTORS_SHIFT = 8 };
 

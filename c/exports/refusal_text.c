@@ -41,6 +41,8 @@ const char *slh_refusal_text(uint32_t result) {
         return "the call got no memory: nothing was written";
     case SLH_FAULT:
         return "two computations of one signature differ, so memory or the processor failed: nothing was signed";
+    case SLH_OLD_PROCESSOR:
+        return "the processor, or the one that a virtual machine shows, is below x86-64-v2";
     default:
         return "this number is no result of the library";
     }

@@ -5,15 +5,17 @@
  *
  *   slh_keygen, slh_public            to make a secret key, and to give away its public key
  *   slh_check                         to check a secret key that comes from elsewhere, once
- *   slh_sign, slh_verify              to sign and verify a message in memory
+ *   slh_sign_twice, slh_hash_sign_digest_twice, slh_hash_sign_twice
+ *                                     to sign two times and compare, as you should: one fault can cost the key
+ *   slh_sign, slh_verify              to sign once, and to verify, a message in memory
  *   slh_hash_sign_digest, slh_hash_verify_digest
  *                                     to sign and verify a message that is read in pieces: you compute its digest
  *   slh_hash_sign, slh_hash_verify    to sign and verify the digest of a message in memory, which these compute
  *   slh_verify_front, slh_verify_hashed
  *                                     to verify in the pure form a message that you hash in pieces
- *   slh_sign_twice, slh_hash_sign_digest_twice, slh_hash_sign_twice
- *                                     to sign two times and compare, if memory or the processor may fail
- *   slh_sign_jobs, slh_sign_start, slh_answer_place, slh_sign_job, slh_sign_join
+ *   slh_verify_hardened, slh_hash_verify_digest_hardened
+ *                                     to verify in a boot loader, on a machine that an attacker may disturb
+ *   slh_sign_jobs, slh_sign_start, slh_hash_sign_start, slh_answer_place, slh_sign_job, slh_sign_join
  *                                     to compute one signature by threads or processes of your own
  *   slh_keygen_jobs, slh_keygen_job, slh_keygen_join
  *                                     to compute one key by them
@@ -59,11 +61,12 @@
  * The seeds are SK.seed, SK.prf and PK.seed, in this order. A digest or a hash takes the place of the message. An
  * output stands behind a signature.
  *
+ * A call returns SLH_DONE (0), SLH_INVALID (30, only slh_check and the verify calls), or a refusal's number. The
+ * exceptions are slh_version, slh_level, slh_erase, slh_refusal_text, and the two hardened calls, which return
+ * SLH_HARDENED_VALID or SLH_HARDENED_INVALID. The other calls check their arguments in this order, and return the first
+ * number that applies:
  *
- * Each call returns SLH_DONE (0), SLH_INVALID (30, only slh_check and the verify calls), or a refusal's number.
- * Exceptions are slh_version, slh_level, slh_erase and slh_refusal_text. Calls check their arguments in this order, and
- * return the first number that applies:
- *
+ *   SLH_OLD_PROCESSOR          the processor is below x86-64-v2, and the library has several levels (slh_level)
  *   SLH_NO_SUCH_REFUSAL        slh_refusal_name alone: the number is not a result's
  *   SLH_NO_SUCH_SET            the number is not a set's
  *   SLH_NO_SUCH_FUNCTION       the number is not a pre-hash function's
@@ -213,9 +216,10 @@ uint32_t slh_verify_hashed(uint32_t set, const uint8_t *pk, size_t pk_len, const
 
 /*
  * To sign as slh_sign does, and to find a computation that went wrong: signs two times into the two halves of scratch,
- * compares all bytes, and copies the signature to sig only if both are equal. scratch has 2 * sig_len bytes, and is
- * zeros after SLH_DONE and SLH_FAULT. SLH_FAULT means that the two signatures differ: memory or the processor failed.
- * Both are overwritten then. This takes twice the time of slh_sign.
+ * compares all bytes, and writes the signature to sig only if both are equal. Then it compares the bytes in sig with
+ * the second signature, and puts back the bytes that sig had if they differ. scratch has 2 * sig_len bytes, and is
+ * zeros after SLH_DONE and SLH_FAULT. SLH_FAULT means that bytes differ: memory or the processor failed. No signature
+ * is left then. This takes twice the time of slh_sign.
  * Returns: SLH_DONE; SLH_NO_SUCH_SET, SLH_BAD_LENGTH, SLH_BAD_RANDOMIZER_LENGTH, SLH_BAD_OUTPUT_LENGTH (also for
  * scratch), SLH_CONTEXT_TOO_LONG, SLH_FAULT.
  */
@@ -268,8 +272,9 @@ void slh_erase(void *bytes, size_t n);
 
 /*
  * To ask which code runs: 2, 3 or 4 for that of x86-64-v2, x86-64-v3 or x86-64-v4, the best level that processor and
- * system have. 0 if the library has only one level: on ARM, and in libslh-v2.a, libslh-v3.a and libslh-v4.a. All give
- * equal bytes.
+ * system have. All give equal bytes. 0 on a processor below x86-64-v2: there this library has no code, and its calls
+ * return SLH_OLD_PROCESSOR. Also 0 if the library has only one level: on ARM, and in libslh-v2.a, libslh-v3.a and
+ * libslh-v4.a. These return no SLH_OLD_PROCESSOR.
  */
 SLH_MUST_USE SLH_API
 uint32_t slh_level(void);

@@ -73,6 +73,33 @@ with_release() {
         "$work/clone/dist/SHA256SUMS"
 }
 
+# What `cmake --install` of a whole clone puts into a folder is what tools/library.sh puts there.
+with_install() {
+    local clone=$work/installing built=$work/install_built
+    mkdir -p "$clone/bindings" && cp -r "$here"/{CMakeLists.txt,VERSION,tools} "$clone/" &&
+        cp -r "$here"/bindings/{cmake,debian} "$clone/bindings/" && cp -r "$dist" "$clone/dist"
+    one "install: the clone is configured" cmake -S "$clone" -B "$built"
+    one "install: the project has the version" \
+        grep -qx "CMAKE_PROJECT_VERSION:STATIC=$(sed -n 's/^version //p' "$dist/BUILD")" "$built/CMakeCache.txt"
+    one "install: into a folder" cmake --install "$built" --prefix "$work/by_cmake"
+    one "install: tools/library.sh does the same" "$here/tools/library.sh" --dist "$dist" "$work/by_script"
+    one "install: both folders are equal" diff -r "$work/by_cmake" "$work/by_script"
+    one "install: below DESTDIR" env DESTDIR="$work/below" cmake --install "$built" --prefix /usr
+    one "install: both folders are equal below DESTDIR" diff -r "$work/below/usr" "$work/by_script"
+    one "install: a project over the clone installs nothing of it" installs_nothing "$clone" "$work/over"
+    one "install: a damaged release is not installed" stops_installing "$clone" "$built"
+}
+
+installs_nothing() {
+    configure "$1" "$2" && cmake --build "$2" && cmake --install "$2" --prefix "$work/of_user" &&
+        [ ! -e "$work/of_user/include/slh.h" ]
+}
+
+stops_installing() {
+    printf x >>"$1/dist/x86-64/libslh.a" && ! cmake --install "$2" --prefix "$work/damaged" >"$work/why" 2>&1 &&
+        grep -qF "has installed nothing" "$work/why" && [ ! -e "$work/damaged/lib/libslh.a" ]
+}
+
 with_prefix() {
     one "prefix: the project takes the clone" configure "$here" "$work/installed" -DSLH_PREFIX="$prefix"
     one "prefix: programs are built" cmake --build "$work/installed"
@@ -88,7 +115,7 @@ refuses_empty() {
 
 make_image
 if can_run "CMake: FetchContent" cmake cc python3; then
-    if [ -n "$dist" ]; then with_release; else skip "FetchContent over a release" "none is given"; fi
+    if [ -n "$dist" ]; then with_release && with_install; else skip "FetchContent over a release" "none is given"; fi
     with_prefix
 fi
 end_counts

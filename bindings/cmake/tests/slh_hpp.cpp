@@ -80,7 +80,7 @@ void sign(const Test &test) {
     slh::Options options;
     options.context = context, options.randomizer = random, options.deterministic = random.empty();
     for (const int checks : {0, 1, 2, 3}) {
-        options.twice = checks & 1, options.verify = checks & 2;
+        options.once = checks & 1, options.verify = checks & 2;
         const bool is_pure = test.at("form") == "pure";
         const slh::Bytes made =
             is_pure ? sk.sign(message, options) : sk.hash_sign(functions.at(test.at("form")), message, options);
@@ -153,7 +153,7 @@ void test_views() {
     expect(signature == sk.sign({text.data(), text.size()}, options), "a view of a pointer and a length");
 #if __cplusplus >= 202002L
     expect(signature == sk.sign(std::span(array), options), "a view of a span");
-    expect(signature == sk.sign("letter", {.deterministic = true, .twice = true}), "options by name");
+    expect(signature == sk.sign("letter", {.deterministic = true, .once = true}), "options by name");
 #endif
     expect(pk.verify(text, signature) && !pk.verify("Letter", signature), "verdicts");
     expect(sk.sign("letter") != sk.sign("letter"), "randomizers are drawn");
@@ -161,6 +161,39 @@ void test_views() {
     const slh::Bytes by_digest = sk.hash_sign_digest(SLH_SHA2_256, digest);
     expect(pk.hash_verify_digest(SLH_SHA2_256, digest, by_digest), "a signature by its digest");
     expect(!pk.hash_verify_digest(SLH_SHA2_512_256, digest, by_digest), "a verdict of another function");
+}
+
+// Whether a call throws std::invalid_argument, and says so.
+template <class F> bool is_invalid(F call, const std::string &said) {
+    try {
+        call();
+    } catch (const std::invalid_argument &error) {
+        return std::string(error.what()).find(said) != std::string::npos;
+    }
+    return false;
+}
+
+// An array is a text only if its one zero byte is its last. Nothing of any other is signed.
+void test_texts() {
+    const auto sk = slh::SecretKey::generate(set);
+    const char inside[] = "let\0ter", padded[8] = "letter", open[6] = {'l', 'e', 't', 't', 'e', 'r'};
+    const char *const pointer = inside, *const none = nullptr;
+    const std::string whole(inside, sizeof inside - 1), said = "write View(array, count)";
+    slh::Options options;
+    options.deterministic = true;
+    expect(is_invalid([&] { (void)sk.sign(inside); }, said), "an array with a zero byte inside");
+    expect(is_invalid([&] { (void)sk.sign("let\0ter"); }, said), "a literal with a zero byte inside");
+    expect(is_invalid([&] { (void)sk.sign("\0"); }, said), "a literal that begins with a zero byte");
+    expect(is_invalid([&] { (void)sk.sign(padded); }, said), "an array with two zero bytes at its end");
+    expect(is_invalid([&] { (void)sk.sign(open); }, said), "an array without a zero byte");
+    expect(is_invalid([&] { (void)sk.public_key().verify(inside, slh::Bytes(3)); }, said), "a message to verify");
+    expect(is_invalid([&] { options.context = "a\0b"; }, said), "a context with a zero byte inside");
+    expect(is_invalid([&] { (void)sk.sign(none); }, "a null pointer is no text"), "a null pointer");
+    const slh::Bytes signature = sk.sign({inside, sizeof inside - 1}, options);
+    expect(signature == sk.sign(whole, options), "an array with its length is signed whole");
+    expect(signature != sk.sign(pointer, options) && sk.sign(pointer, options) == sk.sign("let", options),
+           "a pointer is a text up to its zero byte");
+    expect(sk.sign("", options) == sk.sign(slh::View(), options), "an empty literal is the empty message");
 }
 
 void test_refusals() {
@@ -211,17 +244,80 @@ void test_faults() {
     options.verify = is_counting = true;
     expect(refuses([&] { (void)wrong.sign("letter", options); }, SLH_FAULT, "38 Fault"), "verify finds it");
     is_counting = false;
-    expect(signatures == 1 && kept_signatures == 0, "a signature that is not valid is erased");
+    expect(signatures == 2 && kept_signatures == 0, "a signature that is not valid is erased, and the scratch");
     expect(refuses([&] { (void)wrong.hash_sign(SLH_SHA2_256, "letter", options); }, SLH_FAULT, "38 Fault"), "pre-hash");
     expect(refuses([&] { (void)wrong.hash_sign_digest(SLH_SHA2_256, slh::Bytes(32), options); }, SLH_FAULT, "38 Fault"),
            "by the digest");
 }
 
+// Calls of the two functions that sign, and whether slh_keygen flips a bit of a byte: the linker's --wrap leads here.
+int single_calls = 0, double_calls = 0, flipped_byte = -1;
+
+} // namespace
+
+extern "C" {
+decltype(slh_sign) __real_slh_sign, __wrap_slh_sign;
+decltype(slh_sign_twice) __real_slh_sign_twice, __wrap_slh_sign_twice;
+decltype(slh_keygen) __real_slh_keygen, __wrap_slh_keygen;
+
+std::uint32_t __wrap_slh_sign(std::uint32_t id, const std::uint8_t *sk, std::size_t sk_len, const std::uint8_t *msg,
+                              std::size_t msg_len, const std::uint8_t *ctx, std::size_t ctx_len,
+                              const std::uint8_t *random, std::size_t random_len, std::uint8_t *sig,
+                              std::size_t sig_len) {
+    ++single_calls;
+    return __real_slh_sign(id, sk, sk_len, msg, msg_len, ctx, ctx_len, random, random_len, sig, sig_len);
+}
+
+std::uint32_t __wrap_slh_sign_twice(std::uint32_t id, const std::uint8_t *sk, std::size_t sk_len,
+                                    const std::uint8_t *msg, std::size_t msg_len, const std::uint8_t *ctx,
+                                    std::size_t ctx_len, const std::uint8_t *random, std::size_t random_len,
+                                    std::uint8_t *scratch, std::size_t scratch_len, std::uint8_t *sig,
+                                    std::size_t sig_len) {
+    ++double_calls;
+    return __real_slh_sign_twice(id, sk, sk_len, msg, msg_len, ctx, ctx_len, random, random_len, scratch, scratch_len,
+                                 sig, sig_len);
+}
+
+std::uint32_t __wrap_slh_keygen(std::uint32_t id, const std::uint8_t *one, std::size_t one_len, const std::uint8_t *two,
+                                std::size_t two_len, const std::uint8_t *three, std::size_t three_len,
+                                std::uint8_t *sk, std::size_t sk_len) {
+    const std::uint32_t result = __real_slh_keygen(id, one, one_len, two, two_len, three, three_len, sk, sk_len);
+    if (flipped_byte >= 0) sk[flipped_byte] ^= 1;
+    return result;
+}
+}
+
+namespace {
+
+// Signing is two computations, unless the caller says once. The deprecated word asks for two.
+void test_computations(const slh::SecretKey &sk) {
+    for (const auto &[once, twice] : {std::pair(false, false), {true, false}, {false, true}, {true, true}}) {
+        slh::Options options;
+        options.once = once, options.twice = twice, single_calls = double_calls = 0;
+        (void)sk.sign("letter", options);
+        const int wanted = once && !twice;
+        expect(single_calls == wanted && double_calls == 1 - wanted, "the number of computations");
+    }
+    single_calls = double_calls = 0;
+    (void)sk.sign("letter");
+    expect(single_calls == 0 && double_calls == 1, "two computations without options");
+}
+
+// A key whose SK.seed, PK.seed or PK.root changes while it is made is not given.
+void test_new_keys() {
+    for (const int at : {0, 32, 63}) {
+        flipped_byte = at;
+        expect(refuses([&] { (void)slh::SecretKey::generate(set); }, SLH_FAULT, "38 Fault"), "a new key is checked");
+    }
+    flipped_byte = -1;
+    expect(slh::SecretKey::generate(set).check(), "a new key");
+}
+
 // Whether one of some signatures of a message that another thread changes is a fault.
-bool finds_changes(const slh::SecretKey &sk, bool twice) {
+bool finds_changes(const slh::SecretKey &sk, bool once) {
     static std::array<std::atomic<std::uint64_t>, 4> message{};
     slh::Options options;
-    options.deterministic = true, options.twice = twice;
+    options.deterministic = true, options.once = once;
     std::atomic<bool> ended{false};
     std::thread writer([&] { while (!ended) for (auto &it : message) ++it; });
     bool found = false;
@@ -265,7 +361,7 @@ void test_erased() {
         auto sk = slh::SecretKey::generate(set, fill_with_sevens);
         const auto again = slh::SecretKey::from_bytes(set, sk.bytes());
         slh::Options options;
-        options.twice = options.verify = true;
+        options.verify = true;
         const auto moved = std::move(sk);
         expect(moved.public_key().verify("letter", again.sign("letter", options)), "a key of a source of one's own");
     }
@@ -279,10 +375,13 @@ int main() try {
     run_vectors();
     test_traits();
     test_views();
+    test_texts();
     test_refusals();
     test_faults();
     const auto sk = slh::SecretKey::generate(set);
-    expect(finds_changes(sk, true) && !finds_changes(sk, false), "twice finds two results that differ");
+    expect(finds_changes(sk, false) && !finds_changes(sk, true), "two computations that differ are found");
+    test_computations(sk);
+    test_new_keys();
     test_erased();
     std::cout << passed << " passed, " << failed << " failed, 0 skipped\n";
     return failed != 0;

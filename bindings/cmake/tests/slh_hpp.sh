@@ -1,6 +1,7 @@
 #!/usr/bin/env bash
 # Tests c/include/slh.hpp, the header of types for C++, over a library that tools/library.sh has installed: slh_hpp.cpp
 # is compiled as C++17 and as C++20 by each of GCC and clang that is there, and runs over vectors of the set 128f.
+# without_exceptions.cpp is compiled without exceptions, and each error ends it.
 #
 # usage: bindings/cmake/tests/slh_hpp.sh PREFIX
 #
@@ -27,8 +28,8 @@ END
 # Compiles and runs the test program: COMPILER and STANDARD.
 test_types() {
     one "$1 compiles slh.hpp as $2" "$1" -std="$2" -O1 "${strict[@]}" -I "$here/c/include" -I "$prefix/include" \
-        -o "$work/slh_hpp" "$here/bindings/cmake/tests/slh_hpp.cpp" "$prefix/lib/libslh.a" -pthread &&
-        count "$1, $2: types of slh.hpp" by_vectors "$work/slh_hpp"
+        -o "$work/slh_hpp" "$here/bindings/cmake/tests/slh_hpp.cpp" "$prefix/lib/libslh.a" -pthread \
+        -Wl,--wrap=slh_sign,--wrap=slh_sign_twice,--wrap=slh_keygen && count "$1, $2: types of slh.hpp" by_vectors "$work/slh_hpp"
 }
 
 by_vectors() {
@@ -48,16 +49,43 @@ compiles() {
     ! is_refused "$@"
 }
 
-one "slh.hpp has at most 150 lines" test "$(wc -l <"$here/c/include/slh.hpp")" -le 150
+# Tests the types without exceptions: COMPILER.
+without_exceptions() {
+    one "$1 compiles slh.hpp without exceptions" "$1" -std=c++17 -O1 -fno-exceptions -fno-rtti "${strict[@]}" \
+        -I "$here/c/include" -I "$prefix/include" -o "$work/without" \
+        "$here/bindings/cmake/tests/without_exceptions.cpp" "$prefix/lib/libslh.a" || return
+    one "$1, without exceptions: it signs and verifies" says valid 0 "$work/without"
+    one "$1, without exceptions: a long context" ends_with "2 ContextTooLong" "$work/without" context
+    one "$1, without exceptions: a long key" ends_with "3 BadLength: 32 bytes expected, 33 given" "$work/without" key
+    one "$1, without exceptions: no set" ends_with "8 NoSuchSet" "$work/without" set
+    one "$1, without exceptions: a fault" ends_with "38 Fault" "$work/without" fault
+    one "$1, without exceptions: a zero byte inside" ends_with "the array is no text" "$work/without" zero
+    one "$1, without exceptions: a null pointer" ends_with "a null pointer is no text" "$work/without" null
+    one "$1, without exceptions: a key that was moved" ends_with "the SecretKey was moved" "$work/without" moved
+}
+
+# Whether a command says this, and std::terminate ends it by SIGABRT: TEXT, and the command.
+ends_with() {
+    local text=$1 status
+    shift
+    (ulimit -c 0 && "$@") >"$work/out" 2>"$work/why"
+    status=$?
+    [ $status = 134 ] && [ ! -s "$work/out" ] && grep -qF -- "slh: $text" "$work/why"
+}
+
+one "slh.hpp has at most 180 lines" test "$(wc -l <"$here/c/include/slh.hpp")" -le 180
 if can_run "C++" python3; then
     write_vectors >"$work/vectors"
     for cxx in g++ clang++; do
         if can_run "C++ by $cxx" "$cxx"; then
             for standard in c++17 c++20; do test_types "$cxx" "$standard"; done
-            one "$cxx takes: other = std::move(key)" compiles "$cxx" 'other = std::move(key)'
+            without_exceptions "$cxx"
+            for statement in 'other = std::move(key)' 'key.sign("letter")' 'key.sign({nullptr, 0})'; do
+                one "$cxx takes: $statement" compiles "$cxx" "$statement"
+            done
             for statement in 'slh::SecretKey copy = key' 'key = other' 'std::cout << key' 'bool same = key == other' \
                 'slh::View view = key' 'slh::PublicKey(SLH_DSA_SHA2_256F, key)' 'key.check()' \
-                'char buffer[4] = {}; key.sign(buffer)'; do
+                'char buffer[4] = {}; key.sign(buffer)' 'key.sign(nullptr)' 'key.sign(NULL)' 'key.sign(0)'; do
                 one "$cxx refuses: $statement" is_refused "$cxx" "$statement"
             done
         fi

@@ -25,6 +25,7 @@ import java.security.KeyPair;
 import java.security.PrivateKey;
 import java.security.Signature;
 import java.security.SignatureException;
+import java.security.spec.InvalidKeySpecException;
 import java.security.spec.PKCS8EncodedKeySpec;
 import java.text.MessageFormat;
 import java.util.ArrayDeque;
@@ -430,6 +431,9 @@ final class SecretsTests {
         for (Tests.Act act : new Tests.Act[] {key::getEncoded, key::check, () -> SlhPem.encode(key)}) {
             Tests.expect(Tests.throwsA(refused, act).contains("was destroyed"), "the reason");
         }
+        String why = Tests.throwsA(InvalidKeySpecException.class,
+                () -> KeysTests.factory().getKeySpec(key, PKCS8EncodedKeySpec.class));
+        Tests.expect(why.contains("was destroyed"), why);
         String said = Tests.throwsA(SignatureException.class, signing::sign);
         Tests.expect(said.contains("was destroyed"), said);
         Tests.same(key.toString() + key.getAlgorithm(), "SLH-DSA-SHA2-128F private keySLH-DSA-SHA2-128F", "its name");
@@ -464,6 +468,63 @@ final class SecretsTests {
             Thread.sleep(20);
         }
         Tests.expect(reference.get() == null && !segment.scope().isAlive(), "the memory is still there");
+    }
+
+    /** A private key of another provider, whose getEncoded gives the array that it has. */
+    private static final class Stranger implements PrivateKey {
+        private static final long serialVersionUID = 1L;
+        private final byte[] der;
+
+        Stranger(byte[] der) {
+            this.der = der;
+        }
+
+        @Override
+        public String getAlgorithm() {
+            return "SLH-DSA";
+        }
+
+        @Override
+        public String getFormat() {
+            return "PKCS#8";
+        }
+
+        @Override
+        public byte[] getEncoded() {
+            return der;
+        }
+    }
+
+    /** A specification that gives the array that it has. */
+    private static final class OpenSpec extends PKCS8EncodedKeySpec {
+        private final byte[] der;
+
+        OpenSpec(byte[] der) {
+            super(der);
+            this.der = der;
+        }
+
+        @Override
+        public byte[] getEncoded() {
+            return der;
+        }
+    }
+
+    static void theArrayOfAStrangersKeyStaysAsItIs() throws Exception {
+        SlhPrivateKey key = key();
+        byte[] der = key.getEncoded();
+        PrivateKey stranger = new Stranger(der);
+        for (int turn = 0; turn < 2; turn++) {
+            Signature signing = signing(stranger);
+            byte[] signature = signing.sign();
+            Signature verifying = Signature.getInstance("SLH-DSA", Tests.PROVIDER);
+            verifying.initVerify(key.publicKey());
+            Tests.expect(verifying.verify(signature), "the signature of turn " + turn);
+        }
+        Tests.same(KeysTests.factory().translateKey(stranger), key, "the key that was translated");
+        KeysTests.factory().getKeySpec(stranger, PKCS8EncodedKeySpec.class);
+        Tests.same(KeysTests.factory().generatePrivate(new OpenSpec(der)), key, "the key of an open specification");
+        Tests.same(der, key.getEncoded(), "the stranger's array");
     }
 
     /** The arrays of encodings that the factory was given are its own copies, which it overwrites. */

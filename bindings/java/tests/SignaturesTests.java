@@ -62,7 +62,7 @@ final class SignaturesTests {
         Tests.expect(!Arrays.equals(one, other), "equal signatures");
         Tests.expect(isValid("SLH-DSA", pair, PLAIN, one) && isValid("SLH-DSA", pair, PLAIN, other), "invalid");
         Tests.same(signed("SLH-DSA", pair.getPrivate(), PLAIN.deterministic()),
-                signed("SLH-DSA", pair.getPrivate(), PLAIN.deterministic().twice().verified()), "deterministic");
+                signed("SLH-DSA", pair.getPrivate(), PLAIN.deterministic().once().verify()), "deterministic");
     }
 
     static void preHashForms() throws Exception {
@@ -149,15 +149,25 @@ final class SignaturesTests {
         Tests.same(signing.getParameters(), null, "parameters");
     }
 
-    /** An inconsistent key signs without a check; with verified() that is a fault, and there is no signature. */
+    /** An inconsistent key signs without a check; with verify() that is a fault, and there is no signature. */
     static void faultsAreTold() throws Exception {
         KeyPair pair = KeysTests.pair(SlhSet.SHA2_128F);
         byte[] der = pair.getPrivate().getEncoded();
         der[der.length - 1] ^= 1;
         PrivateKey wrong = KeysTests.factory().generatePrivate(new PKCS8EncodedKeySpec(der));
         Tests.same(signed("SLH-DSA", wrong, PLAIN).length, 17088, "its length");
-        Tests.refuses(38, "Fault", () -> signed("SLH-DSA", wrong, PLAIN.verified()));
-        Tests.refuses(38, "Fault", () -> signed("HASH-SLH-DSA", wrong, PLAIN.verified().twice()));
+        Tests.refuses(38, "Fault", () -> signed("SLH-DSA", wrong, PLAIN.verify()));
+        Tests.refuses(38, "Fault", () -> signed("HASH-SLH-DSA", wrong, PLAIN.verify().once()));
+    }
+
+    /** Which of the words asks for one computation: of several, the last one does. */
+    @SuppressWarnings("deprecation")
+    static void computations() {
+        Tests.expect(!PLAIN.isOnce() && !PLAIN.verify().deterministic().isOnce(), "the default");
+        SlhSignatureSpec once = PLAIN.once();
+        Tests.expect(once.isOnce() && once.verify().deterministic().withContext(new byte[1]).isOnce(), "once");
+        Tests.expect(PLAIN.verified().isVerified() && PLAIN.verify().isVerified(), "verified");
+        Tests.expect(!PLAIN.twice().isOnce() && !once.twice().isOnce() && PLAIN.twice().once().isOnce(), "twice");
     }
 
     /** Many threads sign with one key at once. */

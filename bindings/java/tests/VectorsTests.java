@@ -57,10 +57,10 @@ final class VectorsTests {
         KeyFactory keys = KeyFactory.getInstance(it.set().algorithm(), Tests.PROVIDER);
         PrivateKey key = keys.generatePrivate(new PKCS8EncodedKeySpec(der(true, it.set(), it.bytes("sk"))));
         byte[] random = it.bytes("random");
-        for (boolean isTwice : new boolean[] {false, true}) {
+        for (boolean isOnce : new boolean[] {false, true}) {
             Signature signing = Signature.getInstance(it.isPure() ? "SLH-DSA" : "HASH-SLH-DSA", Tests.PROVIDER);
             signing.initSign(key, new Given(random));
-            SlhSignatureSpec spec = isTwice ? it.spec().twice().verified() : it.spec();
+            SlhSignatureSpec spec = isOnce ? it.spec().once().verify() : it.spec();
             signing.setParameter(random.length == 0 ? spec.deterministic() : spec);
             signing.update(it.bytes("message"));
             Tests.expect(Arrays.equals(signing.sign(), it.bytes("signature")), it.set() + ": another signature");

@@ -45,7 +45,7 @@ function expectNothing(name) {
 /** The calls of a key and of a library by one argument, whose position is the name. */
 const callsBy = {
     "message of sign": (it) => secret.sign(it),
-    "message of sign, twice and verified": (it) => secret.sign(it, { twice: true, verify: true }),
+    "message of sign, once and verified": (it) => secret.sign(it, { once: true, verify: true }),
     "context of sign": (it) => secret.sign(text, { context: it }),
     "randomizer of sign": (it) => secret.sign(text, { randomizer: it }),
     "options of sign": (it) => secret.sign(text, it),
@@ -169,7 +169,7 @@ test("a message that the memory has no room for is a RangeError, and the next ca
 });
 
 test("an option that throws leaves nothing, and is read once", () => {
-    for (const name of ["context", "randomizer", "deterministic", "twice", "verify"]) {
+    for (const name of ["context", "randomizer", "deterministic", "once", "twice", "verify"]) {
         let count = 0;
         const options = {
             get [name]() {
@@ -193,12 +193,12 @@ test("an option that throws leaves nothing, and is read once", () => {
 test("a refusal leaves nothing", () => {
     const refused = [
         () => secret.sign(text, { context: new Uint8Array(256) }),
-        () => secret.sign(text, { context: new Uint8Array(256), twice: true, verify: true }),
+        () => secret.sign(text, { context: new Uint8Array(256), once: true, verify: true }),
         () => secret.sign(text, { randomizer: new Uint8Array(15) }),
         () => secret.hashSign(7, text),
-        () => secret.hashSign(7, text, { twice: true }),
+        () => secret.hashSign(7, text, { once: true }),
         () => secret.hashSignDigest(SLH_SHA2_256, digest.subarray(1)),
-        () => secret.hashSignDigest(SLH_SHA2_256, digest.subarray(1), { twice: true }),
+        () => secret.hashSignDigest(SLH_SHA2_256, digest.subarray(1), { once: true }),
         () => slh.keygen(SLH_DSA_SHA2_128F, seeds[0], seeds[1], digest),
         () => slh.keygen(SLH_DSA_SHA2_128F, seeds[0], digest, seeds[2]),
         () => slh.secretKey(SLH_DSA_SHA2_128F, sk.subarray(1)),
@@ -211,7 +211,7 @@ test("a refusal leaves nothing", () => {
 });
 
 test("a call that is done leaves nothing", () => {
-    const hows = [{}, { twice: true }, { verify: true }, { twice: true, verify: true, deterministic: true }];
+    const hows = [{}, { once: true }, { verify: true }, { once: true, verify: true, deterministic: true }];
     for (const options of hows) {
         secret.sign(text, options);
         expectNothing("sign");
@@ -244,12 +244,12 @@ test("a key that is erased while the options are read signs nothing", () => {
     }
 });
 
-/** Fails unless a call throws a Fault, and all bytes of a signature's length that the package had are zeros. */
-function expectFault(name, call) {
+/** Fails unless a call throws a Fault, and all bytes of a signature's or a key's length that it had are zeros. */
+function expectFault(name, call, length = signature.length) {
     const made = buffersOf(() => assert.throws(call, (error) => error instanceof Fault && error.name === "Fault"));
-    const signatures = made.filter((it) => it.byteLength === signature.length);
-    assert.ok(signatures.length > 0);
-    for (const it of signatures) assert.ok(isZeros(new Uint8Array(it)), name);
+    const found = made.filter((it) => it.byteLength === length);
+    assert.ok(found.length > 0);
+    for (const it of found) assert.ok(isZeros(new Uint8Array(it)), name);
     expectNothing(name);
 }
 
@@ -257,12 +257,12 @@ test("a signature that is not valid under the key's own public part is a fault w
     const wrongRoot = Uint8Array.from(sk);
     wrongRoot[63] ^= 1;
     const wrong = slh.secretKey(SLH_DSA_SHA2_128F, wrongRoot);
-    for (const options of [{ verify: true }, { verify: true, twice: true }]) {
+    for (const options of [{ verify: true }, { verify: true, once: true }]) {
         expectFault("sign", () => wrong.sign(text, options));
         expectFault("hashSign", () => wrong.hashSign(SLH_SHA2_256, text, options));
         expectFault("hashSignDigest", () => wrong.hashSignDigest(SLH_SHA2_256, digest, options));
     }
-    assert.equal(wrong.sign(text, { verify: false, twice: true }).length, signature.length);
+    assert.equal(wrong.sign(text, { verify: false, once: true }).length, signature.length);
 });
 
 const signing = {
@@ -282,8 +282,8 @@ for (const [name, sign] of Object.entries(signing)) {
             },
         }));
         const key = library.secretKey(SLH_DSA_SHA2_128F, sk);
-        expectFault(name, () => sign(key, { verify: true }));
-        assert.equal(sign(key, {}).length, signature.length);
+        expectFault(name, () => sign(key, { once: true, verify: true }));
+        assert.equal(sign(key, { once: true }).length, signature.length);
     });
 
     // The module returns SLH_FAULT, as it does if the signatures differ, and leaves the key in its scratch.
@@ -300,9 +300,28 @@ for (const [name, sign] of Object.entries(signing)) {
             },
         }));
         const key = library.secretKey(SLH_DSA_SHA2_128F, sk);
+        expectFault(name, () => sign(key, {}));
+        expectFault(name, () => sign(key, { verify: true }));
+        expectFault(name, () => sign(key, { once: true, twice: true }));
         expectFault(name, () => sign(key, { twice: true }));
-        expectFault(name, () => sign(key, { twice: true, verify: true }));
-        assert.equal(count, 2);
+        assert.equal(count, 4);
+        assert.equal(sign(key, { once: true }).length, signature.length);
+        assert.equal(count, 4);
+    });
+}
+
+for (const at of [0, 32, 63]) {
+    test(`a bit of byte ${at} of a new key that flips is found`, async () => {
+        const library = await watched((exports) => ({
+            ...exports,
+            slh_keygen: (...words) => {
+                const result = exports.slh_keygen(...words);
+                new Uint8Array(exports.memory.buffer)[Number(words.at(-2)) + at] ^= 1;
+                return result;
+            },
+        }));
+        expectFault("keygen", () => library.keygen(SLH_DSA_SHA2_128F, ...seeds), sk.length);
+        expectFault("generate", () => library.generate(SLH_DSA_SHA2_128F), sk.length);
     });
 }
 
@@ -313,12 +332,12 @@ const traps = {
     slh_keygen: (library) => library.keygen(SLH_DSA_SHA2_128F, ...seeds),
     slh_public: (_, key) => key.public(),
     slh_check: (_, key) => key.check(),
-    slh_sign: (_, key) => key.sign(text),
-    slh_hash_sign: (_, key) => key.hashSign(SLH_SHA2_256, text),
-    slh_hash_sign_digest: (_, key) => key.hashSignDigest(SLH_SHA2_256, digest),
-    slh_sign_twice: (_, key) => key.sign(text, { twice: true }),
-    slh_hash_sign_twice: (_, key) => key.hashSign(SLH_SHA2_256, text, { twice: true }),
-    slh_hash_sign_digest_twice: (_, key) => key.hashSignDigest(SLH_SHA2_256, digest, { twice: true }),
+    slh_sign: (_, key) => key.sign(text, { once: true }),
+    slh_hash_sign: (_, key) => key.hashSign(SLH_SHA2_256, text, { once: true }),
+    slh_hash_sign_digest: (_, key) => key.hashSignDigest(SLH_SHA2_256, digest, { once: true }),
+    slh_sign_twice: (_, key) => key.sign(text),
+    slh_hash_sign_twice: (_, key) => key.hashSign(SLH_SHA2_256, text),
+    slh_hash_sign_digest_twice: (_, key) => key.hashSignDigest(SLH_SHA2_256, digest),
     slh_verify: (_, key) => key.sign(text, { verify: true }),
 };
 
@@ -339,7 +358,7 @@ const withTrap = (name) => withEnd(name, readBehind);
 
 test("a call that runs out of the engine's stack is a trap", async () => {
     const forever = () => 1 + forever();
-    const library = await withEnd("slh_sign", forever);
+    const library = await withEnd("slh_sign_twice", forever);
     const key = library.secretKey(SLH_DSA_SHA2_128F, sk);
     assert.throws(() => key.sign(text), (error) => error instanceof Trap && error.cause instanceof RangeError);
     expectNothing("out of stack");

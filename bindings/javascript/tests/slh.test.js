@@ -57,12 +57,13 @@ test("signatures are those of other implementations", () => {
     assert.ok(chosen.some((it) => it.random) && chosen.some((it) => !it.random) && chosen.some((it) => it.context));
     for (const it of chosen) {
         const secret = slh.secretKey(it.set, unhex(it.sk));
-        const how = it.random ? { randomizer: unhex(it.random) } : { deterministic: true };
+        const random = it.random ? { randomizer: unhex(it.random) } : { deterministic: true };
+        const how = { once: it.set.endsWith("s"), ...random }; // the sets that end in s take long
         expectSignature(secret, it, { context: unhex(it.context), ...how });
         if (it.set.endsWith("128f")) {
-            expectSignature(secret, it, { context: unhex(it.context), ...how, twice: true });
+            expectSignature(secret, it, { context: unhex(it.context), ...how, once: true });
             expectSignature(secret, it, { context: unhex(it.context), ...how, verify: true });
-            expectSignature(secret, it, { context: unhex(it.context), ...how, twice: true, verify: true });
+            expectSignature(secret, it, { context: unhex(it.context), ...how, once: true, verify: true });
         }
     }
 });
@@ -132,7 +133,7 @@ test("randomizers are drawn", () => {
         refused(17, "BadRandomizerLength", () => secret.sign(letter, options), 16, length);
     }
     assert.throws(() => secret.sign(letter, { randomizer: new Uint8Array(16), deterministic: true }), TypeError);
-    for (const name of ["deterministic", "twice", "verify"]) {
+    for (const name of ["deterministic", "once", "twice", "verify"]) {
         for (const other of ["false", 1, null]) {
             const message = /true or false/;
             assert.throws(() => secret.sign(letter, { [name]: other }), { name: "TypeError", message });
@@ -185,12 +186,12 @@ test("what is not valid is refused", () => {
         refused(10, "BadSeedLength", () => slh.keygen(SLH_DSA_SHA2_128F, ...seeds), 16, 40 + at);
     }
     refused(9, "NoSuchFunction", () => secret.hashSign(7, letter));
-    refused(9, "NoSuchFunction", () => secret.hashSign(7, letter, { twice: true }));
+    refused(9, "NoSuchFunction", () => secret.hashSign(7, letter, { once: true }));
     refused(9, "NoSuchFunction", () => publicKey.hashVerify(0, letter, zeros(0)));
     for (const [hash, length] of [[1, 28], [2, 32], [3, 48], [4, 64], [5, 28], [6, 32]]) {
         const other = zeros(length - 1);
         refused(16, "BadDigestLength", () => secret.hashSignDigest(hash, other), length, length - 1);
-        refused(16, "BadDigestLength", () => secret.hashSignDigest(hash, other, { twice: true }), length, length - 1);
+        refused(16, "BadDigestLength", () => secret.hashSignDigest(hash, other, { once: true }), length, length - 1);
         refused(16, "BadDigestLength", () => publicKey.hashVerifyDigest(hash, other, zeros(0)), length, length - 1);
     }
     assert.throws(() => secret.hashSign(2 ** 32 + 2, letter), RangeError);
@@ -256,14 +257,16 @@ test("options of other names are refused", () => {
         for (const options of [context, "letters", 7, true, null]) assert.throws(() => call(options), TypeError);
     }
     for (const call of verifying) {
-        for (const name of ["deterministic", "randomizer", "twice", "verify"]) {
+        for (const name of ["deterministic", "randomizer", "once", "twice", "verify"]) {
             const message = new RegExp(`no option ${name}`);
             assert.throws(() => call({ [name]: true }), { name: "TypeError", message });
         }
     }
 });
 
-const OPTIONS = { context: bytes("other"), randomizer: new Uint8Array(16), deterministic: true, twice: 7, verify: 7 };
+const OPTIONS = {
+    context: bytes("other"), randomizer: new Uint8Array(16), deterministic: true, once: 7, twice: 7, verify: 7,
+};
 
 test("options that Object.prototype has change nothing", () => {
     const context = bytes("letters");
@@ -291,7 +294,7 @@ test("options are a plain object, and each is read once", () => {
         }
     }
     const inherited = Object.create({ context: bytes("letters") });
-    const ofNone = Object.create(Object.create(null, { twice: { value: true } }));
+    const ofNone = Object.create(Object.create(null, { once: { value: true } }));
     for (const options of [new Options(), inherited, ofNone, [], new Map(), () => 7]) {
         assert.throws(() => secret.sign(letter, options), { name: "TypeError", message: /plain object/ });
     }
@@ -306,7 +309,7 @@ test("options are a plain object, and each is read once", () => {
             return count === 1 ? letter : new Uint8Array(0);
         },
     };
-    const off = { randomizer: undefined, deterministic: false, twice: false, verify: undefined };
+    const off = { randomizer: undefined, deterministic: false, once: false, verify: undefined };
     assert.equal(publicKey.verify(letter, secret.sign(letter, { ...off, ...once }), { context: letter }), true);
     count = 0;
     const signature = secret.sign(letter, Object.assign(once, { verify: true }));
@@ -369,8 +372,8 @@ test("no call leaves secrets in the module's memory", async () => {
         expectClear("hashSign");
         secret.hashSignDigest(SLH_SHA2_256, digest);
         expectClear("hashSignDigest");
-        secret.sign(letter, { twice: true });
-        expectClear("sign, twice");
+        secret.sign(letter, { once: true });
+        expectClear("sign, once");
         assert.throws(() => secret.sign(letter, { context: new Uint8Array(256) }), { name: "ContextTooLong" });
         expectClear("a refusal");
         assert.equal(memories.length, 1);
@@ -407,6 +410,44 @@ test("after it was erased a key does nothing", () => {
     assert.ok(!(new Erased() instanceof Refusal));
     assert.equal(new Erased().name, "Erased");
     assert.equal(String(made), "SecretKey(SLH-DSA-SHA2-128f)");
+});
+
+/** What looks like a key, and is none: a Proxy, an object that inherits from it, and nothing, for a detached method. */
+const disguises = (key) => [new Proxy(key, {}), Object.create(key), undefined];
+
+/** The methods of a key, and the arguments of each for a call that would be right. */
+function methodsOf(key) {
+    const digest = new Uint8Array(32);
+    const signature = new Uint8Array(slh.lengths(SLH_DSA_SHA2_128F).signature);
+    const given = {
+        sign: [letter], hashSign: [SLH_SHA2_256, letter], hashSignDigest: [SLH_SHA2_256, digest],
+        verify: [letter, signature], hashVerify: [SLH_SHA2_256, letter, signature],
+        hashVerifyDigest: [SLH_SHA2_256, digest, signature],
+    };
+    const prototype = Object.getPrototypeOf(key);
+    const names = Reflect.ownKeys(prototype).filter((name) => name !== "constructor");
+    assert.ok(names.length > 8);
+    return names.map((name) => {
+        const { get, value } = Object.getOwnPropertyDescriptor(prototype, name);
+        return [String(name), value ?? get, given[name] ?? []];
+    });
+}
+
+test("erase and each other method throw unless they are called on the key itself", async () => {
+    const made = slh.secretKey(SLH_DSA_SHA2_128F, secret.toBytes());
+    for (const key of [made, publicKey]) {
+        for (const [name, method, given] of methodsOf(key)) {
+            for (const it of disguises(key)) {
+                await assert.rejects(async () => method.apply(it, given), TypeError, `${name} of ${typeof it}`);
+            }
+        }
+    }
+    assert.equal(hex(made.toBytes()), hex(secret.toBytes()));
+    assert.throws(() => new Proxy(made, {}).erase(), /nothing was erased: call erase on the SecretKey/);
+    assert.throws(() => made.erase.call(publicKey), TypeError);
+    assert.ok(!isZeros(publicKey.toBytes()));
+    made.erase();
+    for (const it of disguises(made)) assert.throws(() => made.erase.call(it), TypeError);
 });
 
 test("a fingerprint is the SHA-256 of the bytes", async () => {

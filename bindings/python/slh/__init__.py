@@ -14,7 +14,8 @@ Refusal, a ValueError with the `number` and `name` of docs/FORMATS.md. An argume
 Neither Invalid nor Refusal is a kind of the other.
 
 Each signature has a fresh randomizer from the system, unless one is given or `deterministic=True` asks for none. So two
-signatures of one message differ, and both are valid. Calls release the interpreter lock while they compute, so that
+signatures of one message differ, and both are valid. Each is computed two times and compared, unless `once=True` asks
+for one computation: a difference is a Fault, and nothing is signed. Calls release the interpreter lock while they compute, so that
 threads compute at the same time.
 
 `erase` clears a secret key, and so does the end of `with slh.SecretKey.generate(set) as secret:`, or of the object. A
@@ -35,6 +36,8 @@ import hmac
 import os
 import types
 import typing
+import warnings
+import weakref
 
 from slh import _calls, _key_files
 from slh._calls import Bytes, Erased, Fault, Invalid, Refusal
@@ -42,7 +45,22 @@ from slh._calls import Length as _Length
 from slh._calls import Memory as _Memory
 from slh._calls import library as _library
 
-__all__ = """Erased Fault Function Invalid Lengths PublicKey Refusal SecretKey Set Signer load loads version""".split()
+# Checkers of types read a literal list alone.
+__all__ = [
+    "Erased",
+    "Fault",
+    "Function",
+    "Invalid",
+    "Lengths",
+    "PublicKey",
+    "Refusal",
+    "SecretKey",
+    "Set",
+    "Signer",
+    "load",
+    "loads",
+    "version",
+]
 
 for _it in (Erased, Fault, Invalid, Refusal):
     _it.__module__ = __name__
@@ -79,6 +97,11 @@ class Set(enum.IntEnum):
     def lengths(self) -> Lengths:
         """The lengths of this set's keys and signatures in bytes, and n."""
         return _lengths(self)
+
+    if typing.TYPE_CHECKING:
+
+        def __new__(cls, value: int | str) -> Set:
+            """What `_missing_` makes of a name; an IntEnum takes numbers alone."""
 
     @classmethod
     def _missing_(cls, value: object) -> Set | None:
@@ -154,6 +177,15 @@ def _randomizer(set: Set, given: Bytes | None, deterministic: bool) -> bytes:
     if len(held) != n:
         raise Refusal(_BAD_RANDOMIZER_LENGTH, _Length(f"a randomizer of {set.label}", n, len(held)))
     return held
+
+
+def _runs(once: bool, twice: bool) -> int:
+    """How many times a signature is computed. The deprecated word prevails."""
+    is_once = _calls.checked_bool("once", once)
+    if not _calls.checked_bool("twice", twice):
+        return 1 if is_once else 2
+    warnings.warn("signing is two computations unless `once` is set: leave `twice` out", DeprecationWarning, 3)
+    return 2
 
 
 def _key_memory(set: Set, kind: str, given: Bytes) -> _Memory:
@@ -332,7 +364,10 @@ class SecretKey(_Key):
     @classmethod
     @_calls.discreet
     def generate(cls, set: AnySet) -> SecretKey:
-        """Makes a key from random bytes of the system (Algorithm 21). Raises Refusal: NoSuchSet."""
+        """Makes a key from random bytes of the system (Algorithm 21), and checks it.
+
+        Raises Fault if `check` finds another root. Raises Refusal: NoSuchSet.
+        """
         checked = _checked_set(set)
         n = _lengths(checked).n
         seeds = _calls.random_memory(n), _calls.random_memory(n), _calls.random_memory(n)
@@ -341,9 +376,9 @@ class SecretKey(_Key):
     @classmethod
     @_calls.discreet
     def keygen(cls, set: AnySet, sk_seed: Bytes, sk_prf: Bytes, pk_seed: Bytes) -> SecretKey:
-        """Makes the key of three seeds of n bytes each (Algorithm 18). They are as secret as the key.
+        """Makes the key of three seeds of n bytes each (Algorithm 18), and checks it. They are as secret as the key.
 
-        They are copied, and stay the caller's. Raises Refusal: NoSuchSet, BadSeedLength.
+        They are copied, and stay the caller's. Raises Fault; Refusal: NoSuchSet, BadSeedLength.
         """
         checked = _checked_set(set)
         given = [_calls.checked_type(it) for it in (sk_seed, sk_prf, pk_seed)]
@@ -357,7 +392,13 @@ class SecretKey(_Key):
         why = {_BAD_SEED_LENGTH: _Length(f"a seed of {set.label}", lengths.n, it) for it in wrong[:1]}
         with _calls.cleared(*seeds):
             _calls.done("slh_keygen", set, *seeds, made, lengths=why)
-        return cls._of(set, made)
+        key = cls._of(set, made)
+        try:
+            key.check()
+        except Invalid:
+            key.erase()
+            raise Fault("the root of the key that was made is not the one that its seeds give") from None
+        return key
 
     def erase(self) -> None:
         """Overwrites the bytes of this key with zeros.
@@ -434,17 +475,21 @@ class SecretKey(_Key):
         *,
         randomizer: Bytes | None = None,
         deterministic: bool = False,
+        once: bool = False,
         twice: bool = False,
         verify: bool = False,
     ) -> bytes:
         """Signs a message in the pure form (Algorithm 22).
 
         The randomizer has n bytes, and is drawn from the system unless it is given. With `deterministic` there is none.
-        With `twice` the signature is computed two times, and with `verify` it is verified under this key's public key.
-        Raises Fault if both differ or it is not valid; then it is erased, and nothing is signed.
-        Raises Refusal: BadRandomizerLength; ContextTooLong if the context has over 255 bytes.
+        The signature is computed two times, unless the caller asks for `once`, which takes half the time. With `verify`
+        it is verified under this key's public key. Raises Fault if both differ or it is not valid; then it is erased,
+        and nothing is signed. Raises Refusal: BadRandomizerLength; ContextTooLong if the context has over 255 bytes.
+
+        `twice` is deprecated: it asks for the default, even beside `once`.
         """
-        return self._sign("slh_sign", (), message, context, randomizer, deterministic, twice, verify)
+        runs = _runs(once, twice)
+        return self._sign("slh_sign", (), message, context, randomizer, deterministic, runs, verify)
 
     def hash_sign(
         self,
@@ -454,6 +499,7 @@ class SecretKey(_Key):
         *,
         randomizer: Bytes | None = None,
         deterministic: bool = False,
+        once: bool = False,
         twice: bool = False,
         verify: bool = False,
     ) -> bytes:
@@ -461,8 +507,8 @@ class SecretKey(_Key):
 
         A function that is weaker than the set makes a weaker signature. Raises: as `sign`, and Refusal NoSuchFunction.
         """
-        by = (_checked_function(function),)
-        return self._sign("slh_hash_sign", by, message, context, randomizer, deterministic, twice, verify)
+        by, runs = (_checked_function(function),), _runs(once, twice)
+        return self._sign("slh_hash_sign", by, message, context, randomizer, deterministic, runs, verify)
 
     def hash_sign_digest(
         self,
@@ -472,6 +518,7 @@ class SecretKey(_Key):
         *,
         randomizer: Bytes | None = None,
         deterministic: bool = False,
+        once: bool = False,
         twice: bool = False,
         verify: bool = False,
     ) -> bytes:
@@ -479,8 +526,8 @@ class SecretKey(_Key):
 
         Raises: as `hash_sign`, and Refusal BadDigestLength if the digest has another length than the function's.
         """
-        by = (_checked_function(function),)
-        return self._sign("slh_hash_sign_digest", by, digest, context, randomizer, deterministic, twice, verify)
+        by, runs = (_checked_function(function),), _runs(once, twice)
+        return self._sign("slh_hash_sign_digest", by, digest, context, randomizer, deterministic, runs, verify)
 
     def _sign(
         self,
@@ -490,15 +537,15 @@ class SecretKey(_Key):
         context: Bytes,
         randomizer: Bytes | None,
         deterministic: bool,
-        twice: bool,
+        runs: int,
         verify: bool,
     ) -> bytes:
-        signed_by = name + "_twice" if _calls.checked_bool("twice", twice) else name
+        signed_by = name + "_twice" if runs == 2 else name
         verified_by = name.replace("sign", "verify") if _calls.checked_bool("verify", verify) else None
         given = [_calls.checked_bytes(it) for it in (text, context)]
         opt_rand = _randomizer(self._set, randomizer, deterministic)
         signature = _Memory(_lengths(self._set).signature)
-        scratch = [_Memory(2 * signature.length)] if twice else []
+        scratch = [_Memory(2 * signature.length)] if runs == 2 else []
         lengths = _text_lengths(function, *given)
         with _calls.cleared(signature, *scratch), self._taken() as secret:
             _calls.done(signed_by, self._set, *function, secret, *given, opt_rand, *scratch, signature, lengths=lengths)
@@ -557,23 +604,32 @@ class Signer:
     A signature is cut into jobs (docs/LIBRARY.md, "Threads of your own"), which the workers do. With the
     same randomizer, or with none, it is byte for byte the one that `SecretKey` makes. A secret key that `check` finds
     invalid is refused as AnswersDisagree, while `SecretKey` makes a signature that is not valid. Digests are signed by
-    `SecretKey.hash_sign_digest` alone. Any number of threads may sign by one Signer at once.
+    `SecretKey.hash_sign_digest` alone. Any number of threads may sign by one Signer at once. A forked process may sign
+    by it, too, and gets threads of its own.
 
-    With `twice` each job runs two times, and Fault is raised unless both runs gave the same bytes. With `verify` each
-    signature is verified under the key's public key, and Fault is raised unless it is valid. After Fault nothing is
-    signed. Both find faults of the memory or the processor (SECURITY.md, "Faults").
+    Each job runs two times, and Fault is raised unless both runs gave the same bytes. With `once` each runs one time.
+    With `verify` each signature is verified under the key's public key, and Fault is raised unless it is valid. After
+    Fault nothing is signed. Both find faults of the memory or the processor (SECURITY.md, "Faults"). `twice` is
+    deprecated, as for `SecretKey.sign`.
     """
 
-    def __init__(self, workers: int, *, twice: bool = False, verify: bool = False) -> None:
+    def __init__(self, workers: int, *, once: bool = False, twice: bool = False, verify: bool = False) -> None:
         """Keeps up to that many threads, at least 1, until `close`. No more start than a signature has jobs."""
         if not isinstance(workers, int) or isinstance(workers, bool):
             raise TypeError(f"workers are an int, not {type(workers).__name__}")
         if workers < 1:
             raise ValueError(f"workers are at least 1, not {workers}")
-        self._runs = 2 if _calls.checked_bool("twice", twice) else 1
+        self._runs = _runs(once, twice)
         self._verify = _calls.checked_bool("verify", verify)
-        self._pool = concurrent.futures.ThreadPoolExecutor(workers, thread_name_prefix="slh")
-        self._workers = workers
+        self._workers, self._is_closed = workers, False
+        self._start_pool()
+        _signers.add(self)
+
+    def _start_pool(self) -> None:
+        """Takes a pool, which starts threads when there is work."""
+        self._pool = concurrent.futures.ThreadPoolExecutor(self._workers, thread_name_prefix="slh")
+        if self._is_closed:
+            self._pool.shutdown()
 
     @_calls.discreet
     def sign(
@@ -629,6 +685,7 @@ class Signer:
 
     def close(self) -> None:
         """Waits for the signatures that are being made, and ends the threads."""
+        self._is_closed = True
         self._pool.shutdown()
 
     def __enter__(self) -> Signer:
@@ -641,6 +698,20 @@ class Signer:
         trace: types.TracebackType | None,
     ) -> None:
         self.close()
+
+
+#: All Signers of this process.
+_signers: weakref.WeakSet[Signer] = weakref.WeakSet()
+
+
+def _after_fork() -> None:
+    """Gives each Signer a new pool in a forked process: the old one waits for threads that are not there."""
+    for it in list(_signers):
+        it._start_pool()
+
+
+if hasattr(os, "register_at_fork"):  # Windows has no fork
+    os.register_at_fork(after_in_child=_after_fork)
 
 
 def _checked_secret(given: SecretKey) -> SecretKey:

@@ -1,8 +1,9 @@
 """The commands keygen, public, sign, verify and check of the program `slh`, over this package: `python -m slh sign ..`.
 
 Options, files, refusals and statuses are those of the program (docs/FORMATS.md of the repository), which is for Linux
-alone. Two things differ. Custom sets are refused as 12 UnknownSet. And one worker makes a key, and cuts are judged, and
-not made as they are given: keys and signatures are the same by any number of workers and any cuts.
+alone. These differ. Custom sets are refused as 12 UnknownSet. `sign` signs two times, as the program does with --twice,
+unless --once is given. A new key is checked. One worker makes a key, and cuts are judged, and not made as they are
+given: keys and signatures are the same by any number of workers and any cuts.
 """
 
 from __future__ import annotations
@@ -16,10 +17,10 @@ import typing
 
 import slh
 from slh import _key_files
-from slh._help import OPTIONS, REFUSALS, help_text
+from slh._help import OPTIONS, Command, help_text, usual
 
 _MOST_BYTES = 1 << 30
-_HOW, _WORK = [*OPTIONS][4:8], [*OPTIONS][8:]
+_HOW, _WORK = [*OPTIONS][4:9], [*OPTIONS][9:]
 _RANGES = {"workers": (1, 64), "xmss-levels": (0, 8), "fors-levels": (0, 8)}
 _NAMES = {31: "BadWords", 32: "ReadFailed", 33: "WriteFailed", 34: "BadSeeds", 35: "BadOption", 36: "FileTooLong",
           1: "NoMemory", 4: "BadCutting", 12: "UnknownSet", 38: "Fault"}
@@ -35,15 +36,6 @@ class _Help(Exception):
     """The help text is asked for."""
 
 
-class _Command(typing.NamedTuple):
-    about: str
-    needs: list[str]
-    takes: list[str]
-    kind: str
-    after: str
-    run: typing.Callable[[types.SimpleNamespace], tuple[int, bytes | bytearray]]
-
-
 def _number(name: str, digits: str) -> int:
     """The number of an option. Zeros may stand before it, of any count."""
     low, high = _RANGES[name]
@@ -53,7 +45,7 @@ def _number(name: str, digits: str) -> int:
     return int(found[2])
 
 
-def _parsed(command: _Command, given: list[str]) -> types.SimpleNamespace:
+def _parsed(command: Command, given: list[str]) -> types.SimpleNamespace:
     """The options, each at most once. A word that asks for help does so where all words before it are right."""
     found: dict[str, typing.Any] = dict.fromkeys([*command.needs, *command.takes])
     left = given[::-1]
@@ -171,6 +163,8 @@ def _public(words: types.SimpleNamespace) -> tuple[int, bytes | bytearray]:
 
 
 def _sign(words: types.SimpleNamespace) -> tuple[int, bytes | bytearray]:
+    if words.once and words.twice:
+        raise _Stop(31)
     with _load(slh.SecretKey, words.key) as secret:
         context, function = _form(words)
         random = None if words.random is None else _hex(words.random)
@@ -179,10 +173,10 @@ def _sign(words: types.SimpleNamespace) -> tuple[int, bytes | bytearray]:
         _judge_cuts(secret.set, words)
         message = _message(words.message) if function is None else _read(words.message)
         form = (message, context) if function is None else (function, message, context)
-        name, twice = "sign" if function is None else "hash_sign", words.twice is True
+        name, once = "sign" if function is None else "hash_sign", words.once is True
         how: dict[str, typing.Any] = {"randomizer": random, "deterministic": random is None}
         if (words.workers or 1) > 1:
-            with slh.Signer(words.workers, twice=twice) as signer:
+            with slh.Signer(words.workers, once=once) as signer:
                 try:
                     return 0, getattr(signer, name)(secret, *form, **how)
                 except slh.Refusal as refusal:
@@ -190,7 +184,7 @@ def _sign(words: types.SimpleNamespace) -> tuple[int, bytes | bytearray]:
                         raise
                 except RuntimeError:  # the system refuses a thread: this one signs
                     pass
-        return 0, getattr(secret, name)(*form, twice=twice, **how)
+        return 0, getattr(secret, name)(*form, once=once, **how)
 
 
 def _verify(words: types.SimpleNamespace) -> tuple[int, bytes | bytearray]:
@@ -215,25 +209,27 @@ def _verdict(good: str, bad: str, judge: typing.Any, *given: object, **named: ob
 
 
 _COMMANDS = {
-    "keygen": _Command(
+    "keygen": Command(
         "Writes the secret key file of the seeds on standard input", ["set"], _WORK, "",
         "The seeds SK.seed, SK.prf and PK.seed are one line of 6n hexadecimal digits:\n96 for a 128 set, 144 for a 192"
-        f" set, 192 for a 256 set.\n{REFUSALS}\n"
-        "Example: openssl rand -hex 48 | slh keygen --set SLH-DSA-SHA2-128f > secret.key", _keygen,
+        f" set, 192 for a 256 set.\n{usual(4, 12, 34)}\n"
+        "Example: umask 077; set -C\nopenssl rand -hex 48 | slh keygen --set SLH-DSA-SHA2-128f > secret.key", _keygen,
     ),
-    "public": _Command("Writes the public key file of a secret key file", ["key"], [], "secret",
-                       f"{REFUSALS}\nExample: slh public --key secret.key > public.key", _public),
-    "sign": _Command(
+    "public": Command("Writes the public key file of a secret key file", ["key"], [], "secret",
+                      f"{usual(11, 32)}\nExample: slh public --key secret.key > public.key", _public),
+    "sign": Command(
         "Writes the signature of a message", ["key", "message"], [*_HOW, *_WORK], "secret",
-        f"Hardware faults in signing can allow forgeries: use --random and --twice.\n{REFUSALS}\n"
-        'Example: slh sign --key sk --message m --random "$(openssl rand -hex 16)" > sig', _sign,
+        f"Hardware faults in signing can allow forgeries: use --random, and not --once.\n{usual(11, 32, 35)}\n"
+        "Example: slh sign --key secret.key --message letter.txt \\\n"
+        '--random "$(openssl rand -hex 16)" > letter.sig', _sign,
     ),
-    "verify": _Command(
+    "verify": Command(
         "Verifies the signature of a message", ["key", "message", "signature"], ["context", "prehash"], "public",
-        f"{REFUSALS}\nExample: slh verify --key public.key --message letter.txt --signature letter.sig", _verify,
+        f"{usual(11, 32, no_key='a secret key, a PEM file, raw bytes, or the signature')}\n"
+        "Example: slh verify --key public.key --message letter.txt --signature letter.sig", _verify,
     ),
-    "check": _Command("Checks the root in a secret key file against its seeds", ["key"], [], "secret",
-                      f"{REFUSALS}\nExample: slh check --key secret.key", _check),
+    "check": Command("Checks the root in a secret key file against its seeds", ["key"], [], "secret",
+                     f"{usual(11, 32)}\nExample: slh check --key secret.key", _check),
 }
 
 
@@ -242,6 +238,8 @@ def _answer(given: list[str]) -> tuple[int, bytes | bytearray]:
     if given == ["help"] or (given and (given[0] == "--help" or given[0].startswith("-h"))):
         rows = "".join(f"  {name:<8} {it.about}\n" for name, it in _COMMANDS.items())
         return 0, f"slh {slh.__version__} for Python\n\nUsage: python -m slh COMMAND\n\nCommands:\n{rows}".encode()
+    if given and (given[0] == "--version" or given[0].startswith("-V")):
+        return 0, f"slh {slh.__version__}\n".encode()
     name, *options = given or [""]
     if name == "help" and len(options) == 1:
         name, options = options[0], ["--help"]

@@ -17,9 +17,10 @@ _MAX_NAME = 20
 #: Refusals of key files, which the library for C does not have (docs/FORMATS.md of the repository).
 _KEY_FILE_NAMES = {11: "NotAKeyFile", 12: "UnknownSet", 13: "BadHex", 14: "BadKeyLength", 15: "TrailingBytes"}
 
-_NAMES = """slh_version slh_lengths slh_refusal_name slh_keygen slh_public slh_check slh_sign slh_sign_twice slh_verify
-slh_hash_sign slh_hash_sign_twice slh_hash_verify slh_hash_sign_digest slh_hash_sign_digest_twice slh_hash_verify_digest
-slh_sign_jobs slh_answer_place slh_sign_start slh_hash_sign_start slh_sign_job slh_sign_join""".split()
+_NAMES = """slh_version slh_level slh_lengths slh_refusal_name slh_keygen slh_public slh_check slh_sign slh_sign_twice
+slh_verify slh_hash_sign slh_hash_sign_twice slh_hash_verify slh_hash_sign_digest slh_hash_sign_digest_twice
+slh_hash_verify_digest slh_sign_jobs slh_answer_place slh_sign_start slh_hash_sign_start slh_sign_job
+slh_sign_join""".split()
 
 _IS_WINDOWS = os.name == "nt"
 #: BCRYPT_USE_SYSTEM_PREFERRED_RNG of Windows.
@@ -29,6 +30,24 @@ _SYSTEM_RNG = 2
 Bytes = typing.Union[bytes, bytearray, memoryview]
 
 
+class OldProcessor(ImportError):
+    """The library has no code for this processor, which is below x86-64-v2. `import slh` raises it."""
+
+
+def _expect_code(loaded: ctypes.CDLL) -> None:
+    """Raises OldProcessor if the level is 0 and the calls are refused.
+
+    A library for one kind of processors, as for ARM, has the level 0, too; its calls work.
+    """
+    rooms = [ctypes.byref(ctypes.c_size_t()) for _ in range(4)]
+    if loaded.slh_level() != 0 or loaded.slh_lengths(ctypes.c_uint32(1), *rooms) == DONE:
+        return
+    raise OldProcessor(
+        "libslh needs a processor of the level x86-64-v2 or later, and this one is older, or its virtual machine hides"
+        " what it has (slh_level() is 0)"
+    )
+
+
 def _load() -> ctypes.CDLL:
     """Loads the shared object beside this file, which runs the best code that it has for the processor."""
     loaded = ctypes.CDLL(str(pathlib.Path(__file__).resolve().parent / "libslh.so.0"))
@@ -36,6 +55,7 @@ def _load() -> ctypes.CDLL:
         getattr(loaded, name).restype = ctypes.c_uint32
     loaded.slh_erase.restype = None
     loaded.slh_refusal_text.restype = ctypes.c_char_p
+    _expect_code(loaded)
     return loaded
 
 
@@ -93,7 +113,7 @@ class Erased(Exception):
 
 
 class Fault(Exception):
-    """A computation went wrong, as by bad memory or a bad processor. Nothing was signed."""
+    """A computation went wrong, as by bad memory or a bad processor. Nothing was signed, and no key was made."""
 
     def __init__(self, why: str = "two computations of one signature differ") -> None:
         super().__init__(why)
@@ -114,7 +134,9 @@ class Sealed:
     def _refuse(self, *_: object) -> typing.NoReturn:
         raise TypeError(f"an slh.{type(self).__name__} is not copied, pickled or serialised")
 
-    __copy__ = __deepcopy__ = __reduce__ = __reduce_ex__ = __getstate__ = _refuse  # type: ignore[assignment]
+    # Classes that may be copied have methods of their own, of other types.
+    _refused: typing.Any = _refuse
+    __copy__ = __deepcopy__ = __reduce__ = __reduce_ex__ = __getstate__ = _refused
 
 
 class Memory(Sealed):
@@ -124,6 +146,7 @@ class Memory(Sealed):
     """
 
     __slots__ = ("_at", "_owner", "length")
+    _owner: Memory | None
 
     def __init__(self, length: int) -> None:
         self._at, self._owner, self.length = 0, None, length

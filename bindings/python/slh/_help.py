@@ -1,10 +1,20 @@
-"""The help texts of `python -m slh`: those of the program."""
+"""The help texts of `python -m slh`: those of the program, but for `--once`."""
 
 from __future__ import annotations
 
+import types
 import typing
 
 REFUSALS = "Refusals: man slh, docs/FORMATS.md"
+_USUAL = {
+    4: "BadCutting     levels above the height of the set's trees.",
+    11: "NotAKeyFile   {}.",
+    12: "UnknownSet    a short name: 128f is SLH-DSA-SHA2-128f.",
+    32: "ReadFailed    a wrong name, or no right to read.",
+    34: "BadSeeds      the seeds of another set, or raw bytes.",
+    35: "BadOption     a randomizer of another set's length, a context of no digits.",
+}
+_NO_SECRET_KEY = "a public key, a PEM file, raw bytes, carriage returns"
 _SET = "The parameter set: SLH-DSA-SHA2-128s, -128f, -192s,\n-192f, -256s or -256f"
 _LEVELS = "Cuts each {} tree into 2^N ranges for the workers,\nN 0 to 8 [default: 0]"
 _CUTS = "Judges these leaves as cuts of each {} tree, as\n2,4,6: at most 255 rising numbers"
@@ -16,7 +26,8 @@ OPTIONS: dict[str, tuple[str, str]] = {
     "signature": ("FILE", "The raw signature"),
     "random": ("HEX", "The randomizer, 2n hexadecimal digits: 32 for a 128\nset, 48 for a 192 set, 64 for a 256 set\n"
                       "[default: deterministic signing]"),
-    "twice": ("", "Signs twice and compares: 38 Fault if a byte differs"),
+    "twice": ("", "Signs twice and compares: 38 Fault if a byte differs\n[default]"),
+    "once": ("", "Signs once, in half the time: hardware faults are not found"),
     "context": ("HEX", "The context, at most 255 bytes in hexadecimal digits\n[default: empty]"),
     "prehash": ("NAME", "The pre-hash form with SHA2-224, SHA2-256, SHA2-384,\nSHA2-512, SHA2-512/224 or SHA2-512/256\n"
                         "[default: the pure form]"),
@@ -28,14 +39,20 @@ OPTIONS: dict[str, tuple[str, str]] = {
 }
 
 
-class Command(typing.Protocol):
-    """A command, as its help text needs it: the options that it needs, those that it takes, and the kind of its key."""
+def usual(*numbers: int, no_key: str = _NO_SECRET_KEY) -> str:
+    """The lines of a command's usual refusals, and where all are."""
+    return "\n".join(["Usual refusals:", *(f"  {it} {_USUAL[it].format(no_key)}" for it in numbers), REFUSALS])
+
+
+class Command(typing.NamedTuple):
+    """A command: the options that it needs, those that it takes, the kind of its key, and what runs it."""
 
     about: str
     needs: list[str]
     takes: list[str]
     kind: str
     after: str
+    run: typing.Callable[[types.SimpleNamespace], tuple[int, bytes | bytearray]]
 
 
 def help_text(name: str, command: Command) -> str:

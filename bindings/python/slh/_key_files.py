@@ -96,8 +96,8 @@ def parse(kinds: typing.Sequence[str], text: memoryview, skipped: int, lengths: 
 def _first_line(kinds: typing.Sequence[str], text: memoryview) -> tuple[str, int]:
     """The kind that line 1 says, and where line 2 begins."""
     found = _LINE_FEED.search(text)
-    for kind in KINDS if found else ():
-        if text[: found.start()] in (b"slh-dsa-%s 1" % kind.encode(), b"slh-dsa-%s 2" % kind.encode()):
+    for kind in KINDS:
+        if found and text[: found.start()] in (b"slh-dsa-%s 1" % kind.encode(), b"slh-dsa-%s 2" % kind.encode()):
             if kind in kinds:
                 return kind, found.end()
             raise Refusal(11, f"the key is {kind}, and a {kinds[0]} one is asked for")
@@ -107,8 +107,8 @@ def _first_line(kinds: typing.Sequence[str], text: memoryview) -> tuple[str, int
 def _second_line(labels: typing.Iterable[str], text: memoryview, begin: int) -> tuple[str, int]:
     """The set that line 2 names, and where line 3 begins."""
     found = _LINE_FEED.search(text, begin)
-    for label in labels if found else ():
-        if text[begin : found.start()] == label.encode():
+    for label in labels:
+        if found and text[begin : found.start()] == label.encode():
             return label, found.end()
     raise Refusal(12, "line 2 is not the name of one of the six sets")
 

@@ -15,8 +15,8 @@ from __future__ import annotations
 import ctypes
 import typing
 
-from slh import AnySet, Bytes, SecretKey, _checked_secret, _checked_set, _lengths, _randomizer, _text_lengths
-from slh._calls import Length, Memory, checked_bytes, checked_number, cleared, discreet, done
+from slh import AnySet, SecretKey, _checked_secret, _checked_set, _lengths, _randomizer, _text_lengths
+from slh._calls import Bytes, Length, Memory, checked_bytes, checked_number, cleared, discreet, done
 
 __all__ = ["Jobs"]
 

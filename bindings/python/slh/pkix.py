@@ -18,7 +18,7 @@ import typing
 from slh import PublicKey, Refusal, SecretKey, Set, _calls
 from slh._calls import Bytes, Memory, cleared
 
-__all__ = "public_from_der public_from_pem secret_from_der secret_from_pem to_der to_pem".split()
+__all__ = ["public_from_der", "public_from_pem", "secret_from_der", "secret_from_pem", "to_der", "to_pem"]
 
 _AnyKey = typing.TypeVar("_AnyKey", PublicKey, SecretKey)
 

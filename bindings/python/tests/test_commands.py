@@ -1,6 +1,6 @@
 """Tests of `python -m slh`: the statuses where a standard stream is closed or a thread is refused, and what it keeps.
 
-tests/commands.py of the repository runs the program's rows over it.
+tests/test_commands.py of the repository runs the program's rows over it.
 """
 
 from __future__ import annotations
@@ -60,6 +60,25 @@ class Commands(unittest.TestCase):
         with refusing, writing:
             self.assertEqual(0, slh.__main__.main(words))
         self.assertEqual(self.secret.sign(b"letter", deterministic=True), written.getvalue())
+
+    def test_signing_is_two_computations_unless_the_words_say_once(self) -> None:
+        words = ["sign", f"--key={self.folder / 'secret'}", f"--message={self.folder / 'letter'}"]
+        for workers in ("1", "3"):
+            for more, wanted in ([], 2), (["--twice"], 2), (["--once"], 1):
+                names, call = [], slh._calls.call
+
+                def counting_call(name, *arguments):
+                    names.append(name)
+                    return call(name, *arguments)
+
+                with unittest.mock.patch.object(slh._calls, "call", counting_call):
+                    status, signature = slh.__main__._answer([*words, f"--workers={workers}", *more])
+                self.assertEqual((0, self.secret.sign(b"letter", deterministic=True)), (status, signature))
+                runs = names.count("slh_sign_job") // 55 + names.count("slh_sign") + 2 * names.count("slh_sign_twice")
+                self.assertEqual(wanted, runs, names)
+        with unittest.mock.patch("os.write") as write:
+            self.assertEqual(2, slh.__main__.main([*words, "--once", "--twice"]))
+        write.assert_called_once_with(2, b"slh: 31 BadWords\n")
 
     def test_seeds_and_the_key_are_cleared(self) -> None:
         """The digits of the seeds are in a bytearray, and the seeds outside Python's objects: both are cleared."""

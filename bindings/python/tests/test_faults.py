@@ -1,4 +1,4 @@
-"""Tests that a computation that goes wrong gives Fault and no signature, with `twice`, with `verify` and with both."""
+"""Tests that a computation that goes wrong gives Fault and no signature or key, as it is, with `once` and `verify`."""
 
 from __future__ import annotations
 
@@ -6,6 +6,7 @@ import itertools
 import threading
 import unittest
 import unittest.mock
+import warnings
 
 import slh
 
@@ -61,34 +62,34 @@ class Faults(unittest.TestCase):
         for form, sign, given in self.forms():
             alone = sign(*given, deterministic=True)
             self.assertTrue(self.is_valid(form, alone))
-            for twice, verify in itertools.product((False, True), repeat=2):
-                self.assertEqual(sign(*given, deterministic=True, twice=twice, verify=verify), alone)
-                made = sign(*given, randomizer=b"r" * 16, twice=twice, verify=verify)
+            for once, verify in itertools.product((False, True), repeat=2):
+                self.assertEqual(sign(*given, deterministic=True, once=once, verify=verify), alone)
+                made = sign(*given, randomizer=b"r" * 16, once=once, verify=verify)
                 self.assertEqual(made, sign(*given, randomizer=b"r" * 16))
 
     def test_workers_with_the_options_give_the_same_bytes(self) -> None:
         pure = self.secret.sign(b"letter", deterministic=True)
         hashed = self.secret.hash_sign(FUNCTION, b"letter", deterministic=True)
-        for twice, verify in itertools.product((False, True), repeat=2):
-            with slh.Signer(2, twice=twice, verify=verify) as signer:
+        for once, verify in itertools.product((False, True), repeat=2):
+            with slh.Signer(2, once=once, verify=verify) as signer:
                 self.assertEqual(signer.sign(self.secret, b"letter", deterministic=True), pure)
                 self.assertEqual(signer.hash_sign(self.secret, FUNCTION, b"letter", deterministic=True), hashed)
 
     def test_a_wrong_signature_is_erased_and_not_returned(self) -> None:
         """One bit of the signature is flipped after it was made. Without `verify` that signature is returned."""
-        for (form, sign, given), place, twice in itertools.product(self.forms(), PLACES, (False, True)):
-            name = form + "_twice" if twice else form
+        for (form, sign, given), place, once in itertools.product(self.forms(), PLACES, (False, True)):
+            name = form if once else form + "_twice"
             patch, written = flipping(place, name)
             with patch:
-                wrong = sign(*given, twice=twice)
-                self.assertRaisesRegex(slh.Fault, "is not valid", sign, *given, twice=twice, verify=True)
+                wrong = sign(*given, once=once)
+                self.assertRaisesRegex(slh.Fault, "is not valid", sign, *given, once=once, verify=True)
             self.assertFalse(self.is_valid(form, wrong))
             self.assertEqual((len(written), bytes(written[1].view())), (2, bytes(SIGNATURE)))
 
     def test_a_wrong_signature_of_workers_is_erased_and_not_returned(self) -> None:
-        for place, twice in itertools.product(PLACES, (False, True)):
+        for place, once in itertools.product(PLACES, (False, True)):
             patch, written = flipping(place, "slh_sign_join")
-            with patch, slh.Signer(2, twice=twice) as signer, slh.Signer(2, twice=twice, verify=True) as careful:
+            with patch, slh.Signer(2, once=once) as signer, slh.Signer(2, once=once, verify=True) as careful:
                 pure = signer.sign(self.secret, b"letter", b"letters")
                 hashed = signer.hash_sign(self.secret, FUNCTION, b"letter", b"letters")
                 self.assertRaises(slh.Fault, careful.sign, self.secret, b"letter", b"letters")
@@ -101,8 +102,8 @@ class Faults(unittest.TestCase):
         data[-1] ^= 1
         wrong = slh.SecretKey(FAST, data)
         self.assertEqual(len(wrong.sign(b"letter")), SIGNATURE)
-        for twice in (False, True):
-            self.assertRaises(slh.Fault, wrong.sign, b"letter", twice=twice, verify=True)
+        for once in (False, True):
+            self.assertRaises(slh.Fault, wrong.sign, b"letter", once=once, verify=True)
 
     def test_a_bit_that_flips_during_a_call_is_found(self) -> None:
         """While the library signs for the second time, a thread flips a bit of the first signature, in the scratch."""
@@ -114,19 +115,61 @@ class Faults(unittest.TestCase):
                 self.assertEqual(bytes(signature.view()), bytes(SIGNATURE))
                 self.assertFalse(any(disturbed.key.view()))
 
+    def called(self, sign, *given, **named) -> list[str]:
+        """The names of the calls that sign, by a call of this package."""
+        names, call = [], slh._calls.call
+
+        def counting_call(name, *arguments):
+            names.append(name)
+            return call(name, *arguments)
+
+        with unittest.mock.patch.object(slh._calls, "call", counting_call):
+            sign(*given, **named)
+        return [it for it in names if "_sign" in it]
+
+    def test_signing_is_two_computations_unless_the_caller_says_once(self) -> None:
+        for form, sign, given in self.forms():
+            self.assertEqual(self.called(sign, *given), [form + "_twice"])
+            self.assertEqual(self.called(sign, *given, once=True), [form])
+        for once, count in (False, 2 * 55), (True, 55):
+            with slh.Signer(2, once=once) as signer:
+                self.assertEqual(self.called(signer.sign, self.secret, b"letter").count("slh_sign_job"), count)
+
+    def test_the_deprecated_word_asks_for_two_computations(self) -> None:
+        for once in (False, True):
+            for form, sign, given in self.forms():
+                with self.assertWarnsRegex(DeprecationWarning, "leave `twice` out") as caught:
+                    names = self.called(sign, *given, once=once, twice=True)
+                self.assertEqual((names, caught.filename), ([form + "_twice"], __file__))
+            with self.assertWarns(DeprecationWarning) as caught, slh.Signer(2, once=once, twice=True) as signer:
+                self.assertEqual(self.called(signer.sign, self.secret, b"letter").count("slh_sign_job"), 2 * 55)
+            self.assertEqual(caught.filename, __file__)
+        with warnings.catch_warnings():
+            warnings.simplefilter("error")
+            self.secret.sign(b"letter", once=True)
+
+    def test_a_new_key_with_a_wrong_bit_is_erased_and_not_returned(self) -> None:
+        """One bit of SK.seed, PK.seed or PK.root is flipped."""
+        for place in (0, 32, 63):
+            for make, given in (slh.SecretKey.generate, ()), (slh.SecretKey.keygen, (b"1" * 16, b"2" * 16, b"3" * 16)):
+                patch, written = flipping(place, "slh_keygen")
+                with patch:
+                    self.assertRaisesRegex(slh.Fault, "the key that was made", make, FAST, *given)
+                self.assertEqual([bytes(it.view()) for it in written], [bytes(64)])
+
     def faulty(self, sign, given: tuple, name: str, place: int) -> Disturbed:
         """Signs until the thread has come in time, which it may not do on a busy machine."""
         for _ in range(2000):
             with Disturbed(name, place) as disturbed:
                 try:
-                    sign(*given, twice=True)
+                    sign(*given)
                 except slh.Fault:
                     return disturbed
         self.fail("no flip was found")
 
     def test_errors_of_wrong_calls_are_those_without_the_options(self) -> None:
-        for twice, verify in itertools.product((False, True), repeat=2):
-            named = {"twice": twice, "verify": verify}
+        for once, verify in itertools.product((False, True), repeat=2):
+            named = {"once": once, "verify": verify}
             for number, call, given in (
                 (2, self.secret.sign, (b"letter", bytes(256))),
                 (9, self.secret.hash_sign, (7, b"letter")),

@@ -305,7 +305,7 @@ def edited(source: random.Random, data: bytes) -> bytes:
 
 
 def changed(row: dict, files: dict[str, bytes]) -> dict[str, bytes]:
-    """The files of a row of tests/vectors/commands, as tests/commands.py says."""
+    """The files of a row of tests/vectors/commands, as tests/test_commands.py says."""
     made = dict(files)
     for how in ("cut", "put", "flip", "add"):
         if how in row:

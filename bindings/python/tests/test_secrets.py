@@ -554,9 +554,9 @@ class Secrets(unittest.TestCase):
                 return call(name, *arguments)
             raise Failure("it fails", *arguments)
 
-        with unittest.mock.patch.object(slh._calls, "call", failing_call), slh.Signer(2, twice=True) as signer:
+        with unittest.mock.patch.object(slh._calls, "call", failing_call), slh.Signer(2) as signer:
             for act in (
-                lambda: self.secret.sign(b"letter", twice=True, verify=True),
+                lambda: self.secret.sign(b"letter", verify=True),
                 lambda: self.secret.hash_sign_digest(2, bytes(32)),
                 lambda: signer.sign(self.secret, b"letter"),
                 self.secret.check,

@@ -108,13 +108,14 @@ def signatures(test: dict) -> list[bytes]:
     secret = slh.SecretKey(set_of(test), bytes.fromhex(test["sk"]))
     message, context, random = bytes_of(test, "message", "context", "random")
     how = {"randomizer": random} if random else {"deterministic": True}
-    with slh.Signer(workers=2) as signer:
+    once = test["set"].endswith("s")  # these sets take long
+    with slh.Signer(workers=2, once=once) as signer:
         if test["form"] == "pure":
-            return [secret.sign(message, context, **how), signer.sign(secret, message, context, **how)]
+            return [secret.sign(message, context, once=once, **how), signer.sign(secret, message, context, **how)]
         function = function_of(test)
         return [
-            secret.hash_sign(function, message, context, **how),
-            secret.hash_sign_digest(function, digest_of(test), context, **how),
+            secret.hash_sign(function, message, context, once=once, **how),
+            secret.hash_sign_digest(function, digest_of(test), context, once=once, **how),
             signer.hash_sign(secret, function, message, context, **how),
         ]
 
@@ -322,14 +323,14 @@ class Calls(unittest.TestCase):
 
     def test_switches_are_true_or_false(self) -> None:
         function, digest = slh.Function.SLH_SHA2_256, bytes(32)
-        for name, wrong in itertools.product(("deterministic", "twice", "verify"), (1, 0, None, "yes", b"")):
+        for name, wrong in itertools.product(("deterministic", "once", "twice", "verify"), (1, 0, None, "yes", b"")):
             for call, given in (
                 (self.secret.sign, (b"letter",)),
                 (self.secret.hash_sign, (function, b"letter")),
                 (self.secret.hash_sign_digest, (function, digest)),
             ):
                 self.assertRaisesRegex(TypeError, f"{name} is True or False", call, *given, **{name: wrong})
-        for name, wrong in itertools.product(("twice", "verify"), (1, 0, None, "yes")):
+        for name, wrong in itertools.product(("once", "twice", "verify"), (1, 0, None, "yes")):
             self.assertRaisesRegex(TypeError, f"{name} is True or False", slh.Signer, 1, **{name: wrong})
         for wrong in (True, 2.0, "2", None):
             self.assertRaisesRegex(TypeError, "workers are an int", slh.Signer, wrong)
@@ -445,13 +446,13 @@ class Calls(unittest.TestCase):
             self.refused(10, "BadSeedLength", slh.SecretKey.keygen, FAST, b"1" * 16, b"2" * 16, b"3" * 15)
             secret.check()
             secret.public()
-            for twice in (False, True):
-                with slh.Signer(workers=2, twice=twice) as signer:
+            for once in (False, True):
+                with slh.Signer(workers=2, once=once) as signer:
                     signer.sign(secret, b"letter")
                     signer.hash_sign(secret, function, b"letter")
-                secret.sign(b"letter", twice=twice)
-                secret.hash_sign(function, b"letter", twice=twice)
-                secret.hash_sign_digest(function, digest, twice=twice)
+                secret.sign(b"letter", once=once)
+                secret.hash_sign(function, b"letter", once=once)
+                secret.hash_sign_digest(function, digest, once=once)
         self.assertEqual({name for name, _ in seen}, SECRETS.keys())
         kept = [name for name, memory in seen if any(memory.view()) and memory is not secret._memory]
         self.assertEqual(kept, ["slh_keygen"])
@@ -472,7 +473,7 @@ class Calls(unittest.TestCase):
         for job, run in itertools.product((0, 21, 22, 54), (0, 1)):
             for bit in (0, 16 * 8, 32 * 8 + 3, -1):
                 for workers in (1, 3):
-                    with watched(faulty(job, run, bit)) as seen, slh.Signer(workers, twice=True) as signer:
+                    with watched(faulty(job, run, bit)) as seen, slh.Signer(workers) as signer:
                         with self.assertRaises(slh.Fault) as caught:
                             signer.sign(self.secret, b"letter")
                     self.assertNotIsInstance(caught.exception, (slh.Refusal, slh.Invalid, slh.Erased))
@@ -481,13 +482,11 @@ class Calls(unittest.TestCase):
                     self.assertNotIn("slh_sign_join", names)
                     self.assertFalse(any(any(memory.view()) for _, memory in seen))
 
-    def test_without_a_fault_twice_signs_the_same(self) -> None:
-        alone = self.secret.sign(b"letter", deterministic=True)
+    def test_without_a_fault_two_computations_sign_the_same(self) -> None:
+        alone = self.secret.sign(b"letter", deterministic=True, once=True)
         for workers in (1, 3):
-            with slh.Signer(workers, twice=True) as signer:
+            with slh.Signer(workers) as signer:
                 self.assertEqual(signer.sign(self.secret, b"letter", deterministic=True), alone)
-        for wrong in (2, None, "yes"):
-            self.assertRaisesRegex(TypeError, "twice is True or False", slh.Signer, 1, twice=wrong)
 
     def test_keys_are_printed_without_their_bytes(self) -> None:
         data = self.public.to_bytes()

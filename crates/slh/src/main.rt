@@ -1,25 +1,67 @@
 //! The program `slh`: keys and signatures of SLH-DSA (FIPS 205) with SHA-2.
 #![tactic(auto)]
 
-use slh_io::{Disk, Reader, Writer};
+use hint::{general_hint, hint_of, shown};
+use slh_io::{Disk, Reader, WriteFault, Writer, put_text, put_two};
 use slh_tool::{Fault, command, refuse};
 use std::fs::File;
-use std::io::{Read, Stderr, Stdin, Stdout};
+use std::io::{IsTerminal, Read, Stderr, Stdin, Stdout};
 use std::process::ExitCode;
 use std::rt::{Env, Files};
 use std::thread::Threads;
 use std::{env, io};
+use told::Told;
+
+mod hint;
+mod told;
 
 /// The least limit of the stack, in bytes, under which each command has room on the first thread and on all others. A
 /// program that overflows its stack is ended without a message, so `main` looks at the limit before anything else.
 const LEAST_STACK: u64 = 192 * 1024;
 
 fn main(rt: HostRuntime) -> ExitCode {
-    let mut errors = Writer::new(rt.stderr());
-    if stack_limit(&rt).is_some_and(|limit| limit < LEAST_STACK) {
-        return ExitCode::from(refuse(&mut errors, Fault::NoMemory));
+    let mut errors = Told::new(rt.stderr());
+    let status = if stack_limit(&rt).is_some_and(|limit| limit < LEAST_STACK) {
+        refuse(&mut errors, Fault::NoMemory)
+    } else {
+        run(&rt, rt.stdin(), rt.stdout(), &mut errors)
+    };
+    if let Some(number) = errors.number() {
+        if rt.stderr().is_terminal() {
+            explain(&rt, number, &mut errors);
+        }
     }
-    ExitCode::from(run(&rt, rt.stdin(), rt.stdout(), &mut errors))
+    ExitCode::from(status)
+}
+
+/// Adds a sentence to a refusal: its cause and its cure. A failure of that write is ignored.
+fn explain<R: AllocGlobal + Env + Files>(rt: &R, number: u8, errors: &mut Told<Stderr>) {
+    let _ = match general_hint(number) {
+        Some(text) => put_two(errors, text, "\n"),
+        None => explain_words(rt, number, errors),
+    };
+}
+
+/// Adds the sentence that the arguments and their files give. It is a function apart, as `run` is.
+#[inline(never)]
+fn explain_words<R: AllocGlobal + Env + Files>(
+    rt: &R,
+    number: u8,
+    errors: &mut Told<Stderr>,
+) -> Result<(), WriteFault> {
+    let Ok(words) = words_of(rt) else {
+        return put_text(
+            errors,
+            "an argument is not UTF-8: name the file otherwise\n",
+        );
+    };
+    let Ok(Some(hint)) = hint_of(rt, words.as_slice(), number) else {
+        return Ok(());
+    };
+    match shown(rt.alloc(), hint.as_str()) {
+        Ok(line) => put_text(errors, line.as_str()),
+        Err(_) => Ok(()),
+    }
 }
 
 /// The limit of the stack in bytes, if the system names it, from the list of limits that Linux has for each process. It
@@ -45,7 +87,7 @@ fn run<R: AllocGlobal + Env + Files + Threads + Sync>(
     rt: &R,
     input: Stdin,
     output: Stdout,
-    errors: &mut Writer<Stderr>,
+    errors: &mut Told<Stderr>,
 ) -> u8 {
     let words = match words_of(rt) {
         Ok(words) => words,

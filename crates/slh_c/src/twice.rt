@@ -5,7 +5,7 @@
 //!
 //! Each run is a call of its own with the caller's arguments, and writes to another half of `scratch`. So a value that
 //! is wrong in one run is not read in the other. A wrong bit of an argument is read in both, and is not found.
-ghost use Rattle.std.specs.Prelude.{◌≡◌, ◌≢◌, ◌↔◌, IsTrue, length, replicate};
+ghost use Rattle.std.specs.Prelude.{◌≡◌, ◌≢◌, ◌↔◌, IsTrue, false, length, replicate};
 ghost use Rattle.slh_core.specs.Keys.{public_of, IsGeneratedKey};
 ghost use Rattle.slh_core.specs.Messages.{pure_message, pre_hash_message};
 ghost use Rattle.slh_core.specs.PreHash.{PH};
@@ -24,18 +24,38 @@ use crate::refusal::{DONE, Refusal, or_refuse};
 use crate::rules::{self, judge};
 use slh_jobs::have_same_bytes;
 
-/// Copies the first signature to `sig` if both are done and have the same bytes. Refused as `Fault`, with `sig` as it
-/// was, if they are not done or differ.
-fn release(are_done: bool, first: &[u8], second: &[u8], sig: &mut [u8]) -> u32
-    requires len { length first.now ≡ length sig.old }
-    requires halves { length second.now ≡ length first.now }
-    ensures same { (result ≡ DONE) ↔ (IsTrue are_done × (first.now ≡ second.now)) }
-    ensures fault { result ≢ DONE → result ≡ number Fault }
-    ensures done { result ≡ DONE → sig.new ≡ first.now }
-    ensures refused { result ≢ DONE → sig.new ≡ sig.old }
+/// Exchanges the first signature with the bytes of `sig`, and compares what is in `sig` then with the second signature.
+/// If they differ, exchanges them back, so that `sig` is as it was.
+fn exchange(first: &mut [u8], second: &[u8], sig: &mut [u8]) -> bool
+    requires len { length first.old ≡ length sig.old }
+    requires halves { length second.now ≡ length sig.old }
+    ensures same { IsTrue result ↔ (first.old ≡ second.now) }
+    ensures done { IsTrue result → sig.new ≡ second.now }
+    ensures kept { result ≡ false → sig.new ≡ sig.old }
+    ensures len { length first.new ≡ length first.old }
 {
-    if are_done && have_same_bytes(first, second) {
-        sig.copy_from_slice(first);
+    sig.swap_with_slice(first);
+    let is_same = have_same_bytes(sig, second);
+    if !is_same {
+        sig.swap_with_slice(first);
+    }
+    is_same
+}
+
+/// Writes the first signature to `sig` if both are done and have the same bytes. They are compared before it is
+/// written, and the written bytes are compared again: a bit may also turn on the way. Refused as `Fault`, with `sig` as
+/// it was, if the runs are not done, or if a comparison fails.
+fn release(are_done: bool, first: &mut [u8], second: &[u8], sig: &mut [u8]) -> u32
+    requires len { length first.old ≡ length sig.old }
+    requires halves { length second.now ≡ length first.old }
+    ensures same { (result ≡ DONE) ↔ (IsTrue are_done × (first.old ≡ second.now)) }
+    ensures fault { result ≢ DONE → result ≡ number Fault }
+    ensures done { result ≡ DONE → sig.new ≡ first.old }
+    ensures compared { result ≡ DONE → sig.new ≡ second.now }
+    ensures refused { result ≢ DONE → sig.new ≡ sig.old }
+    ensures len { length first.new ≡ length first.old }
+{
+    if are_done && have_same_bytes(first, second) && exchange(first, second, sig) {
         DONE
     } else {
         Refusal::Fault.number()

@@ -9,7 +9,7 @@
 //! - `malformed`, if the row has another number of fields, or an argument can't be read;
 //! - `unknown`, if no function has the name.
 //!
-//! `tests/tables.sh` runs it over the tables of `tests/vectors/tables`.
+//! `tests/test_tables.py` runs it over the tables of `tests/vectors/tables`.
 #![tactic(auto, using(slh_params::proofs::Bounds::n_high))]
 
 mod cuttings;

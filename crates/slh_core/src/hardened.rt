@@ -54,6 +54,16 @@ fn passes_again(root: &Node, ctx: &[u8], sig: &[u8], pk: &PublicKey) -> bool
         && ctx.len() <= MOST_CONTEXT_LEN
 }
 
+/// The verdict of two comparisons: the sum of their halves. If they disagree, it is neither verdict.
+fn verdict_of(first: bool, second: bool) -> u32
+    ensures valid { (result ≡ HARDENED_VALID) ↔ (IsTrue first × IsTrue second) }
+    ensures invalid { (result ≡ HARDENED_INVALID) ↔ ((IsTrue first → ⊥) × (IsTrue second → ⊥)) }
+{
+    let first = if first { FIRST_VALID } else { FIRST_INVALID };
+    let second = if second { SECOND_VALID } else { SECOND_INVALID };
+    first + second
+}
+
 /// The verdict on a signature of the parts put end to end, which are M' under a context.
 fn hardened(parts: &[&[u8]], ctx: &[u8], sig: &[u8], pk: &PublicKey) -> u32
     ensures valid { (result ≡ HARDENED_VALID)
@@ -64,17 +74,10 @@ fn hardened(parts: &[&[u8]], ctx: &[u8], sig: &[u8], pk: &PublicKey) -> u32
         return HARDENED_INVALID;
     }
     let root = root_of_signature(parts, sig, pk);
-    let first = if passes(&root, ctx, sig, pk) {
-        FIRST_VALID
-    } else {
-        FIRST_INVALID
-    };
-    let second = if passes_again(&root, ctx, sig, pk) {
-        SECOND_VALID
-    } else {
-        SECOND_INVALID
-    };
-    first + second
+    verdict_of(
+        passes(&root, ctx, sig, pk),
+        passes_again(&root, ctx, sig, pk),
+    )
 }
 
 /// The hardened verdict on a signature of a message under a context: `HARDENED_VALID` if and only if `verify` is true.

@@ -77,8 +77,8 @@ fn is_valid_by_hash(hash: &[u8], sig: &[u8], pk: &PublicKey) -> bool
 /// `sig_len`.
 pub fn verify_hashed(hash: &[u8], sig: &[u8], pk: &PublicKey) -> bool
     ensures valid { IsTrue result ↔ IsValidByHash pk.now hash.now sig.now }
-    ensures of_message { (ctx msg : List ℕ) → hash.now ≡ hash_after_front pk.now ctx sig.now msg
-        → (IsTrue result ↔ IsValid pk.now (pure_message ctx msg) sig.now) }
+    ensures of_message { (ctx msg : List ℕ) → length ctx ≤ 255 → hash.now ≡ hash_after_front pk.now ctx sig.now msg
+        → (IsTrue result ↔ ((length ctx ≤ 255) × IsValid pk.now (pure_message ctx msg) sig.now)) }
 {
     is_valid_by_hash(hash, sig, pk)
 }

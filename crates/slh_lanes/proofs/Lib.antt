@@ -1,6 +1,7 @@
 pub mod Lanes8
 mod ChMaj
 mod NLanes
+mod WindowPlace
 mod WordLanes
 mod LongWordLanes
 pub mod Columns

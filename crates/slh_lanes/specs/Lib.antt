@@ -1,4 +1,7 @@
 pub mod Columns
+pub mod Sha2
+pub mod Laws256
+pub mod Laws512
 pub mod Block
 pub mod Room
 pub mod LongBlock

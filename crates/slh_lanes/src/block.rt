@@ -1,15 +1,14 @@
-//! The block after PK.seed's that F and PRF hash, and H if n is 16, in eight lanes (FIPS 205, section 11.2), and the
-//! hash value before it.
-ghost use Rattle.std.specs.Prelude.{◌≡◌, ℕ, ◌/◌, ◌<◌, ◌⊎◌, length, take};
+//! The block after PK.seed's that F and PRF hash, and H if n is 16, in each lane (FIPS 205, section 11.2), and the hash
+//! value before it.
+ghost use Rattle.std.specs.Prelude.{◌≡◌, ℕ, ◌/◌, ◌<◌, ◌⊎◌, length, slice_index, take};
 ghost use Rattle.sha2.specs.Sha256.{digest_bytes, hash_after, initial_hash_256};
 ghost use Rattle.slh_lanes.specs.Block.{marked, second_block};
-ghost use Rattle.slh_lanes.specs.Columns.{column, HasWords};
+ghost use Rattle.slh_lanes.specs.Columns.{column, lane_column, HasWords};
 
 use crate::bytes::load_all;
 use crate::eight_blocks::compress;
-use crate::lane_adrs::LaneAdrs;
-use crate::lane_nodes::LaneNodes;
-use crate::words::{GROUP, Words, halves, high, tell_all};
+use crate::short_lanes::{ShortLanes, tell_all};
+use crate::words::{GROUP, Words};
 
 /// The length of a block of SHA-256 in bytes.
 pub(crate) const BLOCK_LEN: usize = 64;
@@ -60,21 +59,21 @@ pub(crate) fn hash_after(bytes: &[u8]) -> [u32; 8]
     first_lane(&state)
 }
 
-/// Eight words, each in all eight lanes.
+/// Eight words, each in all lanes.
 #[inline(always)]
-pub(crate) fn splat_all(words: &[u32; 8]) -> [Words; 8]
-    ensures { (j : ℕ) → j < GROUP → column j result ≡ words.now }
+pub(crate) fn splat_all<W: ShortLanes>(words: &[u32; 8]) -> [W; 8]
+    ensures { (j : ℕ) → j < W.LANES → lane_column W.lane j result ≡ words.now }
 {
     let [a, b, c, d, e, f, g, h] = *words;
     [
-        Words::splat(a),
-        Words::splat(b),
-        Words::splat(c),
-        Words::splat(d),
-        Words::splat(e),
-        Words::splat(f),
-        Words::splat(g),
-        Words::splat(h),
+        W::splat(a),
+        W::splat(b),
+        W::splat(c),
+        W::splat(d),
+        W::splat(e),
+        W::splat(f),
+        W::splat(g),
+        W::splat(h),
     ]
 }
 
@@ -83,12 +82,12 @@ pub(crate) const TWEAK_LEN: u32 = 64 + 22;
 
 /// The words of a value of n bytes, the word that begins the padding, and zeros.
 #[inline(always)]
-fn marked(x: &LaneNodes, n: usize) -> [Words; 9]
-    ensures { (j : ℕ) → j < GROUP → column j result ≡ marked n (column j x.now) }
+fn marked<W: ShortLanes>(x: &[W; 8], n: usize) -> [W; 9]
+    ensures { (j : ℕ) → j < W.LANES → lane_column W.lane j result ≡ marked n (lane_column W.lane j x.now) }
 {
     let [a, b, c, d, e, f, g, h] = *x;
-    let mark = Words::splat(0x8000_0000);
-    let zero = Words::splat(0);
+    let mark = W::splat(0x8000_0000);
+    let zero = W::splat(0);
     if n == 16 {
         [a, b, c, d, mark, zero, zero, zero, zero]
     } else if n == 24 {
@@ -100,11 +99,14 @@ fn marked(x: &LaneNodes, n: usize) -> [Words; 9]
 
 /// The 22 bytes of the address, the n bytes of the value, and the padding.
 #[inline(always)]
-pub(crate) fn second_block(n: usize, adrs: &LaneAdrs, x: &LaneNodes) -> [Words; 16]
+pub(crate) fn second_block<W: ShortLanes>(n: usize, adrs: &[W; 6], x: &[W; 8]) -> [W; 16]
     requires { (n ≡ 16) ⊎ (n ≡ 24) ⊎ (n ≡ 32) }
-    ensures { (j : ℕ) → j < GROUP → HasWords
-        (second_block (take 22 (digest_bytes (column j adrs.now) 6)) (take n (digest_bytes (column j x.now) 8)))
-        (column j result) }
+    ensures words { (j : ℕ) → j < W.LANES → HasWords
+        (second_block (take 22 (digest_bytes (lane_column W.lane j adrs.now) 6))
+        (take n (digest_bytes (lane_column W.lane j x.now) 8)))
+        (lane_column W.lane j result) }
+    ensures front { (j k : ℕ) → k < 5
+        → slice_index (lane_column W.lane j result) k ≡ slice_index (lane_column W.lane j adrs.now) k }
 {
     tell_all(adrs);
     tell_all(x);
@@ -115,16 +117,16 @@ pub(crate) fn second_block(n: usize, adrs: &LaneAdrs, x: &LaneNodes) -> [Words; 
         adrs[2],
         adrs[3],
         adrs[4],
-        halves(high(adrs[5]), m[0]),
-        halves(m[0], m[1]),
-        halves(m[1], m[2]),
-        halves(m[2], m[3]),
-        halves(m[3], m[4]),
-        halves(m[4], m[5]),
-        halves(m[5], m[6]),
-        halves(m[6], m[7]),
-        halves(m[7], m[8]),
-        Words::splat(0),
-        Words::splat((TWEAK_LEN + n as u32) * 8),
+        adrs[5].high().halves(m[0]),
+        m[0].halves(m[1]),
+        m[1].halves(m[2]),
+        m[2].halves(m[3]),
+        m[3].halves(m[4]),
+        m[4].halves(m[5]),
+        m[5].halves(m[6]),
+        m[6].halves(m[7]),
+        m[7].halves(m[8]),
+        W::splat(0),
+        W::splat((TWEAK_LEN + n as u32) * 8),
     ]
 }

@@ -1,11 +1,18 @@
-//! Eight blocks of SHA-256 at once (FIPS 180-4, section 6.2.2), in vectors of as many lanes as the build has.
+//! Eight blocks of SHA-256 or SHA-512 at once (FIPS 180-4, sections 6.2.2 and 6.4.2), in vectors of as many lanes as the
+//! build has.
 ghost use Rattle.std.specs.Prelude.{◌≡◌, ◌⊎◌, ℕ, ◌+◌, ◌<◌, ◌≤◌, List, slice_index};
 ghost use Rattle.sha2.specs.Sha256.{compress, digest_bytes};
+ghost use Rattle.sha2.specs.Sha512.{compress as compress_long};
 ghost use Rattle.slh_lanes.specs.Columns.{column, lane_column, HasWords};
+ghost use Rattle.slh_lanes.specs.LongBlock.{HasLongWords};
+ghost use Rattle.slh_lanes.specs.Room.{HasRoom};
 
-use crate::part::Part;
-use crate::sha256_lanes;
-use crate::words::{GROUP, Words, tell_all};
+use crate::lanes::Lanes;
+use crate::long_words::LongWords;
+use crate::part::{Part, part_of_eight, part_of_sixteen, with_eight};
+use crate::rounds;
+use crate::short_lanes::tell_all;
+use crate::words::{GROUP, Words, is_above};
 use slh_width::{Width, build_widths};
 use std::simd::prelude::*;
 
@@ -30,99 +37,70 @@ pub(crate) fn compress_each(state: &mut [Words; 8], block: &[Words; 16], step: u
     match build_widths().short {
         Width::One => {
             'lanes: for first in 0..GROUP {
-                compress_part::<u32>(state, block, first, step, counts);
+                compress_running::<Simd<u32, 1>>(state, block, first, 1, step, counts);
             }
         }
         Width::Four => {
-            compress_part::<u32x4>(state, block, 0, step, counts);
-            compress_part::<u32x4>(state, block, 4, step, counts);
+            compress_running::<u32x4>(state, block, 0, 4, step, counts);
+            compress_running::<u32x4>(state, block, 4, 4, step, counts);
         }
-        Width::Eight | Width::Sixteen => sha256_lanes::compress(state, block),
+        Width::Eight | Width::Sixteen => rounds::compress(state, block),
     }
 }
 
-/// The compressions in the lanes from `first` on, unless none of them has a step left.
-fn compress_part<W: Part>(
+/// The compressions in `len` lanes from `first` on, unless none of them has a step left.
+fn compress_running<W: Part<Words>>(
     state: &mut [Words; 8],
     block: &[Words; 16],
     first: usize,
+    len: usize,
     step: u32,
     counts: Words,
 )
-    requires { first + W.LANES ≤ GROUP }
+    requires room { HasRoom W.row }
+    requires len { len ≡ W.LANES }
+    requires lanes { first + W.LANES ≤ GROUP }
     ensures words { (j : ℕ) → j < W.LANES → step < slice_index counts (first + j) → (b : List ℕ)
-        → HasWords b (column (first + j) block.now)
-        → column (first + j) state.new ≡ compress (column (first + j) state.old) b }
+        → ((k : ℕ) → k < 16 → W.word b k ≡ slice_index (column (first + j) block.now) k)
+        → column (first + j) state.new ≡ W.compress (column (first + j) state.old) b }
     ensures others { (i : ℕ) → (i < first) ⊎ (first + W.LANES ≤ i) → column i state.new ≡ column i state.old }
 {
-    W::room();
-    if W::part(counts, first).has_above(step) {
-        let mut part = part_of_state::<W>(state, first);
-        sha256_lanes::compress(&mut part, &part_of_block(block, first));
-        put_part(state, part, first);
+    if is_above(counts, first, len, step) {
+        compress_part::<Words, W>(state, block, first);
     }
 }
 
-#[inline(always)]
-fn part_of_state<W: Part>(state: &[Words; 8], first: usize) -> [W; 8]
-    requires { first + W.LANES ≤ GROUP }
-    ensures { (j : ℕ) → j < W.LANES → lane_column W.lane j result ≡ column (first + j) state.now }
+/// Eight compressions of SHA-512 at once: column `j` of the state takes in the block whose words are column `j` of
+/// `block`.
+pub(crate) fn compress_long(state: &mut [LongWords; 8], block: &[LongWords; 16])
+    ensures { (j : ℕ) → j < GROUP → (b : List ℕ) → HasLongWords b (column j block.now)
+        → column j state.new ≡ compress_long (column j state.old) b }
 {
-    let [a, b, c, d, e, f, g, h] = *state;
-    [
-        W::part(a, first),
-        W::part(b, first),
-        W::part(c, first),
-        W::part(d, first),
-        W::part(e, first),
-        W::part(f, first),
-        W::part(g, first),
-        W::part(h, first),
-    ]
+    match build_widths().long {
+        Width::One => {
+            'lanes: for first in 0..GROUP {
+                compress_part::<LongWords, Simd<u64, 1>>(state, block, first);
+            }
+        }
+        Width::Four => {
+            compress_part::<LongWords, u64x4>(state, block, 0);
+            compress_part::<LongWords, u64x4>(state, block, 4);
+        }
+        Width::Eight | Width::Sixteen => rounds::compress(state, block),
+    }
 }
 
-#[inline(always)]
-fn part_of_block<W: Part>(block: &[Words; 16], first: usize) -> [W; 16]
-    requires { first + W.LANES ≤ GROUP }
-    ensures { (j : ℕ) → j < W.LANES → lane_column W.lane j result ≡ column (first + j) block.now }
+/// The compressions in the lanes from `first` on.
+fn compress_part<G: Lanes, W: Part<G>>(state: &mut [G; 8], block: &[G; 16], first: usize)
+    requires room { HasRoom W.row }
+    requires lanes { first + W.LANES ≤ G.LANES }
+    ensures words { (j : ℕ) → j < W.LANES → (b : List ℕ)
+        → ((k : ℕ) → k < 16 → W.word b k ≡ slice_index (lane_column G.lane (first + j) block.now) k)
+        → lane_column G.lane (first + j) state.new ≡ W.compress (lane_column G.lane (first + j) state.old) b }
+    ensures others { (i : ℕ) → (i < first) ⊎ (first + W.LANES ≤ i)
+        → lane_column G.lane i state.new ≡ lane_column G.lane i state.old }
 {
-    let [a, b, c, d, e, f, g, h, i, j, k, l, m, n, o, p] = *block;
-    [
-        W::part(a, first),
-        W::part(b, first),
-        W::part(c, first),
-        W::part(d, first),
-        W::part(e, first),
-        W::part(f, first),
-        W::part(g, first),
-        W::part(h, first),
-        W::part(i, first),
-        W::part(j, first),
-        W::part(k, first),
-        W::part(l, first),
-        W::part(m, first),
-        W::part(n, first),
-        W::part(o, first),
-        W::part(p, first),
-    ]
-}
-
-#[inline(always)]
-fn put_part<W: Part>(state: &mut [Words; 8], part: [W; 8], first: usize)
-    requires { first + W.LANES ≤ GROUP }
-    ensures put { (j : ℕ) → j < W.LANES → column (first + j) state.new ≡ lane_column W.lane j part }
-    ensures others { (i : ℕ) → (i < first) ⊎ (first + W.LANES ≤ i) → column i state.new ≡ column i state.old }
-{
-    let [a, b, c, d, e, f, g, h] = *state;
-    let [p, q, r, s, t, u, v, w] = part;
-    *state = [
-        p.put(a, first),
-        q.put(b, first),
-        r.put(c, first),
-        s.put(d, first),
-        t.put(e, first),
-        u.put(f, first),
-        v.put(g, first),
-        w.put(h, first),
-    ];
+    let mut part = part_of_eight::<G, W>(state, first);
+    rounds::compress(&mut part, &part_of_sixteen::<G, W>(block, first));
+    *state = with_eight(state, &part, first);
 }

@@ -5,7 +5,8 @@ ghost use Rattle.slh_lanes.specs.Columns.{column};
 ghost use Rattle.slh_lanes.specs.Lanes.{HasAddress};
 
 use crate::bytes::load_all;
-use crate::words::{GROUP, Words, halves, high, low, put_words, tell_all};
+use crate::short_lanes::{ShortLanes, tell_all};
+use crate::words::{GROUP, Words, put_words};
 use slh_params::Adrs;
 
 /// The addresses of eight hash calls, one in each lane: the 22 bytes of the compressed form as six words, of which the
@@ -53,8 +54,8 @@ pub fn set_pairs(adrs: &mut LaneAdrs, pairs: Words)
         → HasAddress adrs.new j (record a { key_pair = slice_index pairs j }) }
 {
     tell_all(adrs);
-    adrs[2] = halves(high(adrs[2]), pairs);
-    adrs[3] = halves(pairs, low(adrs[3]));
+    adrs[2] = adrs[2].high().halves(pairs);
+    adrs[3] = pairs.halves(adrs[3].low());
 }
 
 /// setChainAddress in each lane: the chain of a WOTS+ key, or the height of a node.
@@ -63,8 +64,8 @@ pub fn set_chains(adrs: &mut LaneAdrs, chains: Words)
         → HasAddress adrs.new j (record a { chain = slice_index chains j }) }
 {
     tell_all(adrs);
-    adrs[3] = halves(high(adrs[3]), chains);
-    adrs[4] = halves(chains, low(adrs[4]));
+    adrs[3] = adrs[3].high().halves(chains);
+    adrs[4] = chains.halves(adrs[4].low());
 }
 
 /// setHashAddress in each lane: the step of a chain, or the index of a node.
@@ -74,6 +75,6 @@ pub fn set_hashes(adrs: &mut LaneAdrs, hashes: Words)
         → HasAddress adrs.new j (record a { hash = slice_index hashes j }) }
 {
     tell_all(adrs);
-    adrs[4] = halves(high(adrs[4]), hashes);
-    adrs[5] = low(hashes);
+    adrs[4] = adrs[4].high().halves(hashes);
+    adrs[5] = hashes.low();
 }

@@ -4,25 +4,24 @@
 
 mod block;
 mod bytes;
+mod chains;
+mod constants;
 mod eight_blocks;
 mod hmac_lanes;
+mod joined;
 mod lane_adrs;
 mod lane_nodes;
 mod lane_seeds;
 mod lane_stream;
 mod lanes;
 mod long_block;
-mod long_eight_blocks;
-mod long_lanes;
-mod long_part;
 mod long_stream;
 mod long_words;
 mod part;
+mod rounds;
 mod seeded_lanes;
-mod sha256_lanes;
-mod sha512_lanes;
+mod short_lanes;
 mod short_stream;
-mod sixteen_blocks;
 mod words;
 
 pub use eight_blocks::compress;

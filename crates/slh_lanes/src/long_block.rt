@@ -9,7 +9,8 @@ ghost use Rattle.slh_lanes.specs.LongBlock.{HasLongWords, long_second_block, mar
 use crate::lane_adrs::LaneAdrs;
 use crate::lane_nodes::LaneNodes;
 use crate::long_words::{LongWords, high_words, long_word, long_word_of_halves, low_words};
-use crate::words::{GROUP, Words, halves, high, tell_all};
+use crate::short_lanes::{ShortLanes, tell_all};
+use crate::words::{GROUP, Words};
 
 /// The initial hash value of SHA-512 (FIPS 180-4, section 5.3.5) in each lane.
 pub(crate) fn initial() -> [LongWords; 8]
@@ -103,7 +104,7 @@ pub(crate) fn second_block(
     [
         long_word(adrs[0], adrs[1]),
         long_word(adrs[2], adrs[3]),
-        long_word(adrs[4], halves(high(adrs[5]), m[0])),
+        long_word(adrs[4], adrs[5].high().halves(m[0])),
         long_word_of_halves(m[0], m[1], m[2]),
         long_word_of_halves(m[2], m[3], m[4]),
         long_word_of_halves(m[4], m[5], m[6]),

@@ -9,13 +9,14 @@ ghost use Rattle.slh_lanes.specs.LongBlock.{HasLongWords};
 ghost use Rattle.slh_lanes.specs.Lanes.{HasAddress};
 ghost use Rattle.slh_lanes.specs.Streams.{HoldsLongAt, half_on, long_vectors, vectors};
 
+use crate::eight_blocks::compress_long;
 use crate::lane_adrs::LaneAdrs;
 use crate::lane_nodes::LaneNodes;
 use crate::long_block::LONG_TWEAK_LEN;
-use crate::long_eight_blocks::compress;
 use crate::long_words::{LongVector, LongWords, long_word_of_halves};
+use crate::short_lanes::ShortLanes;
 use crate::short_stream::address_words;
-use crate::words::{GROUP, Vector, Words, high, low, tell_words};
+use crate::words::{GROUP, Vector, Words};
 
 /// SHA-512 of eight messages of the same length, as far as they have come.
 ///
@@ -68,9 +69,9 @@ fn shifted(words: &[Vector; 33]) -> [LongWords; 16]
         let first = words[2 * k].words;
         let second = words[2 * k + 1].words;
         let third = words[2 * k + 2].words;
-        tell_words(first);
-        tell_words(second);
-        tell_words(third);
+        first.tell_short();
+        second.tell_short();
+        third.tell_short();
         block[k] = long_word_of_halves(first, second, third);
     }
     block
@@ -128,7 +129,7 @@ impl LongStream {
             (take 128 (half_on (column j (vectors self.old.words)) 33)) }
     {
         let mut state = bare(&self.state);
-        compress(&mut state, &shifted(&self.words));
+        compress_long(&mut state, &shifted(&self.words));
         self.state = wrapped(&state);
     }
 
@@ -155,8 +156,8 @@ impl LongStream {
         'zeros: for _ in 0..zeros / 4 + 2 {
             self.push(Words::splat(0));
         }
-        self.push(high(bits));
-        self.push(low(bits));
+        self.push(bits.high());
+        self.push(bits.low());
         bare(&self.state)
     }
 }

@@ -3,7 +3,8 @@ ghost use Rattle.std.specs.Prelude.{◌≡◌, ◌≢◌, ℕ, ◌/◌, ◌%◌,
 ghost use Rattle.slh_lanes.specs.Columns.{column};
 ghost use Rattle.slh_lanes.specs.LongBlock.{long_word, long_word_of_halves};
 
-use crate::words::{GROUP, Words, halves};
+use crate::short_lanes::ShortLanes;
+use crate::words::{GROUP, Words};
 use std::simd::prelude::*;
 
 /// Eight words of 64 bits, one in each lane.
@@ -29,7 +30,7 @@ pub(crate) fn long_word_of_halves(p: Words, q: Words, r: Words) -> LongWords
     ensures { (j : ℕ) → j < GROUP → slice_index result j
         ≡ long_word_of_halves (slice_index p j) (slice_index q j) (slice_index r j) }
 {
-    long_word(halves(p, q), halves(q, r))
+    long_word(p.halves(q), q.halves(r))
 }
 
 // The high 32 bits of each word.

@@ -1,129 +1,208 @@
-//! Parts of a group of words of 32 bits: some of its lanes, one after another (ours).
-ghost use Rattle.std.specs.Prelude.{◌≡◌, ◌⊎◌, ℕ, ◌+◌, ◌<◌, ◌≤◌, true, slice_index};
-ghost use Rattle.slh_lanes.specs.Room.{HasRoom};
+//! Parts of a group: some of its lanes, one after another (ours).
+ghost use Rattle.std.specs.Prelude.{◌≡◌, ◌⊎◌, ℕ, ◌+◌, ◌<◌, ◌≤◌, slice_index};
+ghost use Rattle.slh_lanes.specs.Columns.{lane_column};
 
 use crate::lanes::Lanes;
-use crate::words::{GROUP, Words};
 use std::simd::prelude::*;
 
 /// Lanes that are a part of a group.
-pub(crate) trait Part: Lanes {
-    /// The fact of the type about its size. It runs no code.
-    fn room()
-        ensures { HasRoom Self.row };
-
+pub(crate) trait Part<G: Lanes>: Lanes {
     /// The lanes from `first` on.
-    fn part(words: Words, first: usize) -> Self
-        requires { first + Self.LANES ≤ GROUP }
-        ensures { (j : ℕ) → j < Self.LANES → Self.lane result j ≡ slice_index words (first + j) };
+    fn part(group: G, first: usize) -> Self
+        requires { first + Self.LANES ≤ G.LANES }
+        ensures { (j : ℕ) → j < Self.LANES → Self.lane result j ≡ G.lane group (first + j) };
 
     /// The group with these lanes from `first` on.
-    fn put(self, words: Words, first: usize) -> Words
-        requires { first + Self.LANES ≤ GROUP }
-        ensures put { (j : ℕ) → j < Self.LANES → slice_index result (first + j) ≡ Self.lane self j }
-        ensures others { (i : ℕ) → (i < first) ⊎ (first + Self.LANES ≤ i) → slice_index result i ≡ slice_index words i };
-
-    /// Whether the word of a lane is above this number.
-    fn has_above(self, number: u32) -> bool
-        ensures { (j : ℕ) → j < Self.LANES → number < Self.lane self j → result ≡ true };
+    fn put(self, group: G, first: usize) -> G
+        requires { first + Self.LANES ≤ G.LANES }
+        ensures put { (j : ℕ) → j < Self.LANES → G.lane result (first + j) ≡ Self.lane self j }
+        ensures others { (i : ℕ) → (i < first) ⊎ (first + Self.LANES ≤ i) → G.lane result i ≡ G.lane group i };
 }
 
-impl Part for u32 {
+impl<const N: usize, const M: usize> Part<Simd<u32, M>> for Simd<u32, N> {
     #[inline(always)]
-    fn room() {}
-
-    #[inline(always)]
-    fn part(words: Words, first: usize) -> Self {
-        one_of(words, first)
+    fn part(group: Simd<u32, M>, first: usize) -> Self {
+        short_part(group, first)
     }
 
     #[inline(always)]
-    fn put(self, words: Words, first: usize) -> Words {
-        with_one(words, first, self)
-    }
-
-    #[inline(always)]
-    fn has_above(self, number: u32) -> bool {
-        number < self
+    fn put(self, group: Simd<u32, M>, first: usize) -> Simd<u32, M> {
+        with_short_part(group, first, self)
     }
 }
 
-impl Part for u32x4 {
+impl<const N: usize, const M: usize> Part<Simd<u64, M>> for Simd<u64, N> {
     #[inline(always)]
-    fn room() {}
-
-    #[inline(always)]
-    fn part(words: Words, first: usize) -> Self {
-        four_of(words, first)
+    fn part(group: Simd<u64, M>, first: usize) -> Self {
+        long_part(group, first)
     }
 
     #[inline(always)]
-    fn put(self, words: Words, first: usize) -> Words {
-        with_four(words, first, self)
-    }
-
-    #[inline(always)]
-    fn has_above(self, number: u32) -> bool {
-        number < most_of_four(self)
+    fn put(self, group: Simd<u64, M>, first: usize) -> Simd<u64, M> {
+        with_long_part(group, first, self)
     }
 }
 
 #[inline(always)]
-fn one_of(words: Words, first: usize) -> u32
-    requires { first + 1 ≤ GROUP }
-    ensures { (j : ℕ) → j < 1 → result ≡ slice_index words (first + j) }
+fn short_part<const N: usize, const M: usize>(group: Simd<u32, M>, first: usize) -> Simd<u32, N>
+    requires { first + N ≤ M }
+    ensures { (j : ℕ) → j < N → slice_index result j ≡ slice_index group.entry (first + j) }
 {
-    words.to_array()[first]
-}
-
-#[inline(always)]
-fn with_one(words: Words, first: usize, word: u32) -> Words
-    requires { first + 1 ≤ GROUP }
-    ensures put { (j : ℕ) → j < 1 → slice_index result (first + j) ≡ word }
-    ensures others { (i : ℕ) → (i < first) ⊎ (first + 1 ≤ i) → slice_index result i ≡ slice_index words i }
-{
-    let mut lanes = words.to_array();
-    lanes[first] = word;
-    Words::from_array(lanes)
-}
-
-#[inline(always)]
-fn four_of(words: Words, first: usize) -> u32x4
-    requires { first + 4 ≤ GROUP }
-    ensures { (j : ℕ) → j < 4 → slice_index result j ≡ slice_index words (first + j) }
-{
-    let lanes = words.to_array();
-    u32x4::from_array([
-        lanes[first],
-        lanes[first + 1],
-        lanes[first + 2],
-        lanes[first + 3],
-    ])
-}
-
-#[inline(always)]
-fn with_four(words: Words, first: usize, four: u32x4) -> Words
-    requires { first + 4 ≤ GROUP }
-    ensures put { (j : ℕ) → j < 4 → slice_index result (first + j) ≡ slice_index four j }
-    ensures others { (i : ℕ) → (i < first) ⊎ (first + 4 ≤ i) → slice_index result i ≡ slice_index words i }
-{
-    let [a, b, c, d] = four.to_array();
-    let mut lanes = words.to_array();
-    lanes[first] = a;
-    lanes[first + 1] = b;
-    lanes[first + 2] = c;
-    lanes[first + 3] = d;
-    Words::from_array(lanes)
-}
-
-// The largest word of four lanes.
-#[inline(always)]
-fn most_of_four(words: u32x4) -> u32
-    ensures { (j : ℕ) → j < 4 → slice_index words j ≤ result }
-{
-    let mut most = 0;
-    for word in words.to_array() {
-        most = most.max(word);
+    let words = group.to_array();
+    let mut part = [0; N];
+    'lanes: for j in 0..N {
+        part[j] = words[first + j];
     }
-    most
+    Simd::from_array(part)
+}
+
+#[inline(always)]
+fn with_short_part<const N: usize, const M: usize>(
+    group: Simd<u32, M>,
+    first: usize,
+    part: Simd<u32, N>,
+) -> Simd<u32, M>
+    requires { first + N ≤ M }
+    ensures put { (j : ℕ) → j < N → slice_index result (first + j) ≡ slice_index part.entry j }
+    ensures others { (i : ℕ) → (i < first) ⊎ (first + N ≤ i) → slice_index result i ≡ slice_index group.entry i }
+{
+    let own = part.to_array();
+    let mut words = group.to_array();
+    'lanes: for j in 0..N {
+        words[first + j] = own[j];
+    }
+    Simd::from_array(words)
+}
+
+#[inline(always)]
+fn long_part<const N: usize, const M: usize>(group: Simd<u64, M>, first: usize) -> Simd<u64, N>
+    requires { first + N ≤ M }
+    ensures { (j : ℕ) → j < N → slice_index result j ≡ slice_index group.entry (first + j) }
+{
+    let words = group.to_array();
+    let mut part = [0; N];
+    'lanes: for j in 0..N {
+        part[j] = words[first + j];
+    }
+    Simd::from_array(part)
+}
+
+#[inline(always)]
+fn with_long_part<const N: usize, const M: usize>(
+    group: Simd<u64, M>,
+    first: usize,
+    part: Simd<u64, N>,
+) -> Simd<u64, M>
+    requires { first + N ≤ M }
+    ensures put { (j : ℕ) → j < N → slice_index result (first + j) ≡ slice_index part.entry j }
+    ensures others { (i : ℕ) → (i < first) ⊎ (first + N ≤ i) → slice_index result i ≡ slice_index group.entry i }
+{
+    let own = part.to_array();
+    let mut words = group.to_array();
+    'lanes: for j in 0..N {
+        words[first + j] = own[j];
+    }
+    Simd::from_array(words)
+}
+
+// The lanes from `first` on of as many vectors.
+#[inline(always)]
+pub(crate) fn part_of_six<G: Lanes, W: Part<G>>(vectors: &[G; 6], first: usize) -> [W; 6]
+    requires { first + W.LANES ≤ G.LANES }
+    ensures { (j : ℕ) → j < W.LANES → lane_column W.lane j result ≡ lane_column G.lane (first + j) vectors.now }
+{
+    let [a, b, c, d, e, f] = *vectors;
+    [
+        W::part(a, first),
+        W::part(b, first),
+        W::part(c, first),
+        W::part(d, first),
+        W::part(e, first),
+        W::part(f, first),
+    ]
+}
+
+#[inline(always)]
+pub(crate) fn part_of_eight<G: Lanes, W: Part<G>>(vectors: &[G; 8], first: usize) -> [W; 8]
+    requires { first + W.LANES ≤ G.LANES }
+    ensures { (j : ℕ) → j < W.LANES → lane_column W.lane j result ≡ lane_column G.lane (first + j) vectors.now }
+{
+    let [a, b, c, d, e, f, g, h] = *vectors;
+    [
+        W::part(a, first),
+        W::part(b, first),
+        W::part(c, first),
+        W::part(d, first),
+        W::part(e, first),
+        W::part(f, first),
+        W::part(g, first),
+        W::part(h, first),
+    ]
+}
+
+#[inline(always)]
+pub(crate) fn part_of_sixteen<G: Lanes, W: Part<G>>(vectors: &[G; 16], first: usize) -> [W; 16]
+    requires { first + W.LANES ≤ G.LANES }
+    ensures { (j : ℕ) → j < W.LANES → lane_column W.lane j result ≡ lane_column G.lane (first + j) vectors.now }
+{
+    let [a, b, c, d, e, f, g, h, i, j, k, l, m, n, o, p] = *vectors;
+    [
+        W::part(a, first),
+        W::part(b, first),
+        W::part(c, first),
+        W::part(d, first),
+        W::part(e, first),
+        W::part(f, first),
+        W::part(g, first),
+        W::part(h, first),
+        W::part(i, first),
+        W::part(j, first),
+        W::part(k, first),
+        W::part(l, first),
+        W::part(m, first),
+        W::part(n, first),
+        W::part(o, first),
+        W::part(p, first),
+    ]
+}
+
+// The vectors with these lanes from `first` on.
+#[inline(always)]
+pub(crate) fn with_six<G: Lanes, W: Part<G>>(vectors: &[G; 6], own: &[W; 6], first: usize) -> [G; 6]
+    requires { first + W.LANES ≤ G.LANES }
+    ensures part { (j : ℕ) → j < W.LANES → lane_column G.lane (first + j) result ≡ lane_column W.lane j own.now }
+    ensures others { (i : ℕ) → (i < first) ⊎ (first + W.LANES ≤ i)
+        → lane_column G.lane i result ≡ lane_column G.lane i vectors.now }
+{
+    [
+        own[0].put(vectors[0], first),
+        own[1].put(vectors[1], first),
+        own[2].put(vectors[2], first),
+        own[3].put(vectors[3], first),
+        own[4].put(vectors[4], first),
+        own[5].put(vectors[5], first),
+    ]
+}
+
+#[inline(always)]
+pub(crate) fn with_eight<G: Lanes, W: Part<G>>(
+    vectors: &[G; 8],
+    own: &[W; 8],
+    first: usize,
+) -> [G; 8]
+    requires { first + W.LANES ≤ G.LANES }
+    ensures part { (j : ℕ) → j < W.LANES → lane_column G.lane (first + j) result ≡ lane_column W.lane j own.now }
+    ensures others { (i : ℕ) → (i < first) ⊎ (first + W.LANES ≤ i)
+        → lane_column G.lane i result ≡ lane_column G.lane i vectors.now }
+{
+    [
+        own[0].put(vectors[0], first),
+        own[1].put(vectors[1], first),
+        own[2].put(vectors[2], first),
+        own[3].put(vectors[3], first),
+        own[4].put(vectors[4], first),
+        own[5].put(vectors[5], first),
+        own[6].put(vectors[6], first),
+        own[7].put(vectors[7], first),
+    ]
 }

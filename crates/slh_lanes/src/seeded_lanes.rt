@@ -15,17 +15,20 @@ ghost use Rattle.slh_lanes.specs.Steps.{steps};
 
 use crate::block::{BLOCK_LEN, hash_after, second_block, splat_all};
 use crate::bytes::load_all_long;
-use crate::eight_blocks::{compress, compress_each};
+use crate::chains::{run, run_part};
+use crate::eight_blocks::{compress, compress_each, compress_long};
+use crate::joined::{join_adrs, join_nodes, split_nodes};
 use crate::lane_adrs::{LaneAdrs, set_hashes};
 use crate::lane_nodes::{LaneNodes, node_lanes, pick_nodes, two_short};
 use crate::long_block::{
     first_lane, initial, second_block as second_long_block, splat_all as splat_all_long, truncated,
 };
-use crate::long_eight_blocks::compress as compress_long;
 use crate::long_words::LongWords;
-use crate::sixteen_blocks::compress_two;
+use crate::rounds;
 use crate::words::{GROUP, Words, add, most};
 use slh_params::ParamSet;
+use slh_width::{Width, build_widths};
+use std::simd::prelude::*;
 
 /// F, PRF and H of eight addresses under one PK.seed of n bytes, after the first block, which PK.seed and zeros fill. They
 /// are SHA-256 in eight lanes. H is SHA-512 if n is 24 or 32.
@@ -164,18 +167,27 @@ impl<'a> SeededLanes<'a> {
 
     /// Runs eight chains on from their values after `from` steps, each by `count` steps (section 5, Algorithm 5).
     pub fn chains(&self, adrs: &LaneAdrs, x: &LaneNodes, from: u32, count: u32) -> LaneNodes
-        requires { from + count ≤ 2 ^ 32 }
+        requires { from + count ≤ 2 ^ 16 }
         ensures { (j : ℕ) → j < GROUP → (a : Address) → HasAddress adrs.now j a
             → let p = params self.now.set in
             value_at result j p.n ≡ steps p self.now.pk_seed.now a (value_at x.now j p.n) from count }
     {
-        let mut nodes = *x;
-        for step in 0..count {
-            let mut here = *adrs;
-            set_hashes(&mut here, Words::splat(from + step));
-            nodes = self.f(&here, &nodes);
+        let n = self.set.n();
+        let short = &self.short;
+        match build_widths().short {
+            Width::One => {
+                let mut nodes = *x;
+                'lanes: for first in 0..GROUP {
+                    nodes = run_part::<Simd<u32, 1>>(short, n, adrs, &nodes, first, from, count);
+                }
+                nodes
+            }
+            Width::Four => {
+                let low = run_part::<u32x4>(short, n, adrs, x, 0, from, count);
+                run_part::<u32x4>(short, n, adrs, &low, 4, from, count)
+            }
+            Width::Eight | Width::Sixteen => run(short, n, adrs, x, from, count),
         }
-        nodes
     }
 
     /// Runs the chains of two groups of eight on, each from its value after `from` steps by `count` steps. Those in `x`
@@ -189,7 +201,7 @@ impl<'a> SeededLanes<'a> {
         from: u32,
         count: u32,
     )
-        requires { from + count ≤ 2 ^ 32 }
+        requires { from + count ≤ 2 ^ 16 }
         ensures x { (j : ℕ) → j < GROUP → (a : Address) → HasAddress x_adrs.now j a
             → let p = params self.now.set in
             value_at x.new j p.n ≡ steps p self.now.pk_seed.now a (value_at x.old j p.n) from count }
@@ -197,13 +209,17 @@ impl<'a> SeededLanes<'a> {
             → let p = params self.now.set in
             value_at y.new j p.n ≡ steps p self.now.pk_seed.now a (value_at y.old j p.n) from count }
     {
-        for step in 0..count {
-            let number = Words::splat(from + step);
-            let mut x_here = *x_adrs;
-            let mut y_here = *y_adrs;
-            set_hashes(&mut x_here, number);
-            set_hashes(&mut y_here, number);
-            self.f_two(&x_here, &y_here, x, y);
+        match build_widths().short {
+            Width::Sixteen => {
+                let adrs = join_adrs(x_adrs, y_adrs);
+                let nodes = join_nodes(x, y);
+                let ends = run(&self.short, self.set.n(), &adrs, &nodes, from, count);
+                split_nodes(&ends, x, y);
+            }
+            Width::One | Width::Four | Width::Eight => {
+                *x = self.chains(x_adrs, x, from, count);
+                *y = self.chains(y_adrs, y, from, count);
+            }
         }
     }
 
@@ -311,11 +327,19 @@ impl<'a> SeededLanes<'a> {
             → let p = params self.now.set in
             value_at y.new j p.n ≡ tweaked_hash SHA_256 p self.now.pk_seed.now a (value_at y.old j len) }
     {
-        let x_block = second_block(len, x_adrs, x);
-        let y_block = second_block(len, y_adrs, y);
-        *x = splat_all(&self.short);
-        *y = *x;
-        compress_two(x, y, &x_block, &y_block);
+        match build_widths().short {
+            Width::Sixteen => {
+                let mut state = splat_all(&self.short);
+                let adrs = join_adrs(x_adrs, y_adrs);
+                let nodes = join_nodes(x, y);
+                rounds::compress(&mut state, &second_block(len, &adrs, &nodes));
+                split_nodes(&state, x, y);
+            }
+            Width::One | Width::Four | Width::Eight => {
+                *x = self.digests(x_adrs, x, len);
+                *y = self.digests(y_adrs, y, len);
+            }
+        }
     }
 }
 

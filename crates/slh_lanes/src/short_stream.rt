@@ -11,7 +11,8 @@ use crate::block::TWEAK_LEN;
 use crate::eight_blocks::compress;
 use crate::lane_adrs::LaneAdrs;
 use crate::lane_nodes::LaneNodes;
-use crate::words::{GROUP, Vector, Words, halves, high, low, tell_all, tell_words};
+use crate::short_lanes::{ShortLanes, tell_all};
+use crate::words::{GROUP, Vector, Words};
 
 /// SHA-256 of eight messages of the same length, as far as they have come.
 ///
@@ -61,9 +62,9 @@ fn shifted(words: &[Vector; 17]) -> [Words; 16]
 {
     let mut block = [Words::splat(0); 16];
     'words: for k in 0..16 {
-        tell_words(words[k].words);
-        tell_words(words[k + 1].words);
-        block[k] = halves(words[k].words, words[k + 1].words);
+        words[k].words.tell_short();
+        words[k + 1].words.tell_short();
+        block[k] = words[k].words.halves(words[k + 1].words);
     }
     block
 }
@@ -78,22 +79,22 @@ pub(crate) fn address_words(adrs: &LaneAdrs) -> [Vector; 17]
         words: Words::splat(0),
     }; 17];
     words[0] = Vector {
-        words: high(adrs[0]),
+        words: adrs[0].high(),
     };
     words[1] = Vector {
-        words: halves(adrs[0], adrs[1]),
+        words: adrs[0].halves(adrs[1]),
     };
     words[2] = Vector {
-        words: halves(adrs[1], adrs[2]),
+        words: adrs[1].halves(adrs[2]),
     };
     words[3] = Vector {
-        words: halves(adrs[2], adrs[3]),
+        words: adrs[2].halves(adrs[3]),
     };
     words[4] = Vector {
-        words: halves(adrs[3], adrs[4]),
+        words: adrs[3].halves(adrs[4]),
     };
     words[5] = Vector {
-        words: halves(adrs[4], adrs[5]),
+        words: adrs[4].halves(adrs[5]),
     };
     words
 }
@@ -163,8 +164,8 @@ impl ShortStream {
         'zeros: for _ in 0..zeros / 4 {
             self.push(Words::splat(0));
         }
-        self.push(high(bits));
-        self.push(low(bits));
+        self.push(bits.high());
+        self.push(bits.low());
         bare(&self.state)
     }
 }

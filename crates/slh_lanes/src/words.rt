@@ -1,7 +1,6 @@
 //! Vectors of eight words of 32 bits, one in each lane (ours).
-ghost use Rattle.std.specs.Prelude.{◌≡◌, ◌≢◌, ℕ, ◌+◌, ◌*◌, ◌/◌, ◌%◌, ◌^◌, ◌<◌, ◌≤◌, length, slice_index};
+ghost use Rattle.std.specs.Prelude.{◌≡◌, ◌≢◌, ℕ, ◌+◌, ◌*◌, ◌/◌, ◌%◌, ◌^◌, ◌<◌, ◌≤◌, length, slice_index, true};
 ghost use Rattle.sha2.specs.Sha256.{add32};
-ghost use Rattle.slh_lanes.specs.Block.{halves};
 ghost use Rattle.slh_lanes.specs.Columns.{column};
 
 use std::simd::prelude::*;
@@ -23,28 +22,6 @@ pub(crate) fn add(x: Words, y: Words) -> Words
     ensures { (j : ℕ) → j < GROUP → slice_index result j ≡ add32 (slice_index x j) (slice_index y j) }
 {
     x + y
-}
-
-// The low half of each word of `p` above the high half of `q`'s.
-#[inline(always)]
-pub(crate) fn halves(p: Words, q: Words) -> Words
-    ensures { (j : ℕ) → j < GROUP → slice_index result j ≡ halves (slice_index p j) (slice_index q j) }
-{
-    (p << 16) + (q >> 16)
-}
-
-#[inline(always)]
-pub(crate) fn high(p: Words) -> Words
-    ensures { (j : ℕ) → j < GROUP → slice_index result j ≡ slice_index p j / 2 ^ 16 }
-{
-    p >> 16
-}
-
-#[inline(always)]
-pub(crate) fn low(p: Words) -> Words
-    ensures { (j : ℕ) → j < GROUP → slice_index result j ≡ slice_index p j * 2 ^ 16 % 2 ^ 32 }
-{
-    p << 16
 }
 
 /// The numbers from `first` on, one in each lane.
@@ -143,18 +120,15 @@ pub(crate) fn most(words: Words) -> u32
     most
 }
 
-// The fact of the type about a vector: each lane is a word.
-#[inline(always)]
-pub(crate) fn tell_words(_x: Words)
-    ensures { (j : ℕ) → j < GROUP → slice_index _x j < 2 ^ 32 }
-{}
-
-// The same of each vector of a list. This runs no code.
-#[inline(always)]
-pub(crate) fn tell_all(vectors: &[Words])
-    ensures { (j : ℕ) → j < GROUP → (k : ℕ) → slice_index (column j vectors.now) k < 2 ^ 32 }
+/// Whether one of `len` words from `first` on is above a number.
+pub(crate) fn is_above(words: Words, first: usize, len: usize, number: u32) -> bool
+    requires { first + len ≤ GROUP }
+    ensures { (j : ℕ) → j < len → number < slice_index words (first + j) → result ≡ true }
 {
-    'told: for k in 0..vectors.len() {
-        tell_words(vectors[k]);
+    let each = words.to_array();
+    let mut above = false;
+    'lanes: for j in 0..len {
+        above = above || number < each[first + j];
     }
+    above
 }

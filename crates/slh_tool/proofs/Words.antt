@@ -12,7 +12,7 @@ use Rattle.clap.specs.Words.{ReadsOne, Text, is_simple}
 use Rattle.clap.specs.Faults.{is_simple_and_free}
 use Rattle.clap.specs.Kinds.{IsAmong, Kinds}
 use Rattle.clap.specs.declared.error.ErrorKind.{ErrorKind}
-use Rattle.clap.specs.declared.error.ErrorKind.TheVariants.{DisplayHelp, OutOfMemory}
+use Rattle.clap.specs.declared.error.ErrorKind.TheVariants.{OutOfMemory}
 use Rattle.std.proofs.KnownBytes.{Consumes-nil}
 use Rattle.slh_io.specs.Devices.{TakesAtMost}
 use Rattle.slh_tool.specs.Arguments.{slh_app}
@@ -24,10 +24,10 @@ slh_app_simple = refl
 pub slh_app_free : is_simple_and_free slh_app ≡ true
 slh_app_free = refl
 
--- an error of the kind help is among the faults
-pub help_among : (k : ErrorKind) (kinds : Kinds) → (k ≡ OutOfMemory) ⊎ IsAmong k kinds → DisplayHelp ≡ k → IsAmong DisplayHelp kinds
-help_among k kinds (inl o) e = cc (e ∙ o)
-help_among k kinds (inr a) e = subst (λ (x : ErrorKind). IsAmong x kinds) (sym e) a
+-- an error of a known kind, which is not memory, is among the faults
+pub known_among : (known k : ErrorKind) (kinds : Kinds) → (known ≢ OutOfMemory) → (k ≡ OutOfMemory) ⊎ IsAmong k kinds → known ≡ k → IsAmong known kinds
+known_among known k kinds other (inl o) e = absurd (other (e ∙ o))
+known_among known k kinds other (inr a) e = subst (λ (x : ErrorKind). IsAmong x kinds) (sym e) a
 
 -- an error of another kind than memory has a kind that may come
 pub among_other : (k : ErrorKind) (kinds : Kinds) → (k ≡ OutOfMemory) ⊎ IsAmong k kinds → (k ≢ OutOfMemory) → IsAmong k kinds

@@ -100,9 +100,9 @@ abbrev pub with_subcommands : App → List Shape → App
 with_subcommands a [] = a
 with_subcommands a (s ∷ rest) = with_subcommands (with_subcommand a s) rest
 
--- the program: its arguments are those after its name
+-- the program: its arguments are those after its name, and it has a version
 abbrev pub no_command : App
-no_command = on_top (λ s. record s { no_binary_name = true }) (new_app (codes "slh"))
+no_command = on_top (λ s. record s { no_binary_name = true; has_version = true }) (new_app (codes "slh"))
 
 -- the commands that take no key file
 abbrev pub seed_app : App

@@ -157,6 +157,10 @@ abbrev pub RefusesVerify : VerifyOptions → FilesState → FilesState → Fault
 RefusesVerify options old new fault = RefusesKey Public old new options.key fault
     ⊎ ((key : Key) × HoldsKey Public old options.key key × RefusesVerifying options old new fault)
 
+-- `--version`: the version is that of the file VERSION
+abbrev pub version_line : Text
+version_line = line (codes "slh 0.13.0")
+
 -- a command's status and output, by the files and by the states of the input before and after
 abbrev pub IsReply : Asked → FilesState → SourceState → SourceState → ℕ → Text → Type 0
 IsReply (requests.params name) files old new status text = (status ≡ 0) × ShowsSets name text
@@ -191,7 +195,7 @@ input_limit (Some (requests.root name)) = limit_of_set (set_of_label name)
 input_limit (Some (requests.keygen options)) = limit_of_set (set_of_label options.set)
 input_limit other = 0
 
--- none if `clap` refuses the arguments or shows help, else as many as the command takes
+-- none if `clap` refuses the arguments or shows help or the version, else as many as the command takes
 abbrev pub limit_where : Kinds → Option Asked → ℕ
 limit_where [] a = input_limit a
 limit_where (kind ∷ kinds) a = 0

@@ -6,7 +6,7 @@ use Rattle.clap.specs.Kinds.{IsAmong}
 use Rattle.clap.specs.Walk.{byte_or_zero}
 use Rattle.clap.specs.Words.{Row, Text, fault_of, first_of, one_of, subcommand_of}
 use Rattle.clap.specs.declared.error.ErrorKind.{ErrorKind}
-use Rattle.clap.specs.declared.error.ErrorKind.TheVariants.{DisplayHelp}
+use Rattle.clap.specs.declared.error.ErrorKind.TheVariants.{DisplayHelp, DisplayVersion}
 use Rattle.slh_tool.specs.Arguments.{slh_app}
 use Rattle.slh_tool.specs.declared.request.CutWords.{CutWords}
 use Rattle.slh_tool.specs.declared.request.FormWords.{FormWords}
@@ -163,16 +163,21 @@ asked_by (Some p) = asked_in p.0 p.1
 abbrev pub Asks : List Text → Asked → Type 0
 Asks words a = (fault_of slh_app words ≡ []) × (asked_by (subcommand_of slh_app words) ≡ Some a)
 
--- `clap` refuses the arguments for another cause than a request for help
+-- `clap` refuses the arguments for another cause than a request for help or for the version
 abbrev pub AreBad : List Text → Type 0
-AreBad words = (k : ErrorKind) × IsAmong k (fault_of slh_app words) × (k ≢ DisplayHelp)
+AreBad words = (k : ErrorKind) × IsAmong k (fault_of slh_app words) × (k ≢ DisplayHelp) × (k ≢ DisplayVersion)
 
 -- the arguments ask for help
 abbrev pub AskHelp : List Text → Type 0
 AskHelp words = IsAmong DisplayHelp (fault_of slh_app words)
 
+-- the arguments ask for the version
+abbrev pub AskVersion : List Text → Type 0
+AskVersion words = IsAmong DisplayVersion (fault_of slh_app words)
+
 -- why no request was read from the arguments
 abbrev pub RefusesRequest : List Text → Refusal → Type 0
 RefusesRequest words (refusal.Help e) = AskHelp words
+RefusesRequest words refusal.Version = AskVersion words
 RefusesRequest words refusal.BadWords = AreBad words
 RefusesRequest words refusal.NoMemory = ⊤

@@ -4,14 +4,16 @@ use Rattle.std.specs.Io.KnownBytes.{Appends}
 use Rattle.clap.specs.Words.{Text}
 use Rattle.slh_io.specs.Devices.{FilesState, Grew, LetsThrough, SinkState, SourceState}
 use Rattle.slh_tool.specs.Reading.{AdmitsFailure}
-use Rattle.slh_tool.specs.Replies.{IsRefusal, IsReply}
-use Rattle.slh_tool.specs.Requests.{AreBad, AskHelp, Asked, Asks}
+use Rattle.slh_tool.specs.Replies.{IsRefusal, IsReply, version_line}
+use Rattle.slh_tool.specs.Requests.{AreBad, AskHelp, AskVersion, Asked, Asks}
 use Rattle.slh_tool.specs.declared.fault.Fault.{Fault}
 use Rattle.slh_tool.specs.declared.fault.Fault.TheVariants.{BadWords, NoMemory}
 
--- the status and the output that the arguments, the files and the input give, or the help that the arguments ask for
+-- the status and the output that the arguments, the files and the input give, or the help or the version that the
+-- arguments ask for
 abbrev pub Replies : List Text → FilesState → SourceState → SourceState → ℕ → Text → Type 0
-Replies words files old new status text = ((a : Asked) × Asks words a × IsReply a files old new status text) ⊎ ((status ≡ 0) × AskHelp words)
+Replies words files old new status text = ((a : Asked) × Asks words a × IsReply a files old new status text)
+    ⊎ (((status ≡ 0) × AskHelp words) ⊎ ((status ≡ 0) × AskVersion words × (text ≡ version_line)))
 
 -- a refusal of the arguments
 abbrev pub RefusesWords : List Text → Fault → Type 0

@@ -20,6 +20,11 @@ fn subcommand<'a>(alloc: Global, name: &'a str, about: &'a str, example: &'a str
 const SET_HELP: &str = "The parameter set: SLH-DSA-SHA2-128s, -128f, -192s,
 -192f, -256s or -256f, or custom:n,lg_w,h',d,a,k";
 
+const PARAMS_HELP: &str = "Usual refusals:
+  12 UnknownSet    a short name: 128f is SLH-DSA-SHA2-128f.
+Refusals: man slh, docs/FORMATS.md
+Example: slh params --set SLH-DSA-SHA2-128f";
+
 fn params_command<'a>(alloc: Global) -> Result<Command<'a>, AllocError>
     ensures { IfOk result (CommandIs params_shape) }
 {
@@ -27,7 +32,7 @@ fn params_command<'a>(alloc: Global) -> Result<Command<'a>, AllocError>
         alloc,
         "params",
         "Prints the numbers of one parameter set, or of all",
-        "Refusals: man slh, docs/FORMATS.md\nExample: slh params --set SLH-DSA-SHA2-128f",
+        PARAMS_HELP,
     )
     .arg(optional(alloc, "set", "NAME", SET_HELP))
 }
@@ -35,6 +40,9 @@ fn params_command<'a>(alloc: Global) -> Result<Command<'a>, AllocError>
 const ROOT_HELP: &str =
     "The seeds SK.seed, SK.prf and PK.seed are one line of 6n hexadecimal digits:
 96 for a 128 set, 144 for a 192 set, 192 for a 256 set.
+Usual refusals:
+  12 UnknownSet    a short name: 128f is SLH-DSA-SHA2-128f.
+  34 BadSeeds      the seeds of another set, or raw bytes.
 Refusals: man slh, docs/FORMATS.md
 Example: slh root --set SLH-DSA-SHA2-128f < seeds.txt";
 
@@ -53,8 +61,13 @@ fn root_command<'a>(alloc: Global) -> Result<Command<'a>, AllocError>
 const KEYGEN_HELP: &str =
     "The seeds SK.seed, SK.prf and PK.seed are one line of 6n hexadecimal digits:
 96 for a 128 set, 144 for a 192 set, 192 for a 256 set.
+Usual refusals:
+  4 BadCutting     levels above the height of the set's trees.
+  12 UnknownSet    a short name: 128f is SLH-DSA-SHA2-128f.
+  34 BadSeeds      the seeds of another set, or raw bytes.
 Refusals: man slh, docs/FORMATS.md
-Example: openssl rand -hex 48 | slh keygen --set SLH-DSA-SHA2-128f > secret.key";
+Example: umask 077; set -C
+openssl rand -hex 48 | slh keygen --set SLH-DSA-SHA2-128f > secret.key";
 
 fn keygen_command<'a>(alloc: Global) -> Result<Command<'a>, AllocError>
     ensures { IfOk result (CommandIs keygen_shape) }
@@ -69,6 +82,12 @@ fn keygen_command<'a>(alloc: Global) -> Result<Command<'a>, AllocError>
     with_work(alloc, command)
 }
 
+const PUBLIC_HELP: &str = "Usual refusals:
+  11 NotAKeyFile   a public key, a PEM file, raw bytes, carriage returns.
+  32 ReadFailed    a wrong name, or no right to read.
+Refusals: man slh, docs/FORMATS.md
+Example: slh public --key secret.key > public.key";
+
 fn public_command<'a>(alloc: Global) -> Result<Command<'a>, AllocError>
     ensures { IfOk result (CommandIs public_shape) }
 {
@@ -76,10 +95,16 @@ fn public_command<'a>(alloc: Global) -> Result<Command<'a>, AllocError>
         alloc,
         "public",
         "Writes the public key file of a secret key file",
-        "Refusals: man slh, docs/FORMATS.md\nExample: slh public --key secret.key > public.key",
+        PUBLIC_HELP,
     )
     .arg(required(alloc, "key", "FILE", "A secret key file"))
 }
+
+const CHECK_HELP: &str = "Usual refusals:
+  11 NotAKeyFile   a public key, a PEM file, raw bytes, carriage returns.
+  32 ReadFailed    a wrong name, or no right to read.
+Refusals: man slh, docs/FORMATS.md
+Example: slh check --key secret.key";
 
 fn check_command<'a>(alloc: Global) -> Result<Command<'a>, AllocError>
     ensures { IfOk result (CommandIs check_shape) }
@@ -88,10 +113,17 @@ fn check_command<'a>(alloc: Global) -> Result<Command<'a>, AllocError>
         alloc,
         "check",
         "Checks the root in a secret key file against its seeds",
-        "Refusals: man slh, docs/FORMATS.md\nExample: slh check --key secret.key",
+        CHECK_HELP,
     )
     .arg(required(alloc, "key", "FILE", "A secret key file"))
 }
+
+const UPGRADE_HELP: &str = "Usual refusals:
+  11 NotAKeyFile   a PEM file, raw bytes, carriage returns.
+  32 ReadFailed    a wrong name, or no right to read.
+Refusals: man slh, docs/FORMATS.md
+Example: umask 077; set -C
+slh upgrade --key old.key > new.key";
 
 fn upgrade_command<'a>(alloc: Global) -> Result<Command<'a>, AllocError>
     ensures { IfOk result (CommandIs upgrade_shape) }
@@ -100,14 +132,19 @@ fn upgrade_command<'a>(alloc: Global) -> Result<Command<'a>, AllocError>
         alloc,
         "upgrade",
         "Writes a key file of either version as a key file of version 2",
-        "Refusals: man slh, docs/FORMATS.md\nExample: slh upgrade --key old.key > new.key",
+        UPGRADE_HELP,
     )
     .arg(required(alloc, "key", "FILE", "A public or secret key file"))
 }
 
 const SIGN_HELP: &str = "Hardware faults in signing can allow forgeries: use --random and --twice.
+Usual refusals:
+  11 NotAKeyFile   a public key, a PEM file, raw bytes, carriage returns.
+  32 ReadFailed    a wrong name, or no right to read.
+  35 BadOption     a randomizer of another set's length, a context of no digits.
 Refusals: man slh, docs/FORMATS.md
-Example: slh sign --key sk --message m --random \"$(openssl rand -hex 16)\" > sig";
+Example: slh sign --key secret.key --message letter.txt --twice \\
+--random \"$(openssl rand -hex 16)\" > letter.sig";
 
 fn sign_command<'a>(alloc: Global) -> Result<Command<'a>, AllocError>
     ensures { IfOk result (CommandIs sign_shape) }
@@ -123,6 +160,12 @@ fn sign_command<'a>(alloc: Global) -> Result<Command<'a>, AllocError>
     with_work(alloc, command)
 }
 
+const VERIFY_HELP: &str = "Usual refusals:
+  11 NotAKeyFile   a secret key, a PEM file, raw bytes, or the signature.
+  32 ReadFailed    a wrong name, or no right to read.
+Refusals: man slh, docs/FORMATS.md
+Example: slh verify --key public.key --message letter.txt --signature letter.sig";
+
 fn verify_command<'a>(alloc: Global) -> Result<Command<'a>, AllocError>
     ensures { IfOk result (CommandIs verify_shape) }
 {
@@ -130,7 +173,7 @@ fn verify_command<'a>(alloc: Global) -> Result<Command<'a>, AllocError>
         alloc,
         "verify",
         "Verifies the signature of a message",
-        "Refusals: man slh, docs/FORMATS.md\nExample: slh verify --key public.key --message letter.txt --signature letter.sig",
+        VERIFY_HELP,
     );
     let command = message_command(alloc, command, "A public key file")?.arg(required(
         alloc,
@@ -141,6 +184,13 @@ fn verify_command<'a>(alloc: Global) -> Result<Command<'a>, AllocError>
     with_form(alloc, command)
 }
 
+const VECTORS_HELP: &str = "Usual refusals:
+  21 NotJson       a file that was cut off, or bytes after its value.
+  24 Bad           a member that is not as docs/FORMATS.md says.
+  32 ReadFailed    a wrong name, or no right to read.
+Refusals: man slh, docs/FORMATS.md
+Example: slh vectors --file tests/vectors/smoke-128f.json";
+
 fn vectors_command<'a>(alloc: Global) -> Result<Command<'a>, AllocError>
     ensures { IfOk result (CommandIs vectors_shape) }
 {
@@ -148,7 +198,7 @@ fn vectors_command<'a>(alloc: Global) -> Result<Command<'a>, AllocError>
         alloc,
         "vectors",
         "Runs the tests of a vector file and reports on them",
-        "Refusals: man slh, docs/FORMATS.md\nExample: slh vectors --file tests/vectors/smoke-128f.json",
+        VECTORS_HELP,
     )
     .arg(required(alloc, "file", "FILE", "A vector file"))?
     .arg(workers(alloc))
@@ -156,18 +206,26 @@ fn vectors_command<'a>(alloc: Global) -> Result<Command<'a>, AllocError>
 
 const STATUS_HELP: &str = "Exit status: 0 for done, valid, consistent or all tests passed;
 1 for invalid, inconsistent or a failed test; 2 for a refusal, which writes
-`slh: NUMBER NAME` to standard error. The man page and docs/FORMATS.md have a
-table of refusals, with the usual causes.";
+`slh: NUMBER NAME` to standard error, and to a terminal also the cause.
+The man page and docs/FORMATS.md have a table of refusals, with usual causes.";
 
-/// The version is that of the file `VERSION`.
+/// That of the file `VERSION`.
+const VERSION: &str = "0.13.0";
+
 const ABOUT: &str = "slh 0.13.0: keys and signatures of SLH-DSA (FIPS 205) with SHA-2";
 
-/// The program with no subcommand so far, with its purpose and the end of its help.
-fn no_command<'a>(alloc: Global, about: &'a str, help: &'a str) -> Result<Command<'a>, AllocError>
+/// The program with no subcommand so far, with its version, its purpose and the end of its help.
+fn no_command<'a>(
+    alloc: Global,
+    version: &'a str,
+    about: &'a str,
+    help: &'a str,
+) -> Result<Command<'a>, AllocError>
     ensures { IfOk result (λ c. app_of c ≡ no_command) }
 {
     Command::new(alloc, "slh")
         .no_binary_name(true)
+        .version(version)
         .about(about)
         .after_help(help)
         .bin_name("slh")
@@ -188,7 +246,7 @@ fn with_subcommand<'a>(
 fn seed_commands<'a>(alloc: Global) -> Result<Command<'a>, AllocError>
     ensures { IfOk result (λ c. app_of c ≡ seed_app) }
 {
-    let program = no_command(alloc, ABOUT, STATUS_HELP)?;
+    let program = no_command(alloc, VERSION, ABOUT, STATUS_HELP)?;
     let program = with_subcommand(program, params_command(alloc))?;
     let program = with_subcommand(program, root_command(alloc))?;
     with_subcommand(program, keygen_command(alloc))
@@ -211,8 +269,8 @@ fn key_commands<'a>(alloc: Global) -> Result<Command<'a>, AllocError>
     with_subcommand(program, upgrade_command(alloc))
 }
 
-/// The program `slh` with its subcommands.
-pub(crate) fn slh_command<'a>(alloc: Global) -> Result<Command<'a>, AllocError>
+/// The program `slh` with its subcommands, as a command of `clap` that is not built yet.
+pub fn slh_command<'a>(alloc: Global) -> Result<Command<'a>, AllocError>
     ensures { IfOk result (λ c. app_of c ≡ slh_app) }
 {
     with_subcommand(key_commands(alloc)?, vectors_command(alloc))

@@ -1,6 +1,7 @@
 //! The commands of the program `slh`, over files and streams that the caller hands in.
 #![tactic(auto)]
 
+pub use arguments::slh_command;
 pub use fault::Fault;
 pub use program::{command, refuse};
 pub use slh_io::{FetchFault, Files, Source};

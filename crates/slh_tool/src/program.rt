@@ -5,7 +5,7 @@ ghost use Rattle.clap.specs.Words.{Text};
 ghost use Rattle.slh_io.specs.Devices.{TakesAtMost};
 ghost use Rattle.slh_tool.specs.Faults.{line};
 ghost use Rattle.slh_tool.specs.Reading.{AreKeptUnlessFailed};
-ghost use Rattle.slh_tool.specs.Replies.{IsRefusal, IsReply, input_limit, words_limit};
+ghost use Rattle.slh_tool.specs.Replies.{IsRefusal, IsReply, input_limit, version_line, words_limit};
 ghost use Rattle.slh_tool.specs.Requests.{asked};
 ghost use Rattle.slh_tool.specs.Runs.{BreaksOff, FailsOnlyAsRefused, IsTold, Refuses, Replies};
 ghost use Rattle.slh_tool.specs.Seeds.{IsUnfailedUnlessRefused};
@@ -67,7 +67,8 @@ pub fn command<
     ensures files { result ≢ 2 → F.state files.new ≡ F.state files.old }
     ensures input { result ≢ 2 → (S.state input.new).failures ≡ (S.state input.old).failures }
     ensures output { result ≢ 2 → (O.state output.new).failures ≡ (O.state output.old).failures }
-    // The command takes only the input that it reads, and none if the arguments are refused or ask for help.
+    // The command takes only the input that it reads, and none if the arguments are refused or ask for help or the
+    // version.
     ensures at_most { TakesAtMost (S.state input.old).left (S.state input.new).left
         (words_limit (map string_bytes words.now)) }
 {
@@ -110,6 +111,7 @@ fn respond<
     match parsed(rt.alloc(), words) {
         Ok(request) => run(rt, alloc, request, files, input),
         Err(Refusal::Help(error)) => Ok(help(rt.alloc(), alloc, &error)?),
+        Err(Refusal::Version) => Ok(version(alloc)?),
         Err(Refusal::BadWords) => Err(Fault::BadWords),
         Err(Refusal::NoMemory) => Err(Fault::NoMemory),
     }
@@ -121,6 +123,14 @@ fn help<A: Allocator>(global: Global, alloc: A, error: &clap::Error) -> Result<R
 {
     let text = error.to_string(global)?;
     Ok(Reply::text(String::from_str(alloc, text.as_str())?))
+}
+
+/// The version that the arguments ask for. No clause of `clap` has the text that it makes of a version.
+fn version<A: Allocator>(alloc: A) -> Result<Reply<A>, AllocError>
+    ensures status { IfOk result (λ r. r.status ≡ 0) }
+    ensures output { IfOk result (λ r. r.output.items ≡ version_line) }
+{
+    Ok(Reply::text(String::from_str(alloc, "slh 0.13.0\n")?))
 }
 
 /// The answer to a request, or the refusal. No command is inlined, so that the stack holds the locals of only one.

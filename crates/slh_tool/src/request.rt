@@ -75,6 +75,7 @@ pub(crate) struct VerifyWords<'a> {
 #[derive(Drop)]
 pub(crate) enum Refusal {
     Help(clap::Error),
+    Version,
     BadWords,
     NoMemory,
 }
@@ -96,6 +97,7 @@ pub(crate) fn parsed<'a>(alloc: Global, words: &'a [String]) -> Result<Request<'
         },
         Err(error) => match error.kind() {
             ErrorKind::DisplayHelp => Err(Refusal::Help(error)),
+            ErrorKind::DisplayVersion => Err(Refusal::Version),
             ErrorKind::OutOfMemory => Err(Refusal::NoMemory),
             _ => Err(Refusal::BadWords),
         },

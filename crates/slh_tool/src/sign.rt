@@ -1,5 +1,5 @@
 //! The command `sign` (FIPS 205, section 10.2).
-ghost use Rattle.std.specs.Prelude.{◌≡◌, ◌<◌, ◌≤◌, ◌⊎◌, IfOk, IfErr, IfSome, OnOk, length, option_map};
+ghost use Rattle.std.specs.Prelude.{◌≡◌, ◌↔◌, ◌<◌, ◌≤◌, ◌⊎◌, IsTrue, IfOk, IfErr, IfSome, OnOk, length, option_map};
 ghost use Rattle.slh_params.specs.ParamSet.{params};
 ghost use Rattle.slh_tool.specs.Contents.{formatted};
 ghost use Rattle.slh_tool.specs.Options.{signature_of};
@@ -96,11 +96,18 @@ fn signature_of<R: Threads + Sync, A: Allocator + Clone + Send + Sync>(
     let first = signed_once(rt, memory, key, content, context, random, workers, cutting)?;
     if twice {
         let second = signed_once(rt, alloc, key, content, context, random, workers, cutting)?;
-        if second.as_slice() != first.as_slice() {
+        if !are_same(&first, &second) {
             return Err(Fault::RunsDiffer);
         }
     }
     Ok(first)
+}
+
+/// Whether two runs gave the same bytes.
+fn are_same(first: &[u8], second: &[u8]) -> bool
+    ensures { IsTrue result ↔ (first.now ≡ second.now) }
+{
+    first == second
 }
 
 /// The signature, computed once. It is never inlined: two calls that take memory and start threads are not joined to

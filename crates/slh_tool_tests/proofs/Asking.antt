@@ -4,7 +4,7 @@ use Rattle.clap.specs.Faults.{defaults_fault, walk_fault}
 use Rattle.clap.specs.Kinds.{IsAmong, Kinds}
 use Rattle.clap.specs.Walk.{walked}
 use Rattle.clap.specs.Words.{Text}
-use Rattle.clap.specs.declared.error.ErrorKind.TheVariants.{DisplayHelp}
+use Rattle.clap.specs.declared.error.ErrorKind.TheVariants.{DisplayHelp, DisplayVersion}
 use Rattle.slh_io.specs.Devices.{FilesState, SourceState}
 use Rattle.slh_tool.specs.Replies.{IsReply}
 use Rattle.slh_tool.specs.Requests.{Asked, Asks, FormOptions, VerifyOptions, check, verify}
@@ -37,5 +37,7 @@ pub reply_of : (words : List Text) (a : Asked) (files : FilesState) (old new : S
 reply_of words a files old new status text asks (inl reply) =
     let same : reply.0 ≡ a = (let e = sym reply.1.1 ∙ asks.1 in cc e) in
     subst (λ (x : Asked). IsReply x files old new status text) same reply.2
-reply_of words a files old new status text asks (inr help) =
+reply_of words a files old new status text asks (inr (inl help)) =
     let P : Kinds → Type 0 = λ kinds. IsAmong DisplayHelp kinds in absurd (subst P asks.0 help.1)
+reply_of words a files old new status text asks (inr (inr version)) =
+    let P : Kinds → Type 0 = λ kinds. IsAmong DisplayVersion kinds in absurd (subst P asks.0 version.1)

@@ -4,27 +4,38 @@
 // usage: sign_queue KEY PORT [PROCESSES] < QUEUE
 //
 // KEY is a secret key file of the program slh. The signature of FILE goes into a new file FILE.sig, once it was
-// verified. A scraper reads the counters from http://127.0.0.1:PORT/metrics: slh_signatures_total, slh_failures_total
-// and slh_signing_seconds_total. QUEUE may be a pipe that never ends. At its end the program ends, with status 1 if
-// something failed. If a process is lost, its file is named as a failure, and the others go on.
+// computed two times and verified. A scraper reads the counters from http://127.0.0.1:PORT/metrics:
+// slh_signatures_total, slh_failures_total and slh_signing_seconds_total. QUEUE may be a pipe that never ends. At its
+// end the program ends, with status 1 if something failed. If a process is lost, its file is named as a failure, and
+// the others go on. SIGTERM and Ctrl-C end the program once the files that it took from the queue are signed. The
+// others stay in the queue: no name is read before it is needed.
 package main
 
 import (
 	"bufio"
+	"errors"
 	"fmt"
 	"io"
 	"log"
+	"net"
 	"net/http"
 	"os"
 	"os/exec"
+	"os/signal"
+	"path/filepath"
 	"runtime"
 	"strconv"
+	"strings"
 	"sync"
 	"sync/atomic"
+	"syscall"
 	"time"
 
 	"pipitscreen/slh"
 )
+
+// mostName is the most bytes of a name: Linux takes no longer path.
+const mostName = 4096
 
 var signatures, failures, nanoseconds atomic.Int64
 
@@ -40,9 +51,55 @@ func metrics(to http.ResponseWriter, _ *http.Request) {
 		fmt.Sprintf("%.6f", time.Duration(nanoseconds.Load()).Seconds()))
 }
 
-// sign signs a file. The new file of the signature is on the disk when it returns nil, and else there is none.
-func sign(secret *slh.SecretKey, path string) (err error) {
-	message, err := os.ReadFile(path)
+// read reads a file to be signed. A pipe is refused, and not waited for.
+func read(path string) ([]byte, error) {
+	file, err := os.OpenFile(path, os.O_RDONLY|syscall.O_NONBLOCK, 0)
+	if err != nil {
+		return nil, err
+	}
+	defer file.Close()
+	seen, err := file.Stat()
+	if err != nil {
+		return nil, err
+	}
+	if !seen.Mode().IsRegular() {
+		return nil, errors.New(path + " is no file")
+	}
+	return io.ReadAll(file)
+}
+
+// writeKept writes a new file, which the disk then has.
+func writeKept(path string, data []byte) error {
+	file, err := os.OpenFile(path, os.O_WRONLY|os.O_CREATE|os.O_EXCL, 0o666)
+	if err != nil {
+		return err
+	}
+	_, err = file.Write(data)
+	if err == nil {
+		err = file.Sync()
+	}
+	if closing := file.Close(); err == nil {
+		err = closing
+	}
+	if err != nil {
+		os.Remove(path)
+	}
+	return err
+}
+
+// syncFolderOf has the disk keep the names of a file's folder.
+func syncFolderOf(path string) error {
+	folder, err := os.Open(filepath.Dir(path))
+	if err != nil {
+		return err
+	}
+	defer folder.Close()
+	return folder.Sync()
+}
+
+// sign signs a file. The signature and its name are on the disk when it returns nil, and else there is none.
+func sign(secret *slh.SecretKey, path string) error {
+	message, err := read(path)
 	if err != nil {
 		return err
 	}
@@ -50,22 +107,14 @@ func sign(secret *slh.SecretKey, path string) (err error) {
 	if err != nil {
 		return err
 	}
-	file, err := os.OpenFile(path+".sig", os.O_WRONLY|os.O_CREATE|os.O_EXCL, 0o666)
-	if err != nil {
+	if err := writeKept(path+".sig", signature); err != nil {
 		return err
 	}
-	defer func() {
-		if closing := file.Close(); err == nil {
-			err = closing
-		}
-		if err != nil {
-			os.Remove(file.Name())
-		}
-	}()
-	if _, err = file.Write(signature); err != nil {
+	if err := syncFolderOf(path); err != nil {
+		os.Remove(path + ".sig")
 		return err
 	}
-	return file.Sync()
+	return nil
 }
 
 // work is what each process does: it answers each path of standard input with a line, which is empty if it was signed.
@@ -74,18 +123,22 @@ func work(key string) error {
 	if err != nil {
 		return err
 	}
-	defer secret.Destroy()
-	paths := bufio.NewScanner(os.Stdin)
-	for paths.Scan() {
+	defer secret.Erase()
+	signal.Ignore(syscall.SIGTERM, os.Interrupt) // one to all processes of this program is for the first one
+	paths := bufio.NewReader(os.Stdin)
+	for {
+		path, err := paths.ReadString('\n')
+		if err != nil {
+			return nil // the queue ended
+		}
 		why := ""
-		if err := sign(secret, paths.Text()); err != nil {
+		if err := sign(secret, strings.TrimSuffix(path, "\n")); err != nil {
 			why = strconv.Quote(err.Error())
 		}
 		if _, err := fmt.Println(why); err != nil {
 			return err
 		}
 	}
-	return paths.Err()
 }
 
 // worker is a process that signs.
@@ -110,35 +163,100 @@ func started(key string) (*worker, error) {
 	return it, it.Start()
 }
 
+// fail names a file that is not signed.
+func fail(path, why string) {
+	failures.Add(1)
+	log.Printf("%s: %s", path, why)
+}
+
+// answer has the process sign a file. It returns why that failed, or that the process is lost.
+func (it *worker) answer(path string) (string, error) {
+	if _, err := fmt.Fprintln(it.paths, path); err != nil {
+		return "", err
+	}
+	why, err := it.answers.ReadString('\n')
+	if err != nil || why == "\n" {
+		return "", err
+	}
+	return strconv.Unquote(strings.TrimSuffix(why, "\n"))
+}
+
 // run has the process sign files while there are some, and ends it. If it is lost, its file is a failure.
 func (it *worker) run(paths <-chan string) error {
 	for path := range paths {
 		began := time.Now()
-		_, err := fmt.Fprintln(it.paths, path)
-		why := ""
-		if err == nil {
-			why, err = it.answers.ReadString('\n')
-		}
+		why, err := it.answer(path)
 		nanoseconds.Add(int64(time.Since(began)))
-		if err != nil || why != "\n" {
-			failures.Add(1)
-			log.Printf("%s: %s %v", path, why, err)
-		} else {
-			signatures.Add(1)
-		}
-		if err != nil {
+		switch {
+		case err != nil:
+			fail(path, "the process that signs it was lost: "+err.Error())
 			return err
+		case why != "":
+			fail(path, why)
+		default:
+			signatures.Add(1)
 		}
 	}
 	it.paths.Close()
 	return it.Wait()
 }
 
-// signAll has each file of the queue signed. It returns whether a process was lost.
-func signAll(key string, processes int, queue *bufio.Scanner) bool {
-	paths, ended := make(chan string), make(chan struct{})
+// toldToEnd returns a file that can be read once SIGTERM or Ctrl-C came.
+func toldToEnd() (*os.File, error) {
+	signals := make(chan os.Signal, 1)
+	signal.Notify(signals, syscall.SIGTERM, os.Interrupt)
+	told, telling, err := os.Pipe()
+	go func() { <-signals; telling.Close() }()
+	return told, err
+}
+
+// isTold waits until there is a byte of the queue to read, or the program is told to end, and returns whether it is. A
+// name that has begun is read on while its bytes are there.
+func isTold(told *os.File, hasBegun bool) (bool, error) {
+	number := int(told.Fd())
+	for {
+		var ready syscall.FdSet
+		ready.Bits[0] = 1 | 1<<number
+		_, err := syscall.Select(number+1, &ready, nil, nil, nil)
+		if err != syscall.EINTR {
+			return ready.Bits[0]&(1<<number) != 0 && !(hasBegun && ready.Bits[0]&1 != 0), err
+		}
+	}
+}
+
+var errStopped = errors.New("it was stopped: the names that it took from the queue are done")
+
+// nextName reads a line of standard input, and no byte behind it. The error is io.EOF at the end of the queue.
+func nextName(told *os.File) (string, error) {
+	var name []byte
+	one := make([]byte, 1)
+	for {
+		stopped, err := isTold(told, len(name) > 0)
+		if stopped && err == nil {
+			err = errStopped
+		} else if err == nil {
+			_, err = io.ReadFull(os.Stdin, one)
+		}
+		switch {
+		case err == io.EOF && len(name) > 0:
+			return string(name), nil
+		case err != nil && len(name) > 0:
+			fail(string(name), "a part of a name is not taken")
+			fallthrough
+		case err != nil:
+			return "", err
+		case one[0] == '\n':
+			return string(name), nil
+		}
+		name = append(name, one[0])
+	}
+}
+
+// startAll starts the processes that sign the files of a channel. The channel that it returns is closed once all have
+// ended. Then the other result says whether one was lost.
+func startAll(key string, processes int, paths <-chan string) (<-chan struct{}, *atomic.Bool) {
 	var wait sync.WaitGroup
-	var lost atomic.Bool
+	ended, lost := make(chan struct{}), new(atomic.Bool)
 	for i := 0; i < processes; i++ {
 		it, err := started(key)
 		if err != nil {
@@ -154,16 +272,32 @@ func signAll(key string, processes int, queue *bufio.Scanner) bool {
 		}()
 	}
 	go func() { wait.Wait(); close(ended) }()
-	for queue.Scan() {
+	return ended, lost
+}
+
+// signAll has each file of the queue signed. It returns whether a process was lost, or the queue.
+func signAll(key string, processes int, told *os.File) bool {
+	paths := make(chan string)
+	ended, lost := startAll(key, processes, paths)
+	path, err := nextName(told)
+	for ; err == nil; path, err = nextName(told) {
+		if len(path) > mostName {
+			fail(path[:mostName], "a longer name is not taken")
+			continue
+		}
 		select {
-		case paths <- queue.Text():
-		case <-ended: // no process is left
+		case paths <- path:
+		case <-ended:
+			fail(path, "no process is left")
 			return true
 		}
 	}
 	close(paths)
-	wait.Wait()
-	return lost.Load() || queue.Err() != nil
+	<-ended
+	if err != io.EOF {
+		log.Print(err)
+	}
+	return lost.Load() || (err != io.EOF && err != errStopped)
 }
 
 // checked ends the program unless the file has a secret key that signs.
@@ -171,7 +305,7 @@ func checked(key string) {
 	secret, err := slh.ReadSecretKeyFile(key)
 	if err == nil {
 		err = secret.Check()
-		secret.Destroy()
+		secret.Erase()
 	}
 	if err != nil {
 		log.Print(err)
@@ -196,9 +330,18 @@ func main() {
 		os.Exit(2)
 	}
 	checked(os.Args[1])
+	listener, err := net.Listen("tcp", "127.0.0.1:"+os.Args[2])
+	if err != nil {
+		log.Print(err)
+		os.Exit(2)
+	}
+	told, err := toldToEnd()
+	if err != nil {
+		log.Fatal(err)
+	}
 	http.HandleFunc("/metrics", metrics)
-	go func() { log.Fatal(http.ListenAndServe("127.0.0.1:"+os.Args[2], nil)) }()
-	lost := signAll(os.Args[1], processes, bufio.NewScanner(os.Stdin))
+	go http.Serve(listener, nil)
+	lost := signAll(os.Args[1], processes, told)
 	fmt.Printf("%d signed, %d failed\n", signatures.Load(), failures.Load())
 	if lost || failures.Load() > 0 {
 		os.Exit(1)

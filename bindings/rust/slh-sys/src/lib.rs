@@ -84,6 +84,8 @@ pub const SLH_HARDENED_INVALID: u32 = 0x7c91_d87f;
 pub const SLH_NO_MEMORY: u32 = 37;
 /// The two computations of one signature differ: the calls whose names end in `_twice` return it.
 pub const SLH_FAULT: u32 = 38;
+/// The processor is below x86-64-v2: the library has no code for it.
+pub const SLH_OLD_PROCESSOR: u32 = 39;
 
 /// The most bytes of a refusal's name with the zero byte after it.
 pub const SLH_MAX_NAME: usize = 20;

@@ -18,9 +18,8 @@ pub enum Error {
     Refused(Refusal),
     /// The source gave no random bytes.
     RandomFailed(io::Error),
-    /// The computation of a signature went wrong, as by bad memory or a bad processor, and nothing was signed.
-    /// [`Options::twice`](crate::Options::twice) found two results that differ, or
-    /// [`Options::verify`](crate::Options::verify) a signature that is not valid.
+    /// A computation went wrong, as by bad memory or a bad processor, and nothing was signed. Two computations of a
+    /// signature differ, [`Options::verify`](crate::Options::verify) found one that is not valid, or a new key is wrong.
     Fault,
     /// The key in a file is of another parameter set than the one asked for. Both are named as `SLH-DSA-SHA2-128f`.
     OtherSet {
@@ -43,7 +42,7 @@ impl fmt::Display for Error {
             Error::Invalid => f.write_str("invalid"),
             Error::Refused(refusal) => refusal.fmt(f),
             Error::RandomFailed(error) => write!(f, "7 RandomFailed: {error}"),
-            Error::Fault => f.write_str("38 Fault: two results differ, or the signature is not valid"),
+            Error::Fault => f.write_str("38 Fault: two results differ, or the signature or the new key is not valid"),
             Error::OtherSet { expected, given } => write!(f, "{expected} expected, a key of {given} given"),
             Error::OtherForm(conversion) => write!(f, "11 NotAKeyFile: {conversion}"),
             Error::ReadFailed(error) => write!(f, "32 ReadFailed: {error}"),

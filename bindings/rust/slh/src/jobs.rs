@@ -22,7 +22,7 @@ const FORS_LEVELS: u32 = 0;
 pub struct Workers<'a, P: ParameterSet> {
     secret: &'a SecretKey<P>,
     count: usize,
-    is_twice: bool,
+    is_twice: bool, // asked for by the deprecated word
 }
 
 impl<'a, P: ParameterSet> Workers<'a, P> {
@@ -30,8 +30,8 @@ impl<'a, P: ParameterSet> Workers<'a, P> {
         Workers { secret, count, is_twice: false }
     }
 
-    /// The same workers, which sign each message with [`Options::twice`]: they do each job two times, and compare the
-    /// answers.
+    /// The same workers, which do each job two times, even with [`Options::once`].
+    #[deprecated(note = "two computations are the default: leave it out")]
     pub fn twice(self) -> Self {
         Workers { is_twice: true, ..self }
     }
@@ -46,7 +46,7 @@ impl<'a, P: ParameterSet> Workers<'a, P> {
     fn signed_by(&self, content: Content<'_>, options: Options<'_>, run: impl Run) -> Result<Signature<P>, Error> {
         let (plan, randomizer) = (Plan::of::<P>()?, options.randomizer.drawn::<P>()?);
         let (mut start, mut first) = (vec![0; plan.start_len], Secrets::zeros(plan.answers_len));
-        let mut second = (self.is_twice || options.twice).then(|| Secrets::zeros(plan.answers_len));
+        let mut second = (self.is_twice || !options.is_once()).then(|| Secrets::zeros(plan.answers_len));
         done(self.write_start(content, options.context, slice(&randomizer), &mut start))
             .map_err(|error| content.with_lengths(options.context, error))?;
         let mut tasks = shares::<P>(plan.jobs, first.bytes_mut())?;
@@ -193,10 +193,10 @@ mod tests {
     /// The signature by jobs of the deterministic variant. `act` is given each answer after its job.
     fn signed(
         workers: &Workers<'_, SlhDsaSha2_128f>,
-        twice: bool,
+        once: bool,
         act: impl Fn(u32, &mut [u8]) + Sync,
     ) -> Result<Signature<SlhDsaSha2_128f>, Error> {
-        let options = Options { randomizer: Randomizer::Deterministic, twice, ..Options::default() };
+        let options = Options { randomizer: Randomizer::Deterministic, once, ..Options::default() };
         workers.signed_by(Content::Pure(MESSAGE), options, |start, job, answer| {
             sign_job(workers.secret, start, job, answer)?;
             act(job, answer);
@@ -216,10 +216,7 @@ mod tests {
                         answer[place.min(answer.len() - 1)] ^= 1;
                     }
                 };
-                // The option and the method ask for the same.
-                let (workers, by_option) = (secret.workers(count), wrong_run == 0);
-                let workers = if by_option { workers } else { workers.twice() };
-                let result = signed(&workers, by_option, flip);
+                let result = signed(&secret.workers(count), false, flip);
                 assert!(matches!(result, Err(Error::Fault)), "{job} {wrong_run} {place} {count}: {result:?}");
                 assert_eq!(runs.into_inner(), 2);
             }
@@ -227,16 +224,21 @@ mod tests {
     }
 
     #[test]
+    #[allow(deprecated)]
     fn without_a_fault_two_runs_sign_the_same() {
         let secret = Secret::generate().unwrap();
         for count in [0, 1, 3] {
             let workers = secret.workers(count);
             let jobs = AtomicUsize::new(0);
             let counted = |_, _: &mut [u8]| _ = jobs.fetch_add(1, Ordering::Relaxed);
-            let once = signed(&workers, false, counted).unwrap();
-            assert_eq!(once, signed(&workers.twice(), false, counted).unwrap());
-            assert_eq!(once, signed(&workers, true, counted).unwrap());
-            assert_eq!(jobs.into_inner(), 5 * 55);
+            let runs = |workers: &Workers<'_, _>, once| {
+                let before = jobs.load(Ordering::Relaxed);
+                (signed(workers, once, counted).unwrap(), jobs.load(Ordering::Relaxed) - before)
+            };
+            let (once, count) = runs(&workers, true);
+            assert_eq!(count, 55);
+            assert_eq!(runs(&workers, false), (once.clone(), 2 * 55));
+            assert_eq!(runs(&workers.twice(), true), (once, 2 * 55));
         }
     }
 }

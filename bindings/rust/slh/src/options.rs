@@ -5,21 +5,31 @@ use std::fmt;
 use crate::{random, sets::Bytes, Error, Function, ParameterSet, Refusal};
 
 /// How a message is signed. By default the context is empty, the randomizer is drawn from the system, and the
-/// signature is computed once and not verified.
+/// signature is computed two times, compared, and not verified.
 #[derive(Clone, Copy, Debug, Default)]
 pub struct Options<'a> {
     /// At most 255 bytes.
     pub context: &'a [u8],
     /// Where the randomizer comes from.
     pub randomizer: Randomizer<'a>,
-    /// Computes the signature two times, by [`Workers`](crate::Workers) each of its jobs, and compares all bytes. If
-    /// they differ nothing is signed: [`Error::Fault`]. The time doubles. This is for callers who must survive
-    /// hardware faults: one wrong signature under a key can be enough to forge others (SECURITY.md, "Faults").
+    /// Computes the signature one time, which takes half the time. By default it is computed two times, by
+    /// [`Workers`](crate::Workers) each of its jobs, and all bytes are compared. If they differ nothing is signed:
+    /// [`Error::Fault`]. One wrong signature under a key can be enough to forge others (SECURITY.md, "Faults").
+    pub once: bool,
+    /// Asks for two computations, even with `once`. This is deprecated: they are the default, and a later release
+    /// removes this field.
     pub twice: bool,
     /// Verifies the signature under the public key before it is returned. If it is not valid it is overwritten with
-    /// zeros: [`Error::Fault`]. This finds fewer faults than `twice`: a wrong signature can be valid, and still let
-    /// others forge. Both can be asked for.
+    /// zeros: [`Error::Fault`]. This finds fewer faults than two computations: a wrong signature can be valid, and
+    /// still let others forge.
     pub verify: bool,
+}
+
+impl Options<'_> {
+    /// Whether the signature is computed one time. The deprecated word prevails.
+    pub(crate) fn is_once(self) -> bool {
+        self.once && !self.twice
+    }
 }
 
 /// The randomizer of a signature, FIPS 205's opt_rand.

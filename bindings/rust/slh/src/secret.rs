@@ -48,23 +48,38 @@ pub struct SecretKey<P: ParameterSet> {
 }
 
 impl<P: ParameterSet> SecretKey<P> {
-    /// Makes a key from random bytes of the system (Algorithm 21). `Error::RandomFailed` if it gives none.
+    /// Makes a key from random bytes of the system (Algorithm 21), and checks it. `Error::RandomFailed` if it gives
+    /// none; `Error::Fault` if [`check`](SecretKey::check) finds another root.
     pub fn generate() -> Result<Self, Error> {
         Self::generate_from(random::fill)
     }
 
     /// Makes a key from random bytes of a source of the caller's own, which has to be fit for keys (Algorithm 21).
     /// `fill` is called three times, with n bytes for SK.seed, SK.prf and PK.seed in this order. Its error is returned
-    /// as `Error::RandomFailed`.
-    pub fn generate_from(mut fill: impl FnMut(&mut [u8]) -> io::Result<()>) -> Result<Self, Error> {
+    /// as `Error::RandomFailed`. `Error::Fault` is as that of `generate`.
+    pub fn generate_from(fill: impl FnMut(&mut [u8]) -> io::Result<()>) -> Result<Self, Error> {
+        Self::generated(fill, Self::keygen)
+    }
+
+    /// The key that `make` makes of new seeds, unless `check` finds it invalid, as after a fault.
+    fn generated(
+        mut fill: impl FnMut(&mut [u8]) -> io::Result<()>,
+        make: impl FnOnce(&P::Seed, &P::Seed, &P::Seed) -> Self,
+    ) -> Result<Self, Error> {
         let mut seeds = Seeds::<P>([P::Seed::ZEROS; 3]);
         for seed in &mut seeds.0 {
             fill(seed.as_mut()).map_err(Error::RandomFailed)?;
         }
-        Ok(Self::keygen(&seeds.0[0], &seeds.0[1], &seeds.0[2]))
+        let key = make(&seeds.0[0], &seeds.0[1], &seeds.0[2]);
+        match key.check() {
+            Ok(()) => Ok(key),
+            Err(Error::Invalid) => Err(Error::Fault),
+            Err(error) => Err(error),
+        }
     }
 
-    /// Makes the key of three seeds (Algorithm 18), which are as secret as the key.
+    /// Makes the key of three seeds (Algorithm 18), which are as secret as the key. Unlike `generate` it does not check
+    /// the key.
     pub fn keygen(sk_seed: &P::Seed, sk_prf: &P::Seed, pk_seed: &P::Seed) -> Self {
         let mut key = Self::zeros();
         let [first, second, third] = [sk_seed.as_ref(), sk_prf.as_ref(), pk_seed.as_ref()];
@@ -165,11 +180,11 @@ impl<P: ParameterSet> SecretKey<P> {
     fn signed(&self, content: Content<'_>, options: Options<'_>) -> Result<Signature<P>, Error> {
         let randomizer = options.randomizer.drawn::<P>()?;
         let random = slice(&randomizer);
-        let result = if options.twice {
+        let result = if options.is_once() {
+            Signature::written(|out| self.write(content, options.context, random, out))
+        } else {
             let mut scratch = Secrets::zeros(2 * P::SIGNATURE);
             Signature::written(|out| self.write_twice(content, options.context, random, scratch.bytes_mut(), out))
-        } else {
-            Signature::written(|out| self.write(content, options.context, random, out))
         };
         let signature = result.map_err(|error| content.with_lengths(options.context, error))?;
         self.released(signature, content, options)
@@ -303,5 +318,20 @@ mod tests {
             place.as_ptr().cast::<[u8; 48]>().read()
         };
         assert_eq!(left, [0; 48]);
+    }
+
+    /// A bit of SK.seed, PK.seed or PK.root that flips while a key is made.
+    #[test]
+    fn a_new_key_with_a_wrong_bit_is_a_fault() {
+        type Secret = SecretKey<SlhDsaSha2_128f>;
+        for place in [0, 32, 63] {
+            let made = Secret::generated(random::fill, |first, second, third| {
+                let mut key = Secret::keygen(first, second, third);
+                key.bytes_mut()[place] ^= 1;
+                key
+            });
+            assert!(matches!(made, Err(Error::Fault)), "{place}");
+        }
+        assert!(Secret::generated(random::fill, Secret::keygen).is_ok());
     }
 }

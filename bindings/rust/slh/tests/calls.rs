@@ -15,7 +15,7 @@ use slh::{
 type Secret = SecretKey<SlhDsaSha2_128f>;
 
 const DETERMINISTIC: Options<'_> =
-    Options { context: b"", randomizer: Randomizer::Deterministic, twice: false, verify: false };
+    Options { context: b"", randomizer: Randomizer::Deterministic, once: false, twice: false, verify: false };
 
 fn generated() -> Secret {
     Secret::generate().unwrap()
@@ -78,7 +78,7 @@ fn contexts_have_at_most_255_bytes() {
     }
     let options = Options { context: &longer, ..Options::default() };
     let (function, workers) = (Function::Sha2_256, secret.workers(2));
-    for options in [options, Options { twice: true, ..options }, Options { verify: true, ..options }] {
+    for options in [options, Options { once: true, ..options }, Options { verify: true, ..options }] {
         for result in [
             secret.sign_with(b"letter", options),
             secret.hash_sign(function, b"letter", options),
@@ -121,8 +121,8 @@ fn wrong_lengths_are_refused() {
         let (digest, lengths) = (vec![0; len - 1], format!("{len} bytes expected, {} given", len - 1));
         let verdict = secret.public().hash_verify_digest(function, &digest, b"", &signature);
         assert!(is_refused(verdict, 16, "BadDigestLength", &lengths));
-        for twice in [false, true] {
-            let signed = secret.hash_sign_digest(function, &digest, Options { twice, ..Options::default() });
+        for once in [false, true] {
+            let signed = secret.hash_sign_digest(function, &digest, Options { once, ..Options::default() });
             assert!(is_refused(signed, 16, "BadDigestLength", &lengths));
         }
     }
@@ -146,11 +146,12 @@ fn a_wrong_root_signs_nothing_valid() {
     assert!(matches!(wrong.public().verify(b"letter", &alone), Err(Error::Invalid)));
 }
 
-/// `twice`, `verify`, and both.
-const CHECKED: [Options<'_>; 3] = [
-    Options { twice: true, ..DETERMINISTIC },
+/// One computation, `verify`, both, and the deprecated word.
+const CHECKED: [Options<'_>; 4] = [
+    Options { once: true, ..DETERMINISTIC },
     Options { verify: true, ..DETERMINISTIC },
-    Options { twice: true, verify: true, ..DETERMINISTIC },
+    Options { once: true, verify: true, ..DETERMINISTIC },
+    Options { once: true, twice: true, ..DETERMINISTIC },
 ];
 
 #[test]
@@ -160,7 +161,6 @@ fn workers_and_options_make_the_same_signature() {
     for count in [0, 1, 3, usize::MAX] {
         let workers = secret.workers(count);
         assert!(workers.sign_with(b"letter", DETERMINISTIC).unwrap() == alone);
-        assert!(workers.twice().sign_with(b"letter", DETERMINISTIC).unwrap() == alone);
         for options in CHECKED {
             assert!(workers.sign_with(b"letter", options).unwrap() == alone);
         }
@@ -186,8 +186,8 @@ fn options_keep_the_forms_of_pre_hash() {
 #[test]
 fn an_invalid_signature_is_not_released() {
     let (wrong, function) = (with_a_wrong_root(&generated()), Function::Sha2_256);
-    for twice in [false, true] {
-        let options = Options { verify: true, twice, ..Options::default() };
+    for once in [false, true] {
+        let options = Options { verify: true, once, ..Options::default() };
         assert!(matches!(wrong.sign_with(b"letter", options), Err(Error::Fault)));
         assert!(matches!(wrong.hash_sign(function, b"letter", options), Err(Error::Fault)));
         assert!(matches!(wrong.hash_sign_digest(function, &[0; 32], options), Err(Error::Fault)));
@@ -236,11 +236,11 @@ fn faults_are<T>(wanted: bool, sign: impl Fn(&[u8]) -> Result<T, Error>) -> bool
 #[test]
 fn two_computations_that_differ_are_a_fault() {
     let (secret, function) = (generated(), Function::Sha2_256);
-    for twice in [false, true] {
-        let options = Options { twice, ..DETERMINISTIC };
-        assert!(faults_are(twice, |message| secret.sign_with(message, options)));
-        assert!(faults_are(twice, |message| secret.hash_sign(function, message, options)));
-        assert!(faults_are(twice, |digest| secret.hash_sign_digest(function, digest, options)));
+    for (once, twice) in [(false, false), (true, false), (true, true)] {
+        let (options, wanted) = (Options { once, twice, ..DETERMINISTIC }, !once || twice);
+        assert!(faults_are(wanted, |message| secret.sign_with(message, options)));
+        assert!(faults_are(wanted, |message| secret.hash_sign(function, message, options)));
+        assert!(faults_are(wanted, |digest| secret.hash_sign_digest(function, digest, options)));
     }
 }
 
@@ -249,7 +249,7 @@ fn two_computations_that_differ_are_a_fault() {
 fn workers_verify_before_release() {
     let secret = generated();
     for verify in [false, true] {
-        let options = Options { verify, ..DETERMINISTIC };
+        let options = Options { verify, once: true, ..DETERMINISTIC };
         assert!(faults_are(verify, |message| secret.workers(2).sign_with(message, options)));
         assert!(faults_are(verify, |message| secret.workers(2).hash_sign(Function::Sha2_256, message, options)));
     }

@@ -49,7 +49,7 @@ struct Row {
     refusal: Option<String>,
 }
 
-/// The rows of a table, as tests/commands.py reads them.
+/// The rows of a table, as tests/test_commands.py reads them.
 fn rows(table: &str) -> Vec<Row> {
     let text = fs::read_to_string(Path::new(REPOSITORY).join("tests/vectors/commands").join(table)).unwrap();
     let (mut whole, mut rows) = (Vec::new(), Vec::new());

@@ -151,7 +151,7 @@ fn holders(key: &Secret) -> Vec<(&'static str, Box<dyn Debug + '_>)> {
         ("value of an ordered map", Box::new(BTreeMap::from([(1, Named { key: new(), private: None })]))),
         ("error", Box::new(Failure(new()))),
         ("boxed error", Box::new(Box::<dyn error::Error>::from(Failure(new())))),
-        ("workers", Box::new(key.workers(3).twice())),
+        ("workers", Box::new(key.workers(3))),
     ]
 }
 

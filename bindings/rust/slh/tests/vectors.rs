@@ -85,13 +85,13 @@ fn keys_are_those_of_their_seeds() {
     keygen_of::<SlhDsaSha2_256f>();
 }
 
-/// Signs as a test says, in one thread and in two, and again two times and verified.
+/// Signs as a test says, in one thread and in two, and again with one computation and verified.
 fn sign_as<P: ParameterSet>(test: &Test) {
     let secret = SecretKey::<P>::try_from(&test.bytes("sk")[..]).unwrap();
     let (message, context, random) = (test.bytes("message"), test.bytes("context"), test.bytes("random"));
     let randomizer = if random.is_empty() { Randomizer::Deterministic } else { Randomizer::Given(&random) };
     let options = Options { context: &context, randomizer, ..Options::default() };
-    let checked = Options { twice: true, verify: true, ..options };
+    let checked = Options { once: true, verify: true, ..options };
     let signed = |signer: &dyn Signer<P>, options| match test.function() {
         None => signer.sign_with(&message, options).unwrap(),
         Some(function) => signer.hash_sign(function, &message, options).unwrap(),

@@ -1,6 +1,8 @@
 //! Gates for tests.
 use crate::shared::turns_until;
+use refusing_allocator::Refusing;
 use slh_par::{Gate, Go};
+use std::alloc::Global;
 use std::sync::atomic::{AtomicU64, Ordering};
 
 /// Whether something was called.
@@ -124,4 +126,25 @@ impl Watch for FirstWaitsFor {
     fn gave_up(&self) -> bool {
         self.gave_up.is_made()
     }
+}
+
+/// A gate that answers Stop once the allocator has refused a growth. Until then it stops nothing. A call that asks it
+/// after a refusal would answer Stopped in place of NoMemory.
+#[derive(Drop)]
+pub(crate) struct StopOnceRefused {
+    pub(crate) alloc: Refusing<Global>,
+}
+
+impl Gate for StopOnceRefused {
+    ghost may_stop = { λ _. Unit {0} };
+
+    fn enter(&self, _worker: u8, _job: u32) -> Go {
+        if self.alloc.has_refused() {
+            Go::Stop
+        } else {
+            Go::On
+        }
+    }
+
+    fn leave(&self, _worker: u8, _job: u32) {}
 }

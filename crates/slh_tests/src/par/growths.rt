@@ -1,10 +1,12 @@
-//! Calls with the 1st growth of memory refused, then the 2nd, and so on until a call meets no refusal.
+//! Calls with the 1st growth of memory refused, then the 2nd, and so on until a call meets no refusal. Their gates stop
+//! the run once a growth was refused, and the refusal is NoMemory all the same.
 use super::fixtures::{SET, is_unwritten, key_par, unwritten, whole_trees, workers};
+use super::gates::StopOnceRefused;
 use super::signing::{FORMS, Form};
 use crate::seeds::key;
 use crate::shared::{MANY, check_count, equal};
 use refusing_allocator::Refusing;
-use slh_par::{Cuts, Cutting, NoGate, ParFault, VerifyItem, verify_all};
+use slh_par::{Cuts, Cutting, ParFault, VerifyItem, verify_all};
 use std::alloc::Global;
 use std::process::Abort;
 use std::test::Fail;
@@ -17,7 +19,10 @@ fn keygen_par_refuses_at_each_growth(rt: HostRuntime) -> Result<(), Fail> {
         let mut refusals = 0u64;
         for nth in 1..MANY {
             let alloc = Refusing::new(rt.alloc(), rt.alloc(), nth)?;
-            let outcome = key_par(&rt, alloc.clone()?, workers(number)?, &cutting, &NoGate);
+            let gate = StopOnceRefused {
+                alloc: alloc.clone()?,
+            };
+            let outcome = key_par(&rt, alloc.clone()?, workers(number)?, &cutting, &gate);
             if !alloc.has_refused() {
                 equal(&rt, &outcome?.bytes(), &key(SET).bytes());
                 break;
@@ -30,6 +35,36 @@ fn keygen_par_refuses_at_each_growth(rt: HostRuntime) -> Result<(), Fail> {
     Ok(())
 }
 
+/// Signs by that many workers with one growth refused. Whether the call asked for it.
+fn refuse_one<R: Abort + Threads + Sync>(
+    rt: &R,
+    alloc: Global,
+    form: Form,
+    number: u8,
+    nth: u64,
+) -> Result<bool, Fail> {
+    let sk = key(SET);
+    let cutting = whole_trees(sk.set())?;
+    let refusing = Refusing::new(alloc, alloc, nth)?;
+    let mut out = unwritten(alloc, sk.set())?;
+    let some = workers(number)?;
+    let given = refusing.clone()?;
+    let gate = StopOnceRefused {
+        alloc: refusing.clone()?,
+    };
+    let outcome = form.sign_par(rt, given, b"abc", b"", &sk, some, &cutting, &gate, &mut out);
+    let has_refused = refusing.has_refused();
+    if has_refused {
+        equal(rt, &outcome.err(), &Some(ParFault::NoMemory));
+        equal(rt, &is_unwritten(&out), &true);
+    } else {
+        outcome?;
+        let expected = form.abc(alloc, &sk)?;
+        equal(rt, &(out == expected), &true);
+    }
+    Ok(has_refused)
+}
+
 /// Signs by that many workers with each growth refused in turn.
 fn refuse_signing<R: Abort + Threads + Sync>(
     rt: &R,
@@ -37,28 +72,24 @@ fn refuse_signing<R: Abort + Threads + Sync>(
     form: Form,
     number: u8,
 ) -> Result<(), Fail> {
-    let sk = key(SET);
-    let cutting = whole_trees(sk.set())?;
-    let expected = form.abc(alloc, &sk)?;
     let mut refusals = 0u64;
     for nth in 1..MANY {
-        let refusing = Refusing::new(alloc, alloc, nth)?;
-        let mut out = unwritten(alloc, sk.set())?;
-        let some = workers(number)?;
-        let given = refusing.clone()?;
-        let outcome = form.sign_par(
-            rt, given, b"abc", b"", &sk, some, &cutting, &NoGate, &mut out,
-        );
-        if !refusing.has_refused() {
-            outcome?;
-            equal(rt, &(out == expected), &true);
+        if !refuse_one(rt, alloc, form, number, nth)? {
             break;
         }
-        equal(rt, &outcome.err(), &Some(ParFault::NoMemory));
-        equal(rt, &is_unwritten(&out), &true);
         refusals = nth;
     }
     check_count(rt, 1, refusals, number);
+    Ok(())
+}
+
+/// The 20th growth is one of the run of the 55 jobs.
+#[test]
+fn signing_refuses_a_growth_of_the_run(rt: HostRuntime) -> Result<(), Fail> {
+    for form in FORMS {
+        let has_refused = refuse_one(&rt, rt.alloc(), form, 1, 20)?;
+        equal(&rt, &has_refused, &true);
+    }
     Ok(())
 }
 

@@ -66,7 +66,8 @@ fn refuses_each_growth_and_then_works(rt: HostRuntime) -> Result<(), Fail> {
         ("sig", b"no signature".as_slice()),
         ("tests", NOT_VALID),
     ];
-    let commands: [&[&str]; 16] = [
+    let commands: [&[&str]; 17] = [
+        &["--version"],
         &["params"],
         &["params", set[0], set[1]],
         &["root", set[0], set[1]],

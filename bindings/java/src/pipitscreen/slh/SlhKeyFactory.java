@@ -38,10 +38,16 @@ final class SlhKeyFactory extends KeyFactorySpi {
         if (!(spec instanceof PKCS8EncodedKeySpec encoded)) {
             throw new InvalidKeySpecException("a PKCS8EncodedKeySpec is needed");
         }
+        byte[] der = encoded.getEncoded();
         try {
-            return privateOf(encoded.getEncoded(), fixed);
+            return privateOf(der, fixed);
         } catch (InvalidKeyException fault) {
             throw new InvalidKeySpecException(fault.getMessage(), fault.getCause());
+        } finally {
+            // A PKCS8EncodedKeySpec gives a copy. A class over it may give an array that it still needs.
+            if (encoded.getClass() == PKCS8EncodedKeySpec.class) {
+                Arrays.fill(der, (byte) 0);
+            }
         }
     }
 
@@ -57,6 +63,8 @@ final class SlhKeyFactory extends KeyFactorySpi {
             }
         } catch (InvalidKeyException fault) {
             throw new InvalidKeySpecException(fault.getMessage(), fault.getCause());
+        } catch (IllegalStateException destroyed) {
+            throw new InvalidKeySpecException(destroyed.getMessage(), destroyed);
         }
         throw new InvalidKeySpecException("this key has no " + wanted.getSimpleName());
     }
@@ -75,7 +83,10 @@ final class SlhKeyFactory extends KeyFactorySpi {
         return translated(key, fixed);
     }
 
-    /** Returns a key of this provider, which is the same key if it is one, and else is read from its encoding. */
+    /**
+     * Returns a key of this provider, which is the same key if it is one, and else is read from its encoding. That array
+     * may be the other key's, and is left as it is.
+     */
     static Key translated(Key key, SlhSet fixed) throws InvalidKeyException {
         if (key instanceof SlhPublicKey it) {
             checkSet(it.set(), fixed);
@@ -101,10 +112,9 @@ final class SlhKeyFactory extends KeyFactorySpi {
         }
     }
 
-    /** The private key of DER, which is overwritten: it is a copy that was made for this. */
+    /** The private key of DER. */
     private static SlhPrivateKey privateOf(byte[] der, SlhSet fixed) throws InvalidKeyException {
         try (Memory given = Memory.copyOf(der)) {
-            Arrays.fill(der, (byte) 0);
             SlhPrivateKey key = Pkix.privateKey(given);
             checkSet(key.set(), fixed);
             return key;

@@ -46,14 +46,14 @@ public final class SlhPrivateKey extends SlhKey implements PrivateKey, AutoClose
     }
 
     /**
-     * Makes the key of three seeds (Algorithm 18), which are as secret as the key.
+     * Makes the key of three seeds (Algorithm 18), which are as secret as the key, and checks it.
      *
      * @param set the set of the key
      * @param skSeed SK.seed, n bytes, which are copied: the caller overwrites them
      * @param skPrf SK.prf, likewise
      * @param pkSeed PK.seed
      * @return the key
-     * @throws InvalidKeyException if a seed has another length
+     * @throws InvalidKeyException if a seed has another length, or if check finds another root: 38 Fault
      */
     public static SlhPrivateKey keygen(SlhSet set, byte[] skSeed, byte[] skPrf, byte[] pkSeed)
             throws InvalidKeyException {
@@ -69,6 +69,9 @@ public final class SlhPrivateKey extends SlhKey implements PrivateKey, AutoClose
         Memory made = new Memory(set.privateKeyLength());
         try {
             Library.done("slh_keygen", set.number(), skSeed, skPrf, pkSeed, made);
+            if (!Library.isDone("slh_check", set.number(), made)) {
+                throw new Refusal(Library.FAULT, "the root of the key that was made is not the one of its seeds");
+            }
             return new SlhPrivateKey(set, made);
         } catch (RuntimeException fault) {
             made.close();

@@ -141,12 +141,12 @@ final class SlhSignature extends SignatureSpi {
 
     private void sign(Memory key, Memory text, Memory signature) {
         try (Memory context = Memory.copyOf(spec.context()); Memory randomizer = randomizer();
-                Memory scratch = new Memory(spec.isTwice() ? 2 * signature.length() : 0)) {
+                Memory scratch = new Memory(spec.isOnce() ? 0 : 2 * signature.length())) {
             List<Object> words = words();
             words.addAll(List.of(key, text, context, randomizer));
-            words.addAll(spec.isTwice() ? List.of(scratch, signature) : List.of(signature));
+            words.addAll(spec.isOnce() ? List.of(signature) : List.of(scratch, signature));
             String call = isPreHash ? "slh_hash_sign_digest" : "slh_sign";
-            Library.done(spec.isTwice() ? call + "_twice" : call, words.toArray());
+            Library.done(spec.isOnce() ? call : call + "_twice", words.toArray());
             if (spec.isVerified() && !isValid(privateKey.publicKey(), text, signature)) {
                 throw new Refusal(Library.FAULT, "the signature that was made is not valid; was the key checked?");
             }

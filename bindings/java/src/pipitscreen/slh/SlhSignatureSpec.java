@@ -7,21 +7,21 @@ import java.security.spec.AlgorithmParameterSpec;
  * context and the function alone.
  */
 public final class SlhSignatureSpec implements AlgorithmParameterSpec {
-    /** The empty context, a fresh randomizer, one computation, and the pre-hash function that FIPS 205 names. */
+    /** The empty context, a fresh randomizer, two computations, and the pre-hash function that FIPS 205 names. */
     public static final SlhSignatureSpec DEFAULT = new SlhSignatureSpec(new byte[0], null, false, false, false);
 
     private final byte[] context;
     private final SlhFunction function;
     private final boolean isDeterministic;
-    private final boolean isTwice;
+    private final boolean isOnce;
     private final boolean isVerified;
 
-    private SlhSignatureSpec(byte[] context, SlhFunction function, boolean isDeterministic, boolean isTwice,
+    private SlhSignatureSpec(byte[] context, SlhFunction function, boolean isDeterministic, boolean isOnce,
             boolean isVerified) {
         this.context = context;
         this.function = function;
         this.isDeterministic = isDeterministic;
-        this.isTwice = isTwice;
+        this.isOnce = isOnce;
         this.isVerified = isVerified;
     }
 
@@ -32,7 +32,7 @@ public final class SlhSignatureSpec implements AlgorithmParameterSpec {
      * @return these parameters with this context
      */
     public SlhSignatureSpec withContext(byte[] bytes) {
-        return new SlhSignatureSpec(bytes.clone(), function, isDeterministic, isTwice, isVerified);
+        return new SlhSignatureSpec(bytes.clone(), function, isDeterministic, isOnce, isVerified);
     }
 
     /**
@@ -42,7 +42,7 @@ public final class SlhSignatureSpec implements AlgorithmParameterSpec {
      * @return these parameters with this function
      */
     public SlhSignatureSpec withFunction(SlhFunction other) {
-        return new SlhSignatureSpec(context, other, isDeterministic, isTwice, isVerified);
+        return new SlhSignatureSpec(context, other, isDeterministic, isOnce, isVerified);
     }
 
     /**
@@ -51,16 +51,28 @@ public final class SlhSignatureSpec implements AlgorithmParameterSpec {
      * @return these parameters, deterministic
      */
     public SlhSignatureSpec deterministic() {
-        return new SlhSignatureSpec(context, function, true, isTwice, isVerified);
+        return new SlhSignatureSpec(context, function, true, isOnce, isVerified);
     }
 
     /**
-     * Signs two times and compares. If both differ, nothing is signed.
+     * Signs one time, which takes half the time. Otherwise a signature is computed two times and compared. If both
+     * differ, nothing is signed: a fault of the hardware can else give a signature from which others are forged.
+     *
+     * @return these parameters, with one computation
+     */
+    public SlhSignatureSpec once() {
+        return new SlhSignatureSpec(context, function, isDeterministic, true, isVerified);
+    }
+
+    /**
+     * Signs two times, also after once.
      *
      * @return these parameters, with two computations
+     * @deprecated two computations are the default, and a later release removes this method
      */
+    @Deprecated
     public SlhSignatureSpec twice() {
-        return new SlhSignatureSpec(context, function, isDeterministic, true, isVerified);
+        return new SlhSignatureSpec(context, function, isDeterministic, false, isVerified);
     }
 
     /**
@@ -68,8 +80,19 @@ public final class SlhSignatureSpec implements AlgorithmParameterSpec {
      *
      * @return these parameters, with verifying
      */
+    public SlhSignatureSpec verify() {
+        return new SlhSignatureSpec(context, function, isDeterministic, isOnce, true);
+    }
+
+    /**
+     * Does what verify does.
+     *
+     * @return these parameters, with verifying
+     * @deprecated use verify: a later release removes this name
+     */
+    @Deprecated
     public SlhSignatureSpec verified() {
-        return new SlhSignatureSpec(context, function, isDeterministic, isTwice, true);
+        return verify();
     }
 
     /** The context, which is not copied. */
@@ -86,8 +109,8 @@ public final class SlhSignatureSpec implements AlgorithmParameterSpec {
         return isDeterministic;
     }
 
-    boolean isTwice() {
-        return isTwice;
+    boolean isOnce() {
+        return isOnce;
     }
 
     boolean isVerified() {

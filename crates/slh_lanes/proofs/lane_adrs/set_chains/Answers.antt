@@ -23,7 +23,7 @@ returns c j lane = λ a held.
     get_or-set_other (set old 3 p) 4 k q 0 b ∙ get_or-set_other old 3 k p 0 a in
     let l3 : slice_index (set (set old 3 p) 4 q) 3 ≡ p = get_or-set_other (set old 3 p) 4 3 q 0 (omega arith) ∙ get_or-set_same old 3 p 0 (omega arith) in
     let l4 : slice_index (set (set old 3 p) 4 q) 4 ≡ q = get_or-set_same (set old 3 p) 4 q 0 (omega (arith, length-set old 3 p)) in
-    chain_set old _ n (c.tell_all.ensures j lane) (lane_lt w32 c.args.chains c.fits-chains j lane)
+    chain_set old _ n (c.tell_all.ensures j lane) (lane_lt 8 w32 c.args.chains c.fits-chains j lane)
     (at 0 ∙ kept 0 (omega arith) (omega arith)) (at 1 ∙ kept 1 (omega arith) (omega arith)) (at 2 ∙ kept 2 (omega arith) (omega arith))
     (at 3 ∙ l3 ∙ c.halves.ensures j lane ∙ ap (λ (w : ℕ). halves w n) (c.high.ensures j lane ∙ ap (λ (w : ℕ). w / 2 ^ 16) (sym (column_at j c.args.adrs.now 3))))
     (at 4 ∙ l4 ∙ c.halves-2.ensures j lane ∙ ap (halves n) (c.low.ensures j lane ∙ ap (λ (w : ℕ). w * 2 ^ 16 % 2 ^ 32) other))

@@ -22,7 +22,7 @@ returns c j lane = λ a held.
     get_or-set_other (set old 4 p) 5 k q 0 (omega arith) ∙ get_or-set_other old 4 k p 0 (omega arith) in
     let l4 : slice_index (set (set old 4 p) 5 q) 4 ≡ p = get_or-set_other (set old 4 p) 5 4 q 0 (omega arith) ∙ get_or-set_same old 4 p 0 (omega arith) in
     let l5 : slice_index (set (set old 4 p) 5 q) 5 ≡ q = get_or-set_same (set old 4 p) 5 q 0 (omega (arith, length-set old 4 p)) in
-    hash_set old _ n (c.tell_all.ensures j lane) (lane_lt w32 c.args.hashes c.fits-hashes j lane)
+    hash_set old _ n (c.tell_all.ensures j lane) (lane_lt 8 w32 c.args.hashes c.fits-hashes j lane)
     (at 0 ∙ kept 0 (omega arith)) (at 1 ∙ kept 1 (omega arith)) (at 2 ∙ kept 2 (omega arith)) (at 3 ∙ kept 3 (omega arith))
     (at 4 ∙ l4 ∙ c.halves.ensures j lane ∙ ap (λ (w : ℕ). halves w n) (c.high.ensures j lane ∙ ap (λ (w : ℕ). w / 2 ^ 16) (sym (column_at j c.args.adrs.now 4))))
     (at 5 ∙ l5 ∙ c.low.ensures j lane)

@@ -23,7 +23,7 @@ returns c j lane = λ a held.
     get_or-set_other (set old 2 p) 3 k q 0 b ∙ get_or-set_other old 2 k p 0 a in
     let l2 : slice_index (set (set old 2 p) 3 q) 2 ≡ p = get_or-set_other (set old 2 p) 3 2 q 0 (omega arith) ∙ get_or-set_same old 2 p 0 (omega arith) in
     let l3 : slice_index (set (set old 2 p) 3 q) 3 ≡ q = get_or-set_same (set old 2 p) 3 q 0 (omega (arith, length-set old 2 p)) in
-    pair_set old _ n (c.tell_all.ensures j lane) (lane_lt w32 c.args.pairs c.fits-pairs j lane)
+    pair_set old _ n (c.tell_all.ensures j lane) (lane_lt 8 w32 c.args.pairs c.fits-pairs j lane)
     (at 0 ∙ kept 0 (omega arith) (omega arith)) (at 1 ∙ kept 1 (omega arith) (omega arith))
     (at 2 ∙ l2 ∙ c.halves.ensures j lane ∙ ap (λ (w : ℕ). halves w n) (c.high.ensures j lane ∙ ap (λ (w : ℕ). w / 2 ^ 16) (sym (column_at j c.args.adrs.now 2))))
     (at 3 ∙ l3 ∙ c.halves-2.ensures j lane ∙ ap (halves n) (c.low.ensures j lane ∙ ap (λ (w : ℕ). w * 2 ^ 16 % 2 ^ 32) other))

@@ -21,9 +21,9 @@ words-preserved c = (
       let p = vector_at j c.args.words.now (2 * at) in
       let q = vector_at j c.args.words.now (2 * at + 1) in
       let r = vector_at j c.args.words.now (2 * at + 2) in
-      let fp : slice_index ws (2 * at) < 2 ^ 32 = rw p (c.tell_words.ensures j lane) in
-      let fq : slice_index ws (2 * at + 1) < 2 ^ 32 = rw q (c.tell_words-in-words.ensures j lane) in
-      let fr : slice_index ws (2 * at + 2) < 2 ^ 32 = rw r (c.tell_words-in-words-2.ensures j lane) in
+      let fp : slice_index ws (2 * at) < 2 ^ 32 = rw p (c.tell_short.ensures j lane) in
+      let fq : slice_index ws (2 * at + 1) < 2 ^ 32 = rw q (c.tell_short-in-words.ensures j lane) in
+      let fr : slice_index ws (2 * at + 2) < 2 ^ 32 = rw r (c.tell_short-in-words-2.ensures j lane) in
       let written = ap (λ (l : List ℕ). slice_index l i) (column_set j c.words.block at c.long_word_of_halves.result) in
       elim (cases_lt i at) [
         | inl below ↦ c.words.invariant.1 j lane i below ∙ sym (written ∙ get_or-set_other old at i new 0 (omega arith))

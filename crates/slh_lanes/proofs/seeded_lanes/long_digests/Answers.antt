@@ -44,6 +44,6 @@ returns c = λ p pk j a e len lane state held.
     let block = ap₂ (λ (b : List ℕ) (k : ℕ). long_second_block b (take k (digest_bytes x 8) ++ take k (digest_bytes y 8))) held back in
     c.truncated.ensures j p.n lane high
     ∙ ap (λ (h : List ℕ). take p.n (long_digest_bytes h 8))
-    (c.compress.ensures j lane _ (c.second_block.ensures j lane) ∙ ap₂ compress state block)
+    (c.compress_long.ensures j lane _ (c.second_block.ensures j lane) ∙ ap₂ compress state block)
     ∙ sym (long_tweaked_is p pk a both len high (pair_fits x y p.n high))
     ∙ long p pk a both cases

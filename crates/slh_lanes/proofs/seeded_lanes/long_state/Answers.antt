@@ -13,6 +13,6 @@ returns c = λ p long.
     let zeros : drop (length pk) (replicate 128 0) ≡ to_byte 0 (128 - p.n) =
     drop-replicate (length pk) 128 0 ∙ ap (λ (k : ℕ). replicate (128 - k) 0) long ∙ sym (to_byte-zero (128 - p.n)) in
     c.first_lane.ensures
-    ∙ c.compress.ensures 0 lane (long_first_block p pk) (λ k lt.
+    ∙ c.compress_long.ensures 0 lane (long_first_block p pk) (λ k lt.
     ap (λ (b : List ℕ). word_at b (8 * k)) (sym (ap₂ (λ (x y : List ℕ). x ++ y) c.copy_from_slice.ensures.after zeros)) ∙ sym (c.load_all_long.ensures.words 0 lane k lt))
     ∙ ap (λ (h : List ℕ). compress h (long_first_block p pk)) (c.initial-state.ensures 0 lane)

@@ -17,5 +17,5 @@ returns c = λ p pk j a high whole lane state held.
     let long_x = length-take-le c.args.len bytes (omega (arith, length-digest_bytes (column j c.args.x.now) 8, most)) in
     let lx : length x ≤ 32 = omega (arith, long_x, most) in
     let block = ap (λ (l : List ℕ). second_block l x) held in
-    ap (λ (h : List ℕ). take p.n (digest_bytes h 8)) (c.compress.ensures.words j lane _ (c.second_block.ensures j lane) ∙ ap₂ compress state block)
+    ap (λ (h : List ℕ). take p.n (digest_bytes h 8)) (c.compress.ensures.words j lane _ (c.second_block.ensures.words j lane) ∙ ap₂ compress state block)
     ∙ sym (tweaked_is p pk a x whole high lx)

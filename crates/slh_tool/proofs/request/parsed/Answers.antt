@@ -4,11 +4,11 @@ use Rattle.clap.specs.Words.{App, Text, app_of, fault_of, is_simple, kind_of, su
 use Rattle.clap.specs.Faults.{is_simple_and_free}
 use Rattle.clap.specs.Kinds.{IsAmong}
 use Rattle.clap.specs.declared.error.ErrorKind.{ErrorKind}
-use Rattle.clap.specs.declared.error.ErrorKind.TheVariants.{DisplayHelp}
+use Rattle.clap.specs.declared.error.ErrorKind.TheVariants.{DisplayHelp, DisplayVersion}
 use Rattle.slh_tool.specs.Arguments.{slh_app}
 use Rattle.slh_tool.specs.Requests.{asked_by}
 use Rattle.slh_tool.proofs.Asked.{some_asked}
-use Rattle.slh_tool.proofs.Words.{among_other, help_among, slh_app_free, slh_app_simple}
+use Rattle.slh_tool.proofs.Words.{among_other, known_among, slh_app_free, slh_app_simple}
 use Rattle.slh_tool.proofs.request.parsed.Goals as goal
 
 pub returns-in-Some-clause-ok : goal.returns-in-Some-clause-ok
@@ -27,8 +27,16 @@ returns-in-DisplayHelp-clause-err c =
     let words : List Text = map string_bytes c.args.words.now in
     let app : app_of c.in-Ok.command ≡ slh_app = c.in-Ok.ensures in
     let kinds = c.in-Err.ensures.kinds (ap is_simple_and_free app ∙ slh_app_free) in
-    let among = help_among _ _ kinds c.in-DisplayHelp.ensures in
+    let among = known_among DisplayHelp _ _ (λ e. cc e) kinds c.in-DisplayHelp.ensures in
     subst (λ (a : App). IsAmong DisplayHelp (fault_of a words)) app among
+
+pub returns-in-DisplayVersion-clause-err : goal.returns-in-DisplayVersion-clause-err
+returns-in-DisplayVersion-clause-err c =
+    let words : List Text = map string_bytes c.args.words.now in
+    let app : app_of c.in-Ok.command ≡ slh_app = c.in-Ok.ensures in
+    let kinds = c.in-Err.ensures.kinds (ap is_simple_and_free app ∙ slh_app_free) in
+    let among = known_among DisplayVersion _ _ (λ e. cc e) kinds c.in-DisplayVersion.ensures in
+    subst (λ (a : App). IsAmong DisplayVersion (fault_of a words)) app among
 
 pub returns-in-Ok-try_get_matches_from-clause-err : goal.returns-in-Ok-try_get_matches_from-clause-err
 returns-in-Ok-try_get_matches_from-clause-err c =
@@ -46,5 +54,9 @@ returns-clause-err c =
     let app : app_of c.in-Ok.command ≡ slh_app = c.in-Ok.ensures in
     let kinds = c.in-Err.ensures.kinds (ap is_simple_and_free app ∙ slh_app_free) in
     let among = among_other _ _ kinds (λ e. c.in_default-kind.not-OutOfMemory (c.kind.ensures ∙ e)) in
-    let kind : ErrorKind = kind_of c.in-Err.error in
-    (kind, subst (λ (a : App). IsAmong kind (fault_of a words)) app among, λ e. c.in_default-kind.not-DisplayHelp (c.kind.ensures ∙ e))
+    let kind : ErrorKind = kind_of c.in-Err.error in (
+      kind,
+      subst (λ (a : App). IsAmong kind (fault_of a words)) app among,
+      λ e. c.in_default-kind.not-DisplayHelp (c.kind.ensures ∙ e),
+      λ e. c.in_default-kind.not-DisplayVersion (c.kind.ensures ∙ e),
+    )

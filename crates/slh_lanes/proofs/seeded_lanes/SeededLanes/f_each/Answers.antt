@@ -14,7 +14,7 @@ use Rattle.slh_lanes.proofs.WordBytes.{length-digest_bytes}
 use Rattle.slh_lanes.proofs.seeded_lanes.SeededLanes.f_each.Goals as goal
 
 pub second_block-requires : goal.second_block-requires
-second_block-requires c = rw c.n.ensures (n_cases c.args.self.now.set)
+second_block-requires c = (omega arith, (omega arith, (omega arith, rw c.n.ensures (n_cases c.args.self.now.set))))
 
 pub returns : goal.returns
 unfolding F HasAddress value_at
@@ -29,6 +29,6 @@ returns c = λ j lane left a held.
     let lx : length x ≤ 32 = omega (arith, long_x, most) in
     let state = c.splat_all-state.ensures j lane ∙ c.args.self.now.short_state in
     let block = ap (λ (l : List ℕ). second_block l x) held in
-    ap (λ (h : List ℕ). take p.n (digest_bytes h 8)) (c.compress_each.ensures j lane left _ (c.second_block.ensures j lane) ∙ ap₂ compress state block)
+    ap (λ (h : List ℕ). take p.n (digest_bytes h 8)) (c.compress_each.ensures j lane left _ (c.second_block.ensures.words j lane) ∙ ap₂ compress state block)
     ∙ sym (tweaked_is p pk a x c.args.self.now.len high lx)
     ∙ ap (λ (k : ℕ). tweaked_hash SHA_256 p pk a (value_at c.args.x.now j k)) c.n.ensures

@@ -1,0 +1,19 @@
+// A program over the package slh for tsc --strict, without the types of browsers. tests/test_javascript.py compiles it.
+import { Fault, load, Refusal, type SecretKey, SLH_DSA_SHA2_128F, SLH_SHA2_256 } from "slh";
+import { toPem } from "slh/pkix";
+
+export async function sign(message: Uint8Array): Promise<Uint8Array | number> {
+    const slh = await load();
+    const secret: SecretKey = slh.generate(SLH_DSA_SHA2_128F);
+    try {
+        const signature = secret.hashSign(SLH_SHA2_256, message, { twice: true });
+        const isValid: boolean = secret.public().hashVerify(SLH_SHA2_256, message, signature);
+        return isValid ? signature : toPem(slh, secret.public());
+    } catch (error) {
+        if (error instanceof Refusal) return error.number;
+        if (error instanceof Fault) return -1;
+        throw error;
+    } finally {
+        secret.erase();
+    }
+}

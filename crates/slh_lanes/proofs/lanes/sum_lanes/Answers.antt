@@ -1,6 +1,0 @@
-use Rattle.sha2.specs.Sha256.{add32}
-use Rattle.slh_lanes.proofs.NLanes.{both}
-use Rattle.slh_lanes.proofs.lanes.sum_lanes.Goals as goal
-
-pub returns : goal.returns
-returns g c = both g.row.N add32 c.args.x c.args.y c.fits-x.0 c.fits-y.0

@@ -1,8 +1,0 @@
-use Rattle.std.proofs.Common.{w64}
-use Rattle.slh_lanes.proofs.ChMaj.{ch_short}
-use Rattle.slh_lanes.proofs.long_lanes.ch.Goals as goal
-
-pub returns : goal.returns
-returns g c j h =
-    rw (c.xor-2.ensures j h, c.and.ensures j h, c.xor.ensures j h)
-    (ch_short w64 _ _ _ (c.tell.ensures j h) (c.tell-2.ensures j h) (c.tell-3.ensures j h))

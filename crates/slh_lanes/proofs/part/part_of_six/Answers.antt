@@ -1,0 +1,29 @@
+use Rattle.std.proofs.Common.{◌≡◌, ◌+◌, length, arith, ◌∙◌}
+use Rattle.std.proofs.lemmas.List.{length-map}
+use Rattle.slh_lanes.specs.Columns.{lane_column}
+use Rattle.slh_lanes.proofs.Columns.{lane_column_at}
+use Rattle.slh_lanes.proofs.Lanes8.{listed_6}
+use Rattle.slh_lanes.proofs.part.part_of_six.Goals as goal
+
+pub returns : goal.returns
+returns g c j h =
+    let lane = g.G.Lanes.lane in
+    let i = c.args.first + j in
+    let x = c.args.vectors.now in
+    let long : length x ≡ 6 = omega arith in
+    rw (
+      c.part.ensures j h,
+      c.part-2.ensures j h,
+      c.part-3.ensures j h,
+      c.part-4.ensures j h,
+      c.part-5.ensures j h,
+      c.part-6.ensures j h,
+    )
+    (rw (
+      lane_column_at lane i x 0 c.index-vectors-0.result (omega arith),
+      lane_column_at lane i x 1 c.index-vectors-1.result (omega arith),
+      lane_column_at lane i x 2 c.index-vectors-2.result (omega arith),
+      lane_column_at lane i x 3 c.index-vectors-3.result (omega arith),
+      lane_column_at lane i x 4 c.index-vectors-4.result (omega arith),
+      lane_column_at lane i x 5 c.index-vectors-5.result (omega arith),
+    ) at (listed_6 (lane_column lane i x) (length-map _ _ ∙ long)))

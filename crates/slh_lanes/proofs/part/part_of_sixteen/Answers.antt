@@ -1,0 +1,49 @@
+use Rattle.std.proofs.Common.{◌≡◌, ◌+◌, length, arith, ◌∙◌}
+use Rattle.std.proofs.lemmas.List.{length-map}
+use Rattle.slh_lanes.specs.Columns.{lane_column}
+use Rattle.slh_lanes.proofs.Columns.{lane_column_at}
+use Rattle.slh_lanes.proofs.Lanes8.{listed_16}
+use Rattle.slh_lanes.proofs.part.part_of_sixteen.Goals as goal
+
+pub returns : goal.returns
+returns g c j h =
+    let lane = g.G.Lanes.lane in
+    let i = c.args.first + j in
+    let x = c.args.vectors.now in
+    let long : length x ≡ 16 = omega arith in
+    rw (
+      c.part.ensures j h,
+      c.part-2.ensures j h,
+      c.part-3.ensures j h,
+      c.part-4.ensures j h,
+      c.part-5.ensures j h,
+      c.part-6.ensures j h,
+      c.part-7.ensures j h,
+      c.part-8.ensures j h,
+      c.part-9.ensures j h,
+      c.part-10.ensures j h,
+      c.part-11.ensures j h,
+      c.part-12.ensures j h,
+      c.part-13.ensures j h,
+      c.part-14.ensures j h,
+      c.part-15.ensures j h,
+      c.part-16.ensures j h,
+    )
+    (rw (
+      lane_column_at lane i x 0 c.index-vectors-0.result (omega arith),
+      lane_column_at lane i x 1 c.index-vectors-1.result (omega arith),
+      lane_column_at lane i x 2 c.index-vectors-2.result (omega arith),
+      lane_column_at lane i x 3 c.index-vectors-3.result (omega arith),
+      lane_column_at lane i x 4 c.index-vectors-4.result (omega arith),
+      lane_column_at lane i x 5 c.index-vectors-5.result (omega arith),
+      lane_column_at lane i x 6 c.index-vectors-6.result (omega arith),
+      lane_column_at lane i x 7 c.index-vectors-7.result (omega arith),
+      lane_column_at lane i x 8 c.index-vectors-8.result (omega arith),
+      lane_column_at lane i x 9 c.index-vectors-9.result (omega arith),
+      lane_column_at lane i x 10 c.index-vectors-10.result (omega arith),
+      lane_column_at lane i x 11 c.index-vectors-11.result (omega arith),
+      lane_column_at lane i x 12 c.index-vectors-12.result (omega arith),
+      lane_column_at lane i x 13 c.index-vectors-13.result (omega arith),
+      lane_column_at lane i x 14 c.index-vectors-14.result (omega arith),
+      lane_column_at lane i x 15 c.index-vectors-15.result (omega arith),
+    ) at (listed_16 (lane_column lane i x) (length-map _ _ ∙ long)))

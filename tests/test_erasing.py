@@ -1,0 +1,85 @@
+"""Tests what calls of the library for C leave: each clears the stack as deep as it went, and no secret is found on the
+stack or in registers. So does slh_erase with the buffers of a caller. A stack that is too short ends at its guard page.
+
+library_depths.c brings an slh_clear of its own, which says how deep a call clears. library_erase.c searches for
+secrets. Under SLH_SEED one archive is measured in full, each library is searched under one of three sets, and one of
+them under all six.
+"""
+import os
+
+import pytest
+
+import machines
+from conftest import STRICT
+from machines import counted
+from support import TESTS, best_level, need_level, succeed, tool_of
+
+ARCHIVES = {"libslh.a": None, "libslh-v2.a": 2, "libslh-v3.a": 3, "libslh-v4.a": 4}
+LIBRARIES = {**ARCHIVES, "libslh.so": None}
+SETS = {"128f": "2", "192f": "4", "256f": "6"}
+MACHINE = machines.Machine("x86-64", tool_of("cc"))
+
+
+# ---- depths
+
+
+def drawn(name, parameter):
+    return [pytest.mark.slow, pytest.mark.drawn(name, parameter)]
+
+
+@pytest.mark.parametrize("archive, how", [
+    *(pytest.param(it, "few", marks=pytest.mark.slow) for it in ARCHIVES),
+    *(pytest.param(it, "full", marks=drawn("depths in full", "archive")) for it in ARCHIVES)])
+def test_each_call_clears_as_deep_as_it_goes(compiled, include, lib, tmp_path, archive, how):
+    """`few` measures few calls under the sets whose names end in s. Code that aligns its stack to 32 or 64 bytes is
+    called from 2 or 4 places."""
+    level = ARCHIVES[archive] or best_level()
+    need_level(level)
+    program = machines.depths_program(compiled, MACHINE, include, lib / archive, tmp_path)
+    counted(program, str(1 << (level - 2)), *(["few"] if how == "few" else []))
+
+
+def test_caller_erases_its_buffer(compiled, include, lib):
+    """And a first call leaves zeros."""
+    succeed(compiled("buffers", "-std=c99", *STRICT, "-O3", "-I", include, TESTS / "erased_buffers.c", lib / "libslh.a",
+                     "-Wl,-z,lazy"))
+
+
+@pytest.mark.slow
+def test_short_stack_ends_at_its_guard_page(compiled, include, lib):
+    counted(compiled("guard", "-std=c11", *STRICT, "-I", include, TESTS / "library_guard.c", lib / "libslh.a"))
+
+
+# ---- secrets
+
+
+@pytest.fixture
+def search(compiled, include, lib):
+    """Searches what calls of a library leave: search(LIBRARY, SET..). The loader finds calls of C when they are called,
+    and so saves registers on the stack."""
+
+    def searches(library, *sets):
+        need_level(LIBRARIES[library] or 2)
+        program = compiled("erase", "-std=c11", "-O2", *STRICT, "-I", include, TESTS / "library_erase.c",
+                           lib / library, "-Wl,-z,lazy")
+        counted(program, *sets, env={**os.environ, "LD_LIBRARY_PATH": str(lib)})
+
+    return searches
+
+
+@pytest.mark.parametrize("library, of_set", [
+    pytest.param(library, name, marks=drawn(f"the set of {library}", "of_set"))
+    for library in LIBRARIES for name in SETS])
+def test_calls_leave_no_secret(search, library, of_set):
+    search(library, SETS[of_set])
+
+
+@pytest.mark.parametrize("library", [
+    pytest.param(it, marks=drawn("searched under all sets", "library")) for it in LIBRARIES])
+def test_calls_leave_no_secret_under_all_sets(search, library):
+    search(library)
+
+
+@pytest.mark.slow
+def test_search_finds_secrets_if_nothing_is_cleared(compiled, include, lib, tmp_path):
+    machines.search_finds_what_is_left(compiled, MACHINE, include, lib / "libslh.a", tmp_path)

@@ -1,0 +1,90 @@
+"""Builds and uses the package for Go, over the library as it is installed: its own tests by `go test`, a program of a
+user, and what it leaves in memory. No network is used."""
+import os
+import shutil
+
+import pytest
+
+from packages import check_memory, refuses_to_build, says_best_level
+from support import HERE, need, run, succeed
+
+PACKAGE = HERE / "bindings/go"
+LEVEL = """package main
+
+// #cgo LDFLAGS: -l:libslh.a
+// #include <slh.h>
+import "C"
+import "fmt"
+import _ "pipitscreen/slh"
+
+func main() { fmt.Println(C.slh_level()) }
+"""
+
+pytestmark = pytest.mark.slow
+
+
+@pytest.fixture(scope="module")
+def env(installed, tmp_path_factory):
+    need("go", "gofmt", "gcc")
+    folder = tmp_path_factory.mktemp("go")
+    settings = {"CGO_ENABLED": "1", "CGO_CFLAGS": f"-I{installed}/include", "CGO_LDFLAGS": f"-L{installed}/lib",
+                "GOCACHE": str(folder / "cache"), "GOPATH": str(folder / "path"), "GOFLAGS": "-mod=readonly",
+                "GOPROXY": "off"}
+    return {**os.environ, **settings}
+
+
+@pytest.mark.parametrize("path", ["go", os.path.join("tests", "erased.go")])
+def test_layout(path):
+    need("gofmt")
+    assert succeed("gofmt", "-l", HERE / "bindings" / path) == b""
+
+
+def test_vet(env):
+    succeed("go", "vet", "./...", cwd=PACKAGE, env=env)
+
+
+def test_package_passes_its_tests(env):
+    """The lines of its README are among them."""
+    outcome = run("go", "test", "-count=1", "-v", "./...", cwd=PACKAGE, env=env, timeout=1800)
+    lines = outcome.output.decode(errors="replace").splitlines()
+    assert outcome.status == 0, "\n".join(lines[-80:]) + outcome.errors.decode(errors="replace")
+    assert [it for it in lines if it.startswith("--- PASS: ")], "it ran no test"
+
+
+# ---- a program of a user
+
+
+@pytest.fixture(scope="module")
+def page(env, tmp_path_factory):
+    """The folder of a module over the package, as a user has it."""
+    folder = tmp_path_factory.mktemp("page")
+    (folder / "main.go").write_text('package main\n\nimport _ "pipitscreen/slh"\n\nfunc main() {}\n')
+    for name in "erased", "level":
+        (folder / name).mkdir()
+    shutil.copy(HERE / "bindings/tests/erased.go", folder / "erased/main.go")
+    (folder / "level/main.go").write_text(LEVEL)
+    version = (HERE / "VERSION").read_text().strip()
+    succeed("go", "mod", "init", "page", cwd=folder, env=env)
+    succeed("go", "mod", "edit", "-require", f"pipitscreen/slh@v{version}", "-replace", f"pipitscreen/slh={PACKAGE}",
+            cwd=folder, env=env)
+    return folder
+
+
+def test_nothing_erased_is_in_memory(env, page, installed):
+    succeed("go", "build", "-o", page / "erased_in_go", "./erased", cwd=page, env=env)
+    check_memory(installed / "lib/libslh.so.0", page / "erased_in_go")
+
+
+def test_code_for_the_best_level_runs(env, page):
+    assert says_best_level("go", "run", "./level", cwd=page, env=env)
+
+
+def test_build_without_the_library_names_what_to_set(env, page):
+    bare = {name: value for name, value in env.items() if name not in ("CGO_CFLAGS", "CGO_LDFLAGS")}
+    assert refuses_to_build("set CGO_CFLAGS=-IPREFIX/include", "go", "build", "-o", page / "none", ".", cwd=page,
+                            env=bare)
+
+
+def test_build_without_cgo_names_what_to_set(env, page):
+    assert refuses_to_build("set_CGO_ENABLED_to_1_and_install_a_C_compiler", "go", "build", "-o", page / "none", ".",
+                            cwd=page, env={**env, "CGO_ENABLED": "0"})

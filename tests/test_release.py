@@ -1,0 +1,708 @@
+"""Tests a release as a user has it who has no kit: ./slh, tools/library.sh and tools/install.sh in a copy of this
+repository with the release in dist/. README's commands sign and verify, also in a root in which no kit is. Damaged and
+missing files are neither run nor installed, and other sources are told. The builds for all levels of processors give
+the values of tests/vectors/."""
+import hashlib
+import io
+import os
+import pathlib
+import re
+import subprocess
+import tarfile
+import time
+
+import pytest
+
+from conftest import STRICT
+from copies import LEVELS, WITHOUT_KIT, script
+from support import HERE, TESTS, need, run, succeed
+
+pytestmark = pytest.mark.release
+slow = pytest.mark.slow
+VERSION = (HERE / "VERSION").read_text().strip()
+PARAMS = ("./slh", "params")
+
+
+def levels_here():
+    """The levels of x86-64 that this processor has, as glibc tells: the highest one first."""
+    loader = pathlib.Path("/lib64/ld-linux-x86-64.so.2")
+    said = run(loader, "--help").output.decode() if loader.exists() else ""
+    return re.findall(r"^ *(x86-64-v[234]) \(supported", said, re.M)
+
+
+HERE_ARE = levels_here()
+BEST = HERE_ARE[0] if HERE_ARE else "none"
+needs_root = pytest.mark.skipif(os.getuid() != 0, reason="this is not root")
+
+
+def need_level(level):
+    if level not in HERE_ARE:
+        pytest.skip(f"this processor lacks {level}")
+
+
+@pytest.fixture
+def changed(copy_of_module):
+    """A copy of which a test changes dist/ alone."""
+    return copy_of_module.take_release()
+
+
+def lists_sets(done):
+    """Whether this is what `slh params` prints, and no word more."""
+    return done.status == 0 and len(done.output.splitlines()) == 6 and done.errors == b""
+
+
+# ---- the release
+
+
+def test_each_file_has_the_hash_that_is_listed(release):
+    listed = dict(reversed(it.split(maxsplit=1)) for it in (release / "SHA256SUMS").read_text().splitlines())
+    files = [it for it in release.rglob("*") if it.is_file() and it.name != "SHA256SUMS"]
+    assert {str(it.relative_to(release)): hashlib.sha256(it.read_bytes()).hexdigest() for it in files} == listed
+
+
+REGISTERS = [("x86-64-v2", "xmm", "ymm"), ("x86-64-v3", "ymm", "zmm"), ("x86-64-v4", "zmm", "tmm")]
+
+
+@slow
+@pytest.mark.parametrize("file", ["slh", "libslh.a", "libslh_verify.a"])
+@pytest.mark.parametrize("level, has, lacks", REGISTERS)
+def test_code_has_the_registers_of_its_level(release, level, has, lacks, file):
+    """Except slh_clear, which clears all that a processor has."""
+    need("objdump")
+    said = succeed("objdump", "-d", "--no-show-raw-insn", release / level / file).decode()
+    code = [it for it in said.split("\nDisassembly of section ")[1:] if "slh_clear" not in it.splitlines()[0]]
+    assert any(f"%{has}" in it for it in code) and not any(f"%{lacks}" in it for it in code)
+
+
+def counted(*words):
+    """Runs a test of its own, whose counts are its last line: some have passed, and all others too."""
+    env = {key: it for key, it in os.environ.items() if key != "SLH_FAILURES"}
+    done = run(*words, env=env, cwd=HERE)
+    said = done.output.decode()
+    assert done.status == 0 and re.match(r"[1-9]\d* passed, 0 failed", said.splitlines()[-1]), said[-4000:]
+
+
+# tests/test_vectors.py has the program for the best level, and the tests of the library its archive.
+OTHERS = [pytest.param(it, marks=[slow, pytest.mark.drawn(f"the build for {it}", "kind")])
+          for it in LEVELS if it != BEST]
+
+
+@pytest.mark.parametrize("kind", ["program", "library"])
+@pytest.mark.parametrize("level", OTHERS)
+def test_vectors_by_the_build_for_another_level(release, level, kind, tmp_path):
+    need_level(level)
+    if kind == "program":
+        return counted("pytest", "-p", "no:cacheprovider", f"--program={release / level / 'slh'}",
+                       TESTS / "test_vectors.py")
+    need("cc")
+    succeed("cc", "-shared", "-Wl,--whole-archive", release / level / "libslh.a", "-Wl,--no-whole-archive",
+            "-o", tmp_path / "slh.so")
+    counted(TESTS / "library_vectors.py", tmp_path / "slh.so")
+
+
+# ---- README's commands
+
+# README's commands are run as they are there, and after them those of LIBRARY and DEVICES.
+FURTHER = """\
+./slh sign --key secret.key --message letter.txt --workers 4 > same.sig
+./slh sign --key secret.key --message letter.txt | cmp - same.sig
+tools/library.sh prefix
+cc examples/sign_file.c -I prefix/include prefix/lib/libslh.a -o sign_file
+./sign_file README.md
+cp README.md image
+./slh sign --key secret.key --prehash SHA2-256 --message image > image.sig
+sed -n 3p public.key | xxd -r -p | xxd -i > public_key.h
+cc examples/verify_image.c -I . -I prefix/include prefix/lib/libslh_verify.a -o verify_image
+./verify_image image image.sig
+"""
+
+
+def commands():
+    section = (HERE / "README.md").read_text().split("\n## Sign and verify\n")[1].split("\n## ")[0]
+    lines = [it[4:] for it in section.splitlines() if it.startswith("    ")]
+    assert len(lines) == 6, lines
+    return "\n".join(["set -e", 'cd "$(dirname "$0")"', *lines, FURTHER])
+
+
+def has_signed(copy, done, at):
+    said = f"valid\ninstalled in {at}/prefix: the release {VERSION}\nvalid\nvalid\n"
+    assert (done.output.decode(), done.errors.decode()) == (said, "")
+    assert (copy.path / "README.md.sig").stat().st_size
+
+
+def test_commands_of_readme_and_library(copy):
+    need("cc", "openssl", "xxd")
+    (copy.path / "try.sh").write_text(commands())
+    has_signed(copy, copy.run("bash", "try.sh"), copy.path)
+
+
+@slow
+def test_commands_in_a_root_without_the_kit(copy, in_another_root):
+    need("cc", "openssl", "xxd")
+    has_signed(copy, in_another_root(commands()), "/copy")
+
+
+# ---- damaged releases
+
+
+@slow
+@pytest.mark.parametrize("how", ["damaged", "missing"])
+@pytest.mark.parametrize("level", LEVELS)
+def test_program_is_not_run(changed, level, how):
+    need_level(level)
+    changed.harm(f"{level}/slh", how)
+    changed.refuses(f"slh: dist/{level}/slh is {how}", *PARAMS, SLH_CPU=level)
+
+
+@pytest.mark.parametrize("file, text", [("BUILD", "sources 0\n"), ("SHA256SUMS", "")], ids=["BUILD", "SHA256SUMS"])
+def test_damaged_list_is_not_believed(changed, file, text):
+    (changed.dist / file).write_text((changed.dist / file).read_text() + text if text else "")
+    changed.refuses("slh: dist/BUILD is damaged", *PARAMS)
+
+
+OF_LIBRARY = [
+    "x86-64/libslh.a", "x86-64/libslh.so.0", "x86-64-v2/libslh_verify.a", "x86-64-v2/libslh.a", "x86-64-v3/libslh.a",
+    "x86-64-v4/libslh.a", "include/slh.h"]
+OF_LIBRARY_ALONE = [
+    "share/cmake/slh-config.cmake", "share/cmake/slh-config-version.cmake.in", "share/man/man3/slh.3"]
+OF_INSTALLATION = [
+    "x86-64/slh", "x86-64-v2/slh", "x86-64-v3/slh", "x86-64-v4/slh", "share/man/man1/slh.1",
+    "share/bash-completion/completions/slh", "share/zsh/site-functions/_slh", "BUILD"]
+
+
+@slow
+@pytest.mark.parametrize("file", [*OF_LIBRARY, *OF_LIBRARY_ALONE])
+def test_harmed_library_is_not_installed(changed, file):
+    for how in ("damaged", "missing"):
+        changed.take_release().harm(file, how)
+        changed.refuses(f"library.sh: dist/{file} is {how}", "tools/library.sh", "prefix")
+        assert not (changed.path / "prefix").exists()
+    changed.refuses(f"library.sh: dist/{file} is missing", "tools/library.sh", "--dist", "dist", "prefix")
+    assert not (changed.path / "prefix").exists()
+
+
+@slow
+@pytest.mark.parametrize("file", [*OF_LIBRARY, *OF_INSTALLATION])
+@pytest.mark.parametrize("how", ["damaged", "missing"])
+def test_harmed_release_is_not_installed(changed, file, how):
+    changed.harm(file, how)
+    said = f".sh: dist/{file} is damaged" if how == "damaged" else ".sh: there is nothing to install"
+    changed.refuses(said, "tools/install.sh", "prefix")
+    assert not (changed.path / "prefix").exists()
+
+
+@pytest.mark.parametrize("words", [[], ["--prefix"]], ids=["none", "an option"])
+def test_words_of_the_installation(changed, words):
+    changed.refuses("usage:", "tools/install.sh", *words)
+
+
+TEXTS = ["man/man1/slh.1", "man/man3/slh.3", "bash-completion/completions/slh", "zsh/site-functions/_slh"]
+SOURCES_OF_TEXTS = [
+    "bindings/cmake/slh-config.cmake", "bindings/cmake/slh-config-version.cmake.in", "bindings/debian/slh.3",
+    "bindings/debian/from_help.py", "docs/FORMATS.md"]
+
+
+def same(one, other):
+    return one.read_bytes() == other.read_bytes()
+
+
+def test_only_files_that_are_listed_are_installed(copy):
+    for file in SOURCES_OF_TEXTS:
+        copy.append(file, "changed")
+    assert copy.run("tools/install.sh", "prefix").errors == b""
+    prefix, share = copy.path / "prefix", copy.release / "share"
+    for file in (it for it in prefix.rglob("*") if it.is_file()):
+        assert b"changed" not in file.read_bytes().splitlines(), file
+    assert same(prefix / "lib/cmake/slh/slh-config.cmake", share / "cmake/slh-config.cmake")
+    assert all(same(prefix / "share" / it, share / it) for it in TEXTS)
+
+
+@slow
+@pytest.mark.parametrize("path", [
+    "../outside.a", "aarch64/../../outside.a", "aarch64/..", "aarch64/../aarch64/libslh.a", "/outside.a",
+    "./aarch64/libslh.a", "aarch64/lib slh.a", "aarch64//libslh.a"])
+def test_strange_path_is_refused(changed, path):
+    """A listed path that leaves dist/, or is no plain path, is refused before anything is run or installed."""
+    said = "dist/SHA256SUMS is damaged: it has a line that names no file there"
+    outside = changed.path / "outside.a"
+    outside.write_bytes((changed.dist / "aarch64/libslh.a").read_bytes())
+    path = str(outside) if path.startswith("/") else path
+    changed.append("dist/SHA256SUMS", f"{hashlib.sha256(outside.read_bytes()).hexdigest()}  {path}")
+    for words in (["--target", "aarch64"], ["--dist", "dist", "--target", "aarch64"], []):
+        changed.refuses(f"library.sh: {said}", "tools/library.sh", *words, "prefix")
+    changed.refuses(f"install.sh: {said}", "tools/install.sh", "prefix")
+    changed.refuses(f"slh: {said}", *PARAMS)
+    assert not (changed.path / "prefix").exists()
+
+
+@pytest.mark.parametrize("name", ["include", "share", "mips"])
+def test_no_other_folder_is_a_target(changed, name):
+    changed.refuses(f"library.sh: no target {name}", "tools/library.sh", "--target", name, "prefix")
+
+
+@slow
+@pytest.mark.parametrize("file", ["BUILD", "SHA256SUMS", "the program"])
+def test_fifo_is_not_waited_for(changed, file):
+    """With a note on the program and without."""
+    path = changed.dist / (changed.released('echo "$file"').strip() if file == "the program" else file)
+    note = note_now(changed, "same")
+    path.unlink()
+    os.mkfifo(path)
+    changed.refuses("slh: ", *PARAMS, timeout=20)
+    note.unlink()
+    changed.refuses("slh: ", *PARAMS, timeout=20)
+    if file != "the program":
+        changed.refuses("library.sh: ", "tools/library.sh", "prefix", timeout=20)
+    changed.refuses(".sh: ", "tools/install.sh", "prefix", timeout=20)
+    assert not (changed.path / "prefix").exists()
+
+
+def test_fifo_in_place_of_a_note_is_not_waited_for(changed):
+    note = note_now(changed, "same")
+    note.unlink()
+    os.mkfifo(note)
+    done = changed.run(*PARAMS, timeout=20)
+    note.unlink()
+    assert done.status == 0
+
+
+@pytest.mark.parametrize("target, installed, file", [
+    ("aarch64", "lib/libslh.a", "libslh.a"), ("wasm64", "lib/slh.wasm", "slh.wasm"),
+    ("wasm32", "lib/slh.wasm", "slh.wasm"), ("thumbv6m", "lib/libslh_verify_128.a", "libslh_verify_128.a"),
+    ("portable", "src/slh.c", "slh.c")])
+def test_library_for_another_machine_is_installed(changed, target, installed, file):
+    assert changed.run("tools/library.sh", "--target", target, f"for_{target}").status == 0
+    assert same(changed.path / f"for_{target}" / installed, changed.release / target / file)
+
+
+# ---- which program ./slh runs
+
+
+def test_other_sources_are_told(copy):
+    """Without rt the release is run and installed. With rt it is not."""
+    copy.append("crates/slh_core/src/lib.rt", "// changed")
+    done = copy.run(*PARAMS)
+    assert len(done.output.splitlines()) == 6
+    assert re.search("slh: .* the sources differ from it", done.errors.decode())
+    done = copy.run("tools/library.sh", "prefix")
+    assert re.search("library.sh: .* the sources differ from it", done.errors.decode())
+    assert (copy.path / "prefix/lib/libslh.a").is_file()
+    done, called = copy.run_with_kit(*PARAMS)
+    assert done.status and done.output == b"" and called
+    done, called = copy.run_with_kit("tools/library.sh", "other")
+    assert done.status and called and not (copy.path / "other").exists()
+
+
+def test_release_is_run_beside_rt(copy):
+    done, called = copy.run_with_kit(*PARAMS)
+    assert lists_sets(done) and not called
+
+
+def test_program_is_built_if_that_is_asked_for(changed):
+    done, called = changed.run_with_kit(*PARAMS, SLH_BUILD="1")
+    assert (done.status, done.output, called) == (2, b"", True)
+    done, called = changed.run_with_kit("tools/library.sh", "prefix", SLH_BUILD="1")
+    assert done.status and called and not (changed.path / "prefix").exists()
+
+
+def test_program_is_built_if_that_of_the_release_is_damaged(changed):
+    changed.harm("x86-64-v2/slh", "damaged")
+    done, called = changed.run_with_kit(*PARAMS, SLH_CPU="x86-64-v2")
+    assert done.status and done.output == b"" and called
+    assert b"dist/x86-64-v2/slh is damaged" in done.errors
+
+
+def test_links_are_followed(changed):
+    """./slh is found through symbolic links to it and to its folder, from any folder."""
+    for name, to in [("folder", changed.path), ("first", "folder/slh"), ("second", "first")]:
+        (changed.work / name).unlink(missing_ok=True)
+        (changed.work / name).symlink_to(to)
+    assert lists_sets(changed.run("bash", "-c", 'cd / && "$0" params', changed.work / "second"))
+    words = 'cd "$0" && PATH=.:$PATH && second params'
+    assert lists_sets(changed.run("bash", "-c", words, changed.work))
+
+
+def test_missing_script_has_status_2(copy):
+    (copy.path / "tools/released.sh").unlink()
+    copy.refuses("released.sh", *PARAMS)
+
+
+@pytest.mark.parametrize("level", LEVELS)
+def test_program_that_may_not_be_run_has_status_2(changed, level):
+    need_level(level)
+    (changed.dist / level / "slh").chmod(0o644)
+    changed.refuses(f"{level}/slh", *PARAMS, SLH_CPU=level)
+
+
+def test_change_of_a_test_is_no_change_of_the_sources(copy):
+    copy.append("crates/slh_tests/src/lib.rt", "// changed")
+    assert lists_sets(copy.run(*PARAMS))
+
+
+def test_unknown_level_is_refused(changed):
+    changed.refuses("SLH_CPU is x86-64-v2, x86-64-v3 or x86-64-v4", *PARAMS, SLH_CPU="v4")
+
+
+# ---- notes
+
+
+def note_now(copy, found):
+    """Writes the note that ./slh would write two seconds after the last change: what was FOUND, for all files as they
+    are."""
+    said = copy.released('mkdir -p "${note%/*}" && { echo "$1" && (looked_at); } >"$note"; echo "$note"', found)
+    note = pathlib.Path(said.strip())
+    assert "BUILD" in note.read_text()
+    return note
+
+
+def says_same(copy):
+    return lists_sets(copy.run(*PARAMS))
+
+
+def says_other(copy):
+    done = copy.run(*PARAMS)
+    return len(done.output.splitlines()) == 6 and b"the sources differ" in done.errors
+
+
+def change_unseen(path, text=b""):
+    """Changes a letter or digit of a file, that at the text or in its middle, and nothing that `ls -l` shows."""
+    before = path.stat()
+    data = bytearray(path.read_bytes())
+    at = data.index(text) if text else len(data) // 2
+    at += re.search(rb"[0-9A-Za-z]", data[at:]).start()
+    with open(path, "r+b") as file:
+        file.seek(at)
+        file.write(b"1" if data[at:at + 1] == b"0" else b"0")
+    os.utime(path, ns=(before.st_atime_ns, before.st_mtime_ns))
+
+
+@slow
+def test_a_note_is_written(copy):
+    """Once no file was changed for two seconds. Before that ./slh looks at the hashes each time."""
+    note = pathlib.Path(copy.released('echo "$note"').strip())
+    note.unlink(missing_ok=True)
+    (copy.path / "VERSION").touch()
+    assert says_same(copy) and not note.exists()
+    time.sleep(3.1)
+    assert says_same(copy) and note.read_text().splitlines()[0] == "same"
+    written = note.read_bytes()
+    assert note_now(copy, "same").read_bytes() == written
+    copy.append("crates/slh_core/src/lib.rt", "// changed")
+    time.sleep(3.1)
+    assert says_other(copy) and note.read_text().splitlines()[0] == "other"
+
+
+def test_each_source_is_one_that_a_note_depends_on(copy):
+    """Each file that tools/sources.sh reads is one of those that ./slh looks at."""
+    summed = copy.work / "summed"
+    script(copy.work / "sums/sha256sum",
+           f'#!/bin/sh\nprintf "%s\\n" "$@" >>"{summed}"\nexec /usr/bin/sha256sum "$@"\n')
+    assert copy.run(copy.path / "tools/sources.sh", path=f"{copy.work / 'sums'}:{WITHOUT_KIT}").status == 0
+    files = set(summed.read_text().splitlines()) - {""}  # a sum of standard input names no file
+    looked = {it.split(" ", 3)[3].removeprefix(f"{copy.path}/") for it in copy.released("looked_at").splitlines()}
+    assert len(files) > 500 and not files - looked
+
+
+@slow
+@pytest.mark.parametrize("file", [
+    "HANDLES", "VERSION", "crates.txt", "c/include/slh.h", "tools/kit.py", "tools/program.sh", "tools/target.sh",
+    "crates/slh/src/main.rt", "crates/slh_params/specs/Lib.antt", "crates/slh_params/proofs/Bounds.antt"])
+def test_changed_source_is_seen_over_a_note(copy_of_module, file):
+    """Though its length and time are as they were."""
+    copy, path = copy_of_module.take_release(), copy_of_module.path / file
+    was = path.read_bytes()
+    note_now(copy, "same")
+    try:
+        assert says_same(copy)
+        change_unseen(path)
+        assert says_other(copy)
+    finally:
+        path.write_bytes(was)
+    assert says_same(copy)
+
+
+@slow
+def test_new_or_missing_source_is_seen_over_a_note(copy):
+    note_now(copy, "same")
+    (copy.path / "crates" / "slh/src/more.rt").write_text("\n")
+    assert says_other(copy)
+    note_now(copy, "other")
+    (copy.path / "crates" / "slh/src/more.rt").unlink()
+    assert says_same(copy)
+    note_now(copy, "same")
+    (copy.path / "crates/slh/src/main.rt").unlink()
+    assert says_other(copy)
+
+
+@slow
+@pytest.mark.parametrize("file", ["the program", "BUILD", "SHA256SUMS"])
+def test_damage_is_seen_over_a_note(changed, file):
+    """Of the program, of the list of hashes, and of the file that says of which sources it is."""
+    program = changed.released('echo "$file"').strip()
+    named = program if file != "BUILD" else file
+    text = b""
+    if file == "SHA256SUMS":
+        text = hashlib.sha256((changed.dist / program).read_bytes()).hexdigest().encode()
+    note_now(changed, "same")
+    assert says_same(changed)
+    change_unseen(changed.dist / (program if file == "the program" else file), text)
+    changed.refuses(f"dist/{named} is damaged", *PARAMS)
+    note_now(changed, "same")
+    changed.refuses(f"dist/{named} is damaged", *PARAMS)
+
+
+@needs_root
+@slow
+def test_note_of_another_user_is_not_believed(copy):
+    change_unseen(copy.path / "VERSION")
+    note = note_now(copy, "same")
+    assert says_same(copy)
+    os.chown(note, 65534, 65534)
+    assert says_other(copy)
+
+
+@needs_root
+@slow
+@pytest.mark.parametrize("cache, home", [
+    ("/dev/null/none", "/"), ("relative", "/dev/null"), ("", "relative"), ("", "")])
+def test_folder_that_cant_be_written_is_no_hindrance(copy, cache, home):
+    change_unseen(copy.path / "VERSION")
+    time.sleep(3.1)
+    done = copy.run(*PARAMS, XDG_CACHE_HOME=cache, HOME=home)
+    assert len(done.output.splitlines()) == 6 and len(done.errors.splitlines()) == 1
+    assert not (copy.path / "relative").exists()
+
+
+def seconds_of(*words, **options):
+    """The processor seconds of a run, of ten."""
+    before = os.times()
+    for _ in range(10):
+        subprocess.run(words, stdout=subprocess.DEVNULL, stderr=subprocess.DEVNULL, check=True, **options)
+    after = os.times()
+    return (after.children_user + after.children_system - before.children_user - before.children_system) / 10
+
+
+@slow
+def test_a_note_saves_most_of_the_time(changed):
+    """./slh takes less than a third of the time that it takes to look at all hashes."""
+    note_now(changed, "same")
+    with_note = seconds_of(changed.path / "slh", "params", env={"HOME": str(changed.work), "PATH": WITHOUT_KIT})
+    without = seconds_of(changed.path / "slh", "params", env={"PATH": WITHOUT_KIT})
+    assert 3 * with_note < without
+
+
+# ---- which build for a processor
+
+# The features of each level that /proc/cpuinfo tells.
+V2 = "cx16 lahf_lm popcnt pni sse4_1 sse4_2 ssse3".split()
+V3 = "avx avx2 bmi1 bmi2 f16c fma abm movbe".split()
+V4 = "avx512f avx512bw avx512cd avx512dq avx512vl".split()
+
+
+@pytest.fixture
+def processor(changed, can_unshare):
+    """Runs ./slh where /proc/cpuinfo has these flags, with the programs of the release replaced: processor(FLAGS,
+    LEVEL) has the one of this level print its path, and all others damaged, since this processor need not have it."""
+
+    def runs(flags, level=None, **variables):
+        changed.take_release()
+        for other in LEVELS:
+            changed.harm(f"{other}/slh", "damaged")
+        if level:
+            (changed.dist / level / "slh").write_text('#!/bin/sh\necho "$0"\n')
+        changed.list_anew()
+        for other in LEVELS:
+            if other != level:
+                changed.append(f"dist/{other}/slh", "")
+        cpuinfo = changed.work / "cpuinfo"
+        cpuinfo.write_text(f"flags : {' '.join(flags)}\n")
+        return changed.run("unshare", "-rm", "bash", "-c", 'mount --bind "$0" /proc/cpuinfo && exec "$@"', cpuinfo,
+                           *PARAMS, **variables)
+
+    runs.copy = changed
+    return runs
+
+
+def without(flags, flag):
+    return [it for it in flags if it != flag]
+
+
+CHOICES = {
+    "v2": (V2, "v2", {}), "v3": (V2 + V3, "v3", {}), "v4": (V2 + V3 + V4, "v4", {}),
+    **{f"without {it}": (V2 + V3 + without(V4, it), "v3", {}) for it in V4},
+    **{f"without {it}": (V2 + without(V3, it) + V4, "v2", {}) for it in V3},
+    **{f"{it} of v4": (V2 + V3 + V4, it, {"SLH_CPU": f"x86-64-{it}"}) for it in ("v2", "v3", "v4")},
+}
+LACKING = {
+    **{f"v4 without {it}": (V2 + V3 + without(V4, it), "v4") for it in V4},
+    "v3 of v2": (V2, "v3"), "v4 of v3": (V2 + V3, "v4"),
+}
+
+
+@slow
+@pytest.mark.parametrize("case", CHOICES)
+def test_level_of_the_processor_is_chosen(processor, case):
+    flags, level, variables = CHOICES[case]
+    done = processor(flags, f"x86-64-{level}", **variables)
+    assert done.status == 0 and done.output.decode() == f"{processor.copy.dist}/x86-64-{level}/slh\n"
+
+
+@slow
+@pytest.mark.parametrize("case", LACKING)
+def test_level_that_the_processor_lacks_is_refused(processor, case):
+    flags, level = LACKING[case]
+    done = processor(flags, f"x86-64-{level}", SLH_CPU=f"x86-64-{level}")
+    assert (done.status, done.output) == (2, b"") and f"not of the level x86-64-{level}" in done.errors.decode()
+
+
+@slow
+def test_processor_below_all_levels_is_refused(processor):
+    done = processor(["cx16", "popcnt"])
+    assert done.status == 2 and b"not of the level x86-64-v2" in done.errors
+
+
+# ---- the installed program
+
+
+def best_number():
+    return int(BEST[-1])
+
+
+@pytest.fixture
+def installed_release(changed):
+    """The prefix of an installation."""
+    prefix = changed.path / "pre fix"
+    done = changed.run("tools/install.sh", prefix)
+    assert (done.output.decode(), done.errors) == (f"installed in {prefix}: the release {VERSION}\n", b"")
+    yield prefix
+    succeed("rm", "-rf", prefix)
+
+
+@slow
+def test_files_are_installed(installed_release, release):
+    assert same(installed_release / "lib/libslh.a", release / "x86-64/libslh.a")
+    assert all(same(installed_release / "lib/slh" / it / "slh", release / it / "slh") for it in LEVELS)
+    assert same(installed_release / "bin/slh", release / "x86-64/slh")
+    for it in TEXTS:
+        if "man3" not in it:
+            assert b"sign" in (installed_release / "share" / it).read_bytes()
+
+
+@slow
+def test_program_is_found_from_any_folder(installed_release, changed):
+    """Through links, by PATH, after it was moved, and under a path with a space."""
+    moved, linked, folder = changed.path / "moved #here", changed.work / "linked", changed.path / "folder"
+    for it in (linked, folder):
+        it.unlink(missing_ok=True)
+    installed_release.rename(moved)
+    linked.symlink_to(moved / "bin/slh")
+    folder.symlink_to("moved #here")
+    for it in (moved / "bin/slh", linked, folder / "bin/slh"):
+        done = changed.run(it, "vectors", "--file", "tests/vectors/smoke-128f.json")
+        assert done.output.splitlines()[-1] == b"passed 6 failed 0"
+    assert lists_sets(changed.run("slh", "params", path=f"{folder / 'bin'}:{WITHOUT_KIT}"))
+    assert lists_sets(changed.run("bash", "-c", "cd folder/bin && exec -a other ./slh params"))
+    succeed("rm", "-rf", moved)
+
+
+@pytest.fixture
+def stand_ins(installed_release, changed):
+    """An installation whose builds are scripts. They print their level, the variable IT and their words, and end with
+    status 3."""
+    for level in LEVELS:
+        script(installed_release / f"lib/slh/{level}/slh", f'#!/bin/sh\necho {level[-2:]} "$IT" "$@"\nexit 3\n')
+    return StandIns(changed, installed_release / "bin/slh")
+
+
+class StandIns:
+    def __init__(self, copy, program):
+        self.copy, self.program = copy, program
+
+    def run_build(self, number, *before):
+        """The installed program runs the build for a level, with its words and variables as they are. A command may
+        be before it."""
+        done = self.copy.run(*before, self.program, "a  b", "", "c", IT="an  it")
+        assert (done.status, done.output.decode()) == (3, f"v{number} an  it a  b  c\n"), done
+
+    def refuse_processor(self, *before):
+        said = self.copy.refuses("slh: this processor is not of the level x86-64-v2", *before, self.program, "params")
+        assert len(said.splitlines()) == 1
+
+
+def test_installed_program_runs_the_build_for_the_processor(stand_ins):
+    stand_ins.run_build(best_number())
+
+
+EMULATED = {"Nehalem": 2, "Haswell": 3, "core2duo": None,
+            **{f"Haswell,-{it}": 2 for it in "avx avx2 bmi1 bmi2 f16c fma abm movbe xsave".split()}}
+
+
+@slow
+@pytest.mark.emulator
+@pytest.mark.parametrize("processor_name, number", EMULATED.items(), ids=EMULATED)
+def test_build_for_an_emulated_processor(stand_ins, processor_name, number):
+    need("qemu-x86_64")
+    before = ("qemu-x86_64", "-cpu", processor_name)
+    stand_ins.run_build(number, *before) if number else stand_ins.refuse_processor(*before)
+
+
+@slow
+@pytest.mark.parametrize("place, number", enumerate([2, 3, 4, 3, 2, 2, None]))
+def test_build_for_each_processor_of_a_table(stand_ins, place, number):
+    """It is compiled for each processor of tests/processors.h."""
+    need("cc")
+    stand_ins.copy.path.joinpath("chooser").unlink(missing_ok=True)
+    succeed("cc", "-std=c11", *STRICT, "-O2", "-ffreestanding", "-fno-stack-protector", "-nostdlib", "-static",
+            f"-DPROCESSOR={place}", "c/starter.c", "c/exports/chosen.c", "tests/forced_level.c", "-o",
+            stand_ins.program, cwd=stand_ins.copy.path)
+    stand_ins.run_build(number) if number else stand_ins.refuse_processor()
+
+
+@slow
+@pytest.mark.parametrize("words", [["rm"], ["chmod", "-x"], ["cp", "/dev/null"]], ids=" ".join)
+def test_build_that_cant_be_run_has_status_2(stand_ins, words):
+    build = f"lib/slh/{BEST}/slh"
+    succeed(*words, stand_ins.program.parent.parent / build)
+    path = f"{stand_ins.program.parent}/../{build}"
+    said = stand_ins.copy.refuses(f"slh: {path} can't be run", stand_ins.program, "params")
+    assert len(said.splitlines()) == 1
+
+
+@slow
+def test_installed_program_needs_proc(stand_ins, can_unshare):
+    """It finds its own place there."""
+    words = 'mount -t tmpfs none /proc && exec "$@"'
+    said = stand_ins.copy.refuses("slh: /proc/self/exe can't be read", "unshare", "-rm", "bash", "-c", words, "it",
+                                  stand_ins.program, "params")
+    assert len(said.splitlines()) == 1
+
+
+def milliseconds(*words):
+    before = time.perf_counter()
+    subprocess.run(words, stdout=subprocess.DEVNULL, check=True)
+    return 1000 * (time.perf_counter() - before)
+
+
+@slow
+def test_installed_program_starts_soon(installed_release):
+    """The least of many runs by turns, since this machine may be busy."""
+    build = installed_release / f"lib/slh/{BEST}/slh"
+    runs = [(milliseconds(installed_release / "bin/slh", "params"), milliseconds(build, "params")) for _ in range(200)]
+    through, direct = map(min, zip(*runs))
+    assert through <= 10 and through - direct <= 2
+
+
+# ---- packages
+
+
+@slow
+def test_packages_of_a_tarball_have_a_date(copy):
+    """That of SOURCE_DATE_EPOCH, else that of CHANGELOG.md: there is no .git."""
+    need("dpkg-deb", "dpkg-shlibdeps", "strip")
+    os.utime(copy.path / "CHANGELOG.md", (1600000000, 1600000000))
+    for second, variables in [(1500000000, {"SOURCE_DATE_EPOCH": "1500000000"}), (1600000000, {})]:
+        done = copy.run("tools/debian.sh", "debs", **variables)
+        assert done.status == 0, done
+        package, = (copy.path / "debs").glob("libslh-dev_*.deb")
+        files = tarfile.open(fileobj=io.BytesIO(succeed("dpkg-deb", "--fsys-tarfile", package)))
+        assert {it.mtime for it in files} == {second}

@@ -1,0 +1,409 @@
+"""Tests tools/test.sh and the harness that it runs (conftest.py, test_scripts.py). Whatever fails, ends early or is
+skipped has to be seen at its end. A small repository has stubs in place of the scripts, and one file of tests."""
+import hashlib
+import os
+import re
+import shutil
+
+import pytest
+
+from copies import WITHOUT_KIT, script, skip_beside_kit
+from support import HERE, TESTS, run
+from test_scripts import OTHER_SOURCES, SCRIPTS
+
+HARNESS = [
+    ".ci/run", "pytest.ini", "tools/test.sh", "tools/released.sh", "tests/budgets.toml", "tests/conftest.py",
+    "tests/copies.py", "tests/counts.sh", "tests/provider.py", "tests/support.py", "tests/test_scripts.py"]
+TABLE = """\
+OF_LIBRARY = [("of_library", "cat"), ("other_library", "", "--dist {release}", "--dist {release} --drawn")]
+OF_RELEASE = [("of_release", "")]
+OF_WRONG_BODIES = [("bodies", "", "--changed", "--gate")]
+OF_KIT = [("tables", "", "")]
+OF_NEW_MACHINES = [("of_new_machine", "", "--few")]
+"""
+OF_SOURCES = ["of_library", "other_library"]
+OF_KIT = ["bodies", "tables"]
+FOUR = 'echo "4 passed, 0 failed"\n'
+STUB = '#!/bin/sh\necho "${0##*/} $*" >>"$HOME/called"\n'
+TESTS_OF_PYTEST = "import pytest\ndef test_right(): pass\n"
+
+
+class Small:
+    """A small repository with the test command."""
+
+    def __init__(self, folder):
+        self.path, self.called = folder / "small", folder / "called"
+        for file in HARNESS:
+            (self.path / file).parent.mkdir(parents=True, exist_ok=True)
+            shutil.copy(HERE / file, self.path / file)
+        script(self.path / "tools/sources.sh", "#!/bin/sh\necho x\n")
+        script(self.path / "tools/setup.sh", '#!/bin/sh\n[ "$1" = --missing ]\n')
+        self.write("tests/scripts.py", TABLE)
+        for it in [*OF_SOURCES, "of_release", *OF_KIT, "of_new_machine"]:
+            script(self.path / "tests" / it, STUB + FOUR)
+        self.write("tests/test_vectors.py", TESTS_OF_PYTEST)
+        self.write("dist/BUILD", "version 0\nsources x\n")
+        self.write("dist/SHA256SUMS", "")
+
+    def write(self, file, text):
+        (self.path / file).parent.mkdir(parents=True, exist_ok=True)
+        (self.path / file).write_text(text)
+
+    def add_kit(self, rt=FOUR, release=FOUR):
+        """Stubs of rt, and of tools/release.sh, which makes a release."""
+        script(self.path / "kit/rt", STUB + rt)
+        script(self.path / "tools/release.sh", STUB + "mkdir out out/release\ncp dist/* out/release\n" + release)
+
+    def run(self, *words, command="tools/test.sh", **variables):
+        """The status of the test command, and its lines."""
+        env = {"HOME": str(self.called.parent), "PATH": f"{self.path / 'kit'}:{WITHOUT_KIT}", **variables}
+        done = run(command, *words, cwd=self.path, env=env)
+        return done.status, (done.errors + done.output).decode().splitlines()
+
+    def calls(self):
+        """How the stubs were called, in order."""
+        return self.called.read_text().splitlines() if self.called.exists() else []
+
+
+@pytest.fixture
+def small(tmp_path):
+    skip_beside_kit()
+    return Small(tmp_path)
+
+
+def failures(lines):
+    """What is listed at the end, under `failed:`."""
+    return lines[lines.index("failed:") + 1:-1] if "failed:" in lines else []
+
+
+def skips(lines):
+    return sorted(it for it in lines if "SKIPPED, since " in it)
+
+
+# ---- what is run
+
+
+def test_release_is_tested_without_rt(small):
+    """Each script runs once over dist/, and the counts are added up. The parts that need rt are skipped by name."""
+    status, lines = small.run("--no-setup")
+    assert small.calls() == [f"{it} --dist dist" for it in [*OF_SOURCES, "of_release"]]
+    assert (status, lines[-1]) == (0, "13 passed, 0 failed, 4 skipped")
+    names = [f"tests/{it}: SKIPPED, since there is no rt (to be had by the Rattle kit)" for it in OF_KIT]
+    made = "it makes a Debian (tools/test.sh runs it beside rt ci, pytest -k of_new_machine alone)"
+    assert skips(lines) == sorted(
+        [*names, "rt ci: SKIPPED, since there is no rt", f"tests/of_new_machine: SKIPPED, since {made}"])
+
+
+@pytest.mark.slow
+def test_few_tests_of_each_script(small):
+    status, lines = small.run("--no-setup", "--few")
+    assert small.calls() == [
+        "of_library --few --dist dist", "other_library --dist dist", "of_release --few --dist dist"]
+    assert status == 0
+
+
+@pytest.mark.slow
+def test_one_test_of_each_file(small):
+    """For a new machine, which shows what only it can show."""
+    small.write("tests/test_vectors.py", TESTS_OF_PYTEST + "def test_wrong(): assert False\n")
+    status, lines = small.run("--no-setup", "--few", PYTEST_ADDOPTS="--one")
+    assert small.calls() == []
+    assert (status, lines[-1]) == (0, "1 passed, 0 failed, 2 skipped")
+
+
+def test_release_of_rt_ci_is_tested_once(small):
+    """`rt ci` and the release come first. Then each part runs once, over that release."""
+    small.add_kit()
+    status, lines = small.run("--no-setup")
+    assert small.calls() == [
+        "rt ci", "release.sh --after-ci --check out/release", "bodies --gate", "tables ", "of_new_machine --few",
+        "of_library --dist out/release", "other_library --dist out/release --drawn", "of_release --dist out/release"]
+    assert (status, lines[-1]) == (0, "33 passed, 0 failed, 0 skipped")
+
+
+@pytest.mark.slow
+def test_program_is_tested_quickly(small):
+    small.add_kit()
+    script(small.path / "slh", STUB)
+    script(small.path / "crates/slh/out/slh", "#!/bin/sh\necho 128f\n")
+    status, lines = small.run("--no-setup", "--quick")
+    assert small.calls() == ["slh params", "bodies --changed"]
+    assert (status, lines[-1]) == (0, "5 passed, 0 failed, 0 skipped")
+
+
+@pytest.mark.slow
+def test_program_that_is_not_built_is_a_failure(small):
+    small.add_kit()
+    script(small.path / "slh", "#!/bin/sh\nexit 2\n")
+    script(small.path / "crates/slh/out/slh", "#!/bin/sh\necho 128f\n")
+    status, lines = small.run("--no-setup", "--quick")
+    assert status == 1 and "SLH_BUILD=1 ./slh params: no" in failures(lines)
+
+
+@pytest.mark.slow
+def test_scripts_over_an_older_release_are_skipped(small):
+    """They would test what it lacks."""
+    script(small.path / "tools/sources.sh", "#!/bin/sh\necho y\n")
+    status, lines = small.run("--no-setup")
+    assert "the sources are NOT those that the release was built of" in lines
+    assert small.calls() == ["of_release --dist dist"]
+    names = [f"tests/{it}: SKIPPED, since {OTHER_SOURCES}" for it in OF_SOURCES]
+    assert status == 0 and set(names) <= set(skips(lines))
+
+
+# ---- what is seen at the end
+
+# The status of a script, its last line, and what is listed.
+ENDS = [
+    (1, "4 passed, 1 failed", "it is right: no, it is not"),
+    (2, "no program", "it printed no counts, and ended with status 2"),
+    (0, "nothing at all", "it printed no counts, and ended with status 0"),
+    (0, "0 passed, 0 failed", "it ran nothing"),
+    (1, "4 passed, 0 failed", "it counted no failure, and ended with status 1"),
+]
+
+
+@pytest.mark.parametrize("status, line, said", ENDS, ids=[it[2] for it in ENDS])
+def test_failure_of_a_script_is_named(small, status, line, said):
+    count = 'tell "it is right" "no, it is not"' if "1 failed" in line else ":"
+    script(small.path / "tests/of_release",
+           f'#!/bin/bash\n. tests/counts.sh\n{count}\necho "{line}"\nexit {status}\n')
+    ended, lines = small.run("--no-setup")
+    assert failures(lines) == [
+        f"tests/of_release: {said}", "    alone: tests/of_release --dist dist"]
+    assert ended == 1 and re.fullmatch(r"\d+ passed, 1 failed, 4 skipped", lines[-1])
+
+
+@pytest.mark.slow
+def test_failure_that_a_script_does_not_note_is_named(small):
+    script(small.path / "tests/of_release",
+           '#!/bin/sh\necho "one: yes"\necho "two: no"\necho "1 passed, 2 failed"\nexit 1\n')
+    status, lines = small.run("--no-setup")
+    assert failures(lines)[:2] == [f"tests/of_release: {it}" for it in ("two: no", "1 failed that it names above")]
+    assert status == 1 and " passed, 2 failed, " in lines[-1]
+
+
+# What pytest has to say of a file of tests, and the first line that is listed.
+OF_PYTEST = {
+    "a test": ('@pytest.mark.parametrize("it", ["a b"])\ndef test_wrong(it): assert it == "a"\n',
+               "tests/test_streams.py::test_wrong[a b]: AssertionError", "'tests/test_streams.py::test_wrong[a b]'"),
+    "a fixture": ("@pytest.fixture\ndef it(): assert False\ndef test_wrong(it): pass\n",
+                  "tests/test_streams.py::test_wrong: assert False", "tests/test_streams.py::test_wrong"),
+    "the end of a fixture": ("@pytest.fixture\ndef it():\n    yield\n    assert False\ndef test_wrong(it): pass\n",
+                             "tests/test_streams.py::test_wrong: assert False", "tests/test_streams.py::test_wrong"),
+    "a file": ("import nothing\n", "tests/test_streams.py: no", "tests/test_streams.py"),
+}
+
+
+@pytest.mark.slow
+@pytest.mark.parametrize("text, said, alone", OF_PYTEST.values(), ids=OF_PYTEST)
+def test_failure_of_a_test_is_named(small, text, said, alone):
+    small.write("tests/test_streams.py", "import pytest\n" + text)
+    status, lines = small.run("--no-setup")
+    assert failures(lines)[0].startswith(said) and failures(lines)[1] == f"    alone: pytest --release=dist {alone}"
+    assert status == 1 and " passed, 1 failed, " in lines[-1]
+
+
+@pytest.mark.slow
+@pytest.mark.parametrize("text, said", [
+    ("import os\ndef test_ends(): os._exit(0)\n", "pytest: it printed no counts, and ended with status 0"),
+    ("import pytest\ndef test_ends(): pytest.exit('early', returncode=0)\n",
+     "pytest: it counted no failure, and ended with status 1"),
+    ("def test_ends(): raise KeyboardInterrupt\n", "pytest: it counted no failure, and ended with status 2")],
+    ids=["the process", "the session", "an interrupt"])
+def test_early_end_of_pytest_is_named(small, text, said):
+    small.write("tests/test_z.py", text)
+    status, lines = small.run("--no-setup")
+    assert failures(lines) == [said, "    alone: pytest --release=dist"] and status == 1
+
+
+@pytest.mark.slow
+def test_missing_release_is_a_failure(small):
+    shutil.rmtree(small.path / "dist")
+    status, lines = small.run("--no-setup")
+    assert status == 1 and failures(lines)[0] == "pytest: it printed no counts, and ended with status 4"
+    assert any("--release needs a folder that has a release" in it for it in lines)
+
+
+@pytest.mark.slow
+@pytest.mark.parametrize("rt, said", [
+    ('echo "slh_core: no proof"\necho "4 passed, 1 failed"\nexit 1\n', "rt ci: slh_core: no proof"),
+    ("exit 0\n", "rt ci: it printed no counts, and ended with status 0"),
+    ("kill -9 $$\n", "rt ci: it printed no counts, and ended with status 137")],
+    ids=["a proof", "an early end", "a kill"])
+def test_failure_of_the_proofs_is_named(small, rt, said):
+    """And all other parts are run."""
+    small.add_kit(rt)
+    status, lines = small.run("--no-setup")
+    assert failures(lines)[0] == said and failures(lines)[-1] == "    alone: rt ci"
+    assert status == 1 and " passed, 1 failed, 0 skipped" in lines[-1]
+    assert "of_release --dist out/release" in small.calls()
+
+
+@pytest.mark.slow
+def test_difference_from_dist_is_named(small):
+    small.add_kit(release='echo "dist/slh is built again bit for bit: no"\necho "4 passed, 1 failed"\nexit 1\n')
+    status, lines = small.run("--no-setup")
+    assert failures(lines) == [
+        "tools/release.sh: 4 passed, 1 failed", "    alone: tools/release.sh --after-ci --check out/release"]
+    assert status == 1
+
+
+@pytest.mark.slow
+def test_wrong_body_is_named(copy):
+    """Of two wrong bodies the prover refuses one: the other one is named. A stand-in for the prover says of the first
+    that there is no proof."""
+    refused, other = "slh_board/claim_never_looks", "slh_board/stop_stores_next"
+    script(copy.work / "kit/bin/rt", "#!/bin/sh\necho logic 0\n")
+    script(copy.work / "kit/bin/rattle", """#!/bin/sh
+case "$PWD $*" in
+*/crates/slh_board\\ *) exit 0 ;;
+*Board::claim*) ;;
+*) echo "only=1 proved=1" && exit 0 ;;
+esac
+echo './proofs/board/Board/claim/Answers.antt:1:1: error: `claim`: there is no proof'
+printf '%s\\n' "fn slh_board::board::Board::claim: no proof" "only=1 proved=0" && exit 1
+""")
+    script(copy.path / "tests/of_release", f'#!/bin/sh\nexec tests/wrong_bodies.py --write {refused} {other}\n')
+    (copy.path / "tests/scripts.py").write_text(TABLE)
+    done = copy.run("pytest", "--release=dist", "-k", "of_release", "tests/test_scripts.py",
+                    path=f"{copy.work / 'kit/bin'}:{WITHOUT_KIT}", SLH_FAILURES=str(copy.work / "noted"))
+    assert done.status == 1 and re.search(f"^{refused}.edit: refused in .*no proof", done.output.decode(), re.M)
+    assert (copy.work / "noted").read_text().splitlines()[0] == (
+        f"tests/of_release: {other}: NOT REFUSED: the function is still proved")
+
+
+@pytest.mark.slow
+def test_skipped_parts_of_a_script_are_named_and_counted(small):
+    script(small.path / "tests/of_release",
+           '#!/bin/bash\n. tests/counts.sh\nskip "it" "not"\ntell "other" yes\nend_counts\n')
+    status, lines = small.run("--no-setup")
+    assert "it: SKIPPED, since not" in lines[lines.index("== pytest --release=dist"):]
+    assert (status, lines[-1]) == (0, "10 passed, 0 failed, 5 skipped")
+
+
+# ---- what a watcher sees
+
+
+@pytest.mark.slow
+def test_lines_are_shown_as_they_come_and_a_silence_has_dots(small):
+    script(small.path / "tests/of_release", "#!/bin/sh\necho begins\nsleep 3\necho ends\n" + FOUR)
+    lines = small.run("--no-setup", SLH_DOTS_AFTER="1")[1]
+    begins, ends = lines.index("begins"), lines.index("ends")
+    assert any(re.fullmatch(r"\.{2,}", it) for it in lines[begins:ends])
+
+
+@pytest.mark.slow
+def test_part_over_its_budget_is_marked(small):
+    """Whatever its options are. That is no failure."""
+    pytest.importorskip("tomllib", reason="Python before 3.11 has no tomllib")
+    script(small.path / "tests/of_release",
+           "#!/bin/sh\ni=0\nwhile [ $i -lt 100000 ]; do i=$((i + 1)); done\n" + FOUR)
+    small.write("tests/budgets.toml", '[release]\n"tests/of_release" = 0.0001\n"tests/test_vectors.py" = 9\n')
+    status, lines = small.run("--no-setup")
+    over, = {it for it in lines if "OVER ITS BUDGET" in it}
+    assert status == 0 and re.fullmatch(r"tests/of_release: .* of 0.0001 processor minutes: OVER ITS BUDGET", over)
+
+
+@pytest.mark.slow
+def test_proofs_over_their_budget_are_marked(small):
+    pytest.importorskip("tomllib", reason="Python before 3.11 has no tomllib")
+    small.add_kit(rt="i=0\nwhile [ $i -lt 100000 ]; do i=$((i + 1)); done\n" + FOUR)
+    small.write("tests/budgets.toml", '[whole]\n"rt ci" = 0.0001\n"tools/release.sh" = 9\n')
+    lines = small.run("--no-setup")[1]
+    over, = {it for it in lines if "OVER ITS BUDGET" in it}
+    assert over.startswith("rt ci: ") and any(it.startswith("tools/release.sh: ") for it in lines)
+
+
+# ---- set-up and words
+
+
+@pytest.mark.slow
+@pytest.mark.parametrize("status", [0, 1])
+def test_missing_tools_are_installed(small, status):
+    """The test command goes on, whether they can be installed or not. CI runs it."""
+    may = os.getuid() == 0 and os.path.exists("/etc/debian_version")
+    script(small.path / "tools/setup.sh", f"""#!/bin/sh
+[ "$1" != --missing ] || {{ [ -e has ] && exit; echo "it and more"; exit 1; }}
+echo installs >>"$HOME/called"
+[ {status} = 1 ] || touch has
+exit {status}
+""")
+    ended, lines = small.run(command=".ci/run")
+    said = [it for it in lines if it.startswith("missing: it and more. tools/setup.sh installs them, as root")]
+    assert ended == 0 and ("installs" in small.calls()) == may and len(said) == (status or not may)
+
+
+@pytest.mark.slow
+def test_missing_tools_are_named_without_setup(small):
+    script(small.path / "tools/setup.sh", STUB + '[ "$1" = --missing ] && echo "it and more"\nexit 1\n')
+    lines = small.run("--no-setup")[1]
+    assert lines[0].startswith("missing: it and more. ") and "setup.sh " not in small.calls()
+
+
+@pytest.mark.parametrize("content, ends", [
+    ("version 0\nsources x\n", "1 passed, 0 failed, 2 skipped"), ("damaged\n", "0 passed, 1 failed, 2 skipped")],
+    ids=["whole", "damaged"])
+def test_without_pytest_dist_is_checked(small, content, ends):
+    """On a machine that has next to nothing. The user is told what is missing."""
+    for name in "bash sh dirname cat mktemp rm sed grep tail sha256sum id awk".split():
+        (small.path / "kit").mkdir(exist_ok=True)
+        (small.path / "kit" / name).symlink_to(shutil.which(name))
+    listed = hashlib.sha256((small.path / "dist/BUILD").read_bytes()).hexdigest()
+    small.write("dist/SHA256SUMS", f"{listed}  BUILD\n")
+    small.write("dist/BUILD", content)
+    status, lines = small.run("--no-setup", PATH=str(small.path / "kit"))
+    assert (status, lines[-1]) == (int("1 failed" in ends), ends)
+    assert "all tests: SKIPPED, since there is no pytest (to be had by the package python3-pytest)" in lines
+
+
+@pytest.mark.parametrize("words", [
+    ["tools/test.sh", "#"], ["tools/test.sh", "--few", "folder"], ["tools/test.sh", "--quick", "--few"],
+    ["tools/setup.sh", "#"], ["tools/setup.sh", "--few", "folder"]], ids=" ".join)
+def test_unknown_word_is_refused(words):
+    """The last one, before anything is done."""
+    done = run(*words, cwd=HERE)
+    assert (done.status, done.output) == (2, b"") and f"unknown word: {words[-1]}\n" in done.errors.decode()
+
+
+@pytest.mark.parametrize("tool", ["tools/test.sh", "tools/setup.sh"])
+def test_help(tool):
+    done = run(tool, "--help", cwd=HERE)
+    assert (done.status, done.errors) == (0, b"") and done.output.decode().startswith(f"usage: {tool} ")
+
+
+# ---- scripts that have nothing to test
+
+GIVEN = {"an empty folder": "empty", "a program that fails": "none", "no file": "no_such_file"}
+THAT_TAKE_ONE = [it.file for it in SCRIPTS if "{release}" in it.words]
+
+
+@pytest.mark.slow
+@pytest.mark.parametrize("given", GIVEN.values(), ids=GIVEN)
+@pytest.mark.parametrize("file", THAT_TAKE_ONE)
+def test_script_without_anything_to_test_has_status_2(tmp_path, file, given):
+    (tmp_path / "empty").mkdir()
+    script(tmp_path / "none", "#!/bin/sh\nexit 1\n")
+    env = {"HOME": str(tmp_path), "PATH": WITHOUT_KIT}
+    done = run(TESTS / file, "--dist", tmp_path / given, env=env)
+    assert done.status == 2 and b" passed, " not in done.output
+
+
+@pytest.mark.parametrize("option", ["program", "release"])
+def test_pytest_without_anything_to_test_has_status_4(tmp_path, option):
+    script(tmp_path / "none", "#!/bin/sh\nexit 1\n")
+    done = run("pytest", f"--{option}={tmp_path / 'none'}", cwd=HERE)
+    assert done.status == 4 and b" passed, " not in done.output
+
+
+# ---- a root without the kit
+
+
+@pytest.mark.slow
+def test_test_command_in_a_root_without_the_kit(in_another_root):
+    """In a folder without .git, as an unpacked tarball, where no kit can be reached: one test of each file. What the
+    others show, they show elsewhere."""
+    done = in_another_root("cd /copy && export HOME=/tmp PYTEST_ADDOPTS=--one && exec tools/test.sh --no-setup --few\n")
+    lines = done.output.decode().splitlines()
+    assert done.status == 0 and re.fullmatch(r"[1-9]\d* passed, 0 failed, [1-9]\d* skipped", lines[-1]), lines[-40:]
+    assert "rt ci: SKIPPED, since there is no rt" in lines

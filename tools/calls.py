@@ -1,0 +1,199 @@
+#!/usr/bin/env python3
+"""Writes bindings/CALLS.md, the table of calls in each language, out of the headers and the packages.
+
+usage: tools/calls.py            writes the page
+       tools/calls.py --check    the status is 0 if the page is as it would be written
+
+A row of ROWS names a subject and its words in each language. Each word has to be declared, and each public call of a
+package has to be in a row: so a call that is new, renamed or gone is found.
+"""
+import ast
+import pathlib
+import re
+import sys
+
+ROOT = pathlib.Path(__file__).resolve().parent.parent
+PAGE = ROOT / "bindings/CALLS.md"
+LANGUAGES = ("C", "C++", "Rust", "Go", "Python", "JavaScript", "Java")
+NONE = "—"
+
+# The subject, and by language the words that are declared. A word in parentheses belongs to the language's own library.
+ROWS = [
+    ("make a key of random bytes", NONE, "generate", "generate generate_from", "Generate", "generate", "generate",
+     "(KeyPairGenerator.generateKeyPair)"),
+    ("make the key of three seeds", "slh_keygen", "keygen", "keygen", "Keygen", "keygen", "keygen", "keygen"),
+    ("check a secret key", "slh_check", "check", "check", "Check", "check", "check", "check"),
+    ("its public key", "slh_public", "public_key", "public", "PublicKey Public", "public", "public", "publicKey"),
+    ("sign, computed two times", "slh_sign_twice", "sign", "sign sign_with", "Sign", "sign", "sign",
+     "(Signature.sign)"),
+    ("sign, computed once", "slh_sign", "once", "once", "Once", "once", "once", "once"),
+    ("the deprecated word for two", NONE, "twice", "twice", "Twice", "twice", "twice", "twice"),
+    ("verify before release", NONE, "verify", "verify", "Verify", "verify", "verify", "verify verified"),
+    ("sign without a randomizer", NONE, "deterministic", "Deterministic", "Deterministic", "deterministic",
+     "deterministic", "deterministic"),
+    ("sign in the pre-hash form", "slh_hash_sign_twice slh_hash_sign", "hash_sign", "hash_sign", "HashSign",
+     "hash_sign", "hashSign", "withFunction"),
+    ("sign a digest", "slh_hash_sign_digest_twice slh_hash_sign_digest", "hash_sign_digest", "hash_sign_digest",
+     "HashSignDigest", "hash_sign_digest", "hashSignDigest", NONE),
+    ("verify", "slh_verify", "verify", "verify verify_with", "Verify", "verify", "verify", "(Signature.verify)"),
+    ("verify the pre-hash form", "slh_hash_verify", "hash_verify", "hash_verify", "HashVerify", "hash_verify",
+     "hashVerify", "(Signature.verify)"),
+    ("verify by a digest", "slh_hash_verify_digest", "hash_verify_digest", "hash_verify_digest", "HashVerifyDigest",
+     "hash_verify_digest", "hashVerifyDigest", NONE),
+    ("verify a message in pieces", "slh_verify_front slh_verify_hashed", NONE, NONE, NONE, NONE, NONE,
+     "(Signature.update)"),
+    ("verify in a boot loader", "slh_verify_hardened slh_hash_verify_digest_hardened", NONE, NONE, NONE, NONE, NONE,
+     NONE),
+    ("sign by several workers", NONE, NONE, "workers", "Workers", "Signer", NONE, NONE),
+    ("one signature as jobs", "slh_sign_jobs slh_sign_start slh_hash_sign_start slh_answer_place slh_sign_job"
+     " slh_sign_join", NONE, NONE, NONE, "Jobs start answer join", NONE, NONE),
+    ("one key as jobs", "slh_keygen_jobs slh_keygen_job slh_keygen_join", NONE, NONE, NONE, NONE, NONE, NONE),
+    ("a secret key of bytes", NONE, "from_bytes", "from_bytes", "NewSecretKey", "SecretKey", "secretKey", "of"),
+    ("a public key of bytes", NONE, "PublicKey", "from_bytes", "NewPublicKey", "PublicKey", "publicKey", "of"),
+    ("the bytes of a key", NONE, "bytes", "as_bytes", "Bytes", "to_bytes", "toBytes", "toBytes getEncoded"),
+    ("a second key of the same bytes", NONE, NONE, "duplicate", NONE, NONE, NONE, NONE),
+    ("overwrite a key", "slh_erase", "(its end)", "(drop)", "Erase Destroy", "erase", "erase", "destroy close"),
+    ("read a key file", NONE, NONE, "load", "ReadSecretKeyFile ReadPublicKeyFile", "load",
+     "loadSecretKey loadPublicKey", NONE),
+    ("write a key file", NONE, NONE, "dump", "WriteFile", "dump", "dump", NONE),
+    ("read the text of a key file", NONE, NONE, "read_from", "ParseSecretKey ParsePublicKey", "loads",
+     "parseSecretKey parsePublicKey", NONE),
+    ("write the text of a key file", NONE, NONE, "write_to", "MarshalKeyFile", "dumps", "format", NONE),
+    ("read DER", NONE, NONE, "from_der", "ParsePKCS8SecretKey ParsePKIXPublicKey", "secret_from_der public_from_der",
+     "secretKeyFromDer publicKeyFromDer", "(KeyFactory.generatePrivate)"),
+    ("write DER", NONE, NONE, "write_der_to", "MarshalPKCS8 MarshalPKIX", "to_der", "toDer", "getEncoded"),
+    ("read PEM", NONE, NONE, "from_pem", "ParsePKCS8SecretKeyPEM ParsePKIXPublicKeyPEM",
+     "secret_from_pem public_from_pem", "secretKeyFromPem publicKeyFromPem", "privateKey publicKey"),
+    ("write PEM", NONE, NONE, "write_pem_to", "MarshalPKCS8PEM MarshalPKIXPEM", "to_pem", "toPem", "encode"),
+    ("the set of a key", NONE, NONE, "set", "Set", "set", "set", "set"),
+    ("a fingerprint", NONE, NONE, NONE, "(String)", "fingerprint", "fingerprint", "fingerprint"),
+    ("lengths of a set", "slh_lengths", "Lengths", "(constants)", "Lengths", "lengths", "lengths",
+     "publicKeyLength privateKeyLength signatureLength"),
+    ("the name of a refusal", "slh_refusal_name", "name", "name", "Name", "name", "name", "name"),
+    ("a sentence for a refusal", "slh_refusal_text", "text", "text", "(Error)", "(str)", "(message)",
+     "(getMessage)"),
+    ("the version", "slh_version", NONE, "version", "Version", "version", "version", NONE),
+    ("the level of the processor", "slh_level", NONE, NONE, NONE, NONE, NONE, NONE),
+]
+
+
+def text_of(*patterns):
+    """The text of the files of these patterns."""
+    files = sorted(it for pattern in patterns for it in ROOT.glob(pattern))
+    if not files:
+        sys.exit(f"tools/calls.py: there is no {patterns}")
+    return "".join(it.read_text() for it in files if not it.name.endswith("_test.go"))
+
+
+def without_comments(text):
+    return re.sub(r"/\*.*?\*/|//[^\n]*", "", text, flags=re.S)
+
+
+def of_python():
+    """The public functions, classes and arguments of the package for Python."""
+    calls, words = set(), set()
+    for file in ("__init__", "jobs", "pkix"):
+        tree = ast.parse((ROOT / f"bindings/python/slh/{file}.py").read_text())
+        classes = [it for it in tree.body if isinstance(it, ast.ClassDef)]
+        scopes = [tree, *(it for it in classes if it.name == "_Key" or not it.name.startswith("_"))]
+        for scope in scopes:
+            for it in scope.body:
+                if isinstance(it, (ast.FunctionDef, ast.ClassDef)) and not it.name.startswith("_"):
+                    calls.add(it.name)
+        words |= {it.arg for it in ast.walk(tree) if isinstance(it, ast.arg)}
+    return calls, calls | words | {"name"}
+
+
+def declared():
+    """By language the public calls, and all words that are declared."""
+    c = without_comments(text_of("c/include/slh.h", "c/include/slh_verify.h"))
+    cpp = without_comments((ROOT / "c/include/slh.hpp").read_text())
+    rust = without_comments(text_of("bindings/rust/slh/src/*.rs"))
+    go = without_comments(text_of("bindings/go/*.go"))
+    javascript = without_comments(text_of("bindings/javascript/*.d.ts"))
+    java = without_comments(text_of("bindings/java/src/pipitscreen/slh/Slh*.java",
+                                    "bindings/java/src/pipitscreen/slh/Refusal.java"))
+    calls = {
+        "C": set(re.findall(r"\b(slh_\w+)\(", c)),
+        "C++": set(re.findall(r"^    (?:static |\[\[nodiscard\]\] )*(?:\w+::)?\w+ (\w+)\([^;]*\{", cpp, re.M)),
+        "Rust": set(re.findall(r"^\s*pub (?:const )?fn (\w+)", rust, re.M))
+        | set(re.findall(r"^    fn (\w+)\([^{;]*;", rust, re.M)),
+        "Go": set(re.findall(r"^func (?:\(\w* ?\*?[A-Z]\w*\) )?([A-Z]\w*)", go, re.M)),
+        "JavaScript": set(re.findall(r"^    (\w+)\(", javascript, re.M))
+        | set(re.findall(r"^export (?:declare )?function (\w+)", javascript, re.M)),
+        "Java": set(re.findall(r"^    public (?:static |synchronized )*[\w<>\[\]]+ (\w+)\(", java, re.M)),
+    }
+    words = {name: set(re.findall(r"\b[A-Za-z_]\w*\b", text)) for name, text in (
+        ("C", c), ("C++", cpp), ("Rust", rust), ("Go", go), ("JavaScript", javascript), ("Java", java))}
+    calls["Python"], words["Python"] = of_python()
+    return calls, words
+
+
+# Calls that a language's own rules ask for, or that are no work on keys and signatures.
+OF_LANGUAGE = {
+    "C": set(),
+    "C++": {"call", "fail", "arguments", "system_random", "expect", "made", "Error"},
+    "Rust": {"number", "expected", "given", "digest_len", "command", "first_lines", "getrandom"},
+    "Go": {"Equal", "String", "Format", "Error", "HashFunc", "ParseSet"},
+    "Python": {"label", "close", "Function", "Lengths", "Set", "digest_length"},
+    "JavaScript": {"constructor", "load"},
+    "Java": {"valueOf", "values", "toString", "equals", "hashCode", "getAlgorithm", "getFormat", "getParams",
+             "isDestroyed", "number", "spec", "algorithm", "n", "withContext", "digest", "function", "initialize",
+             "generateKeyPair"},
+}
+
+
+def words_of(cell):
+    """The words of a cell that have to be declared."""
+    return [] if cell == NONE else [it for it in re.sub(r"\([^)]*\)", "", cell).split()]
+
+
+def faults():
+    """What is wrong with ROWS: words that are not declared, and calls that no row has."""
+    calls, words = declared()
+    found = []
+    for at, language in enumerate(LANGUAGES, 1):
+        listed = {it for row in ROWS for it in words_of(row[at])}
+        found += [f"{language} does not declare {it}" for it in sorted(listed - words[language])]
+        found += [f"no row has {it} of {language}" for it in sorted(calls[language] - listed - OF_LANGUAGE[language])]
+        found += [f"OF_LANGUAGE has {it}, which {language} does not declare"
+                  for it in sorted(OF_LANGUAGE[language] - words[language] - {"valueOf", "values"})]
+    return found
+
+
+def cell_text(cell):
+    if cell == NONE:
+        return cell
+    outside = re.findall(r"\(([^)]*)\)", cell)
+    return ", ".join([f"`{it}`" for it in words_of(cell)] + [f"its `{it}`" if "." in it else it for it in outside])
+
+
+def page():
+    lines = [
+        "# The calls in each language", "",
+        "For programmers: what is a call of C named in my language? `tools/calls.py` writes this page out of the headers",
+        "and the packages. A test finds a call that is missing here, or gone.", "",
+        "`its` precedes a call of the language's library. [Packages](README.md) has the rules that all share. Deprecated are",
+        "`twice` of each language, Go's `Destroy` and `ErrDestroyed`, and Java's `verified`.", "",
+        "| subject | " + " | ".join(LANGUAGES) + " |", "|" + (len(LANGUAGES) + 1) * "---|",
+    ]
+    for subject, *cells in ROWS:
+        lines.append(f"| {subject} | " + " | ".join(map(cell_text, cells)) + " |")
+    return "\n".join([*lines, ""])
+
+
+def main():
+    if sys.argv[1:] not in ([], ["--check"]):
+        print(__doc__.split("\n\n")[1], file=sys.stderr)
+        sys.exit(2)
+    found = faults()
+    if found:
+        sys.exit("\n".join(["tools/calls.py:", *found]))
+    if not sys.argv[1:]:
+        PAGE.write_text(page())
+    elif not PAGE.is_file() or PAGE.read_text() != page():
+        sys.exit("tools/calls.py: bindings/CALLS.md is not as it would be written: run tools/calls.py")
+
+
+if __name__ == "__main__":
+    main()
