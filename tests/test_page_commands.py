@@ -231,7 +231,9 @@ def test_releases_encrypts_and_restores(page, number, tool):
 def test_releases_tries_a_copy(page):
     shutil.copy(page.folder / "secret.key", page.folder / "restored.key")
     assert "consistent" in page.succeed(KEEP, 4)
-    (page.folder / "restored.key").write_text(page.read("secret.key").replace("0", "1", 1))
+    head, name, digits, *rest = page.read("secret.key").split("\n")
+    damaged = "%x" % (int(digits[0], 16) ^ 1) + digits[1:]
+    (page.folder / "restored.key").write_text("\n".join([head, name, damaged, *rest]))
     assert page.run(KEEP, 4)[0] != 0
 
 
