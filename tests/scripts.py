@@ -4,7 +4,7 @@ commands that it can't do without (default: python3), its words (default: the re
 
 # They test what an older release lacks.
 OF_LIBRARY = []
-OF_RELEASE = [("plain_rust_tests.py",)]
+OF_RELEASE = []
 # They need the work of `rt ci`, or of checks.
 OF_WRONG_BODIES = [("wrong_bodies.py", "python3", "--changed", "--gate")]
 OF_KIT = [("tested_bodies.py", "python3", "--few")]

@@ -1,8 +1,7 @@
 """Runs the scripts that are not yet tests of pytest, a case each. Their lines are shown as they come, and their counts
 are counted in place of the case.
 
-    pytest -k plain_rust_tests                 # one script, over the release
-    pytest -m "not slow" -k plain_rust_tests   # with --few
+    pytest -k fresh_tests                  # one script
 
 A script that ends early, prints no counts, or ends otherwise than they say has failed. The parts that need the prover
 need the work of `rt ci`, too: without tools/test.sh they are run by name, as `pytest -k wrong_bodies`.

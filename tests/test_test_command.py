@@ -8,8 +8,8 @@ import shutil
 import pytest
 
 from copies import WITHOUT_KIT, script, skip_beside_kit
-from support import HERE, TESTS, run
-from test_scripts import OTHER_SOURCES, SCRIPTS
+from support import HERE, run
+from test_scripts import OTHER_SOURCES
 
 HARNESS = [
     ".ci/run", "pytest.ini", "tools/test.sh", "tools/released.sh", "tests/budgets.toml", "tests/conftest.py",
@@ -372,21 +372,7 @@ def test_help(tool):
     assert (done.status, done.errors) == (0, b"") and done.output.decode().startswith(f"usage: {tool} ")
 
 
-# ---- scripts that have nothing to test
-
-GIVEN = {"an empty folder": "empty", "a program that fails": "none", "no file": "no_such_file"}
-THAT_TAKE_ONE = [it.file for it in SCRIPTS if "{release}" in it.words]
-
-
-@pytest.mark.slow
-@pytest.mark.parametrize("given", GIVEN.values(), ids=GIVEN)
-@pytest.mark.parametrize("file", THAT_TAKE_ONE)
-def test_script_without_anything_to_test_has_status_2(tmp_path, file, given):
-    (tmp_path / "empty").mkdir()
-    script(tmp_path / "none", "#!/bin/sh\nexit 1\n")
-    env = {"HOME": str(tmp_path), "PATH": WITHOUT_KIT}
-    done = run(TESTS / file, "--dist", tmp_path / given, env=env)
-    assert done.status == 2 and b" passed, " not in done.output
+# ---- nothing to test
 
 
 @pytest.mark.parametrize("option", ["program", "release"])
