@@ -128,7 +128,7 @@ def refused(line):
 
 
 def drawn(seed, name, parts):
-    """The parts that a number draws: one of them, or all of them if it is `all`. tests/counts.sh draws the same."""
+    """The parts that a number draws: one of them, or all of them if it is `all`."""
     if seed == "all":
         return list(parts)
     digest = hashlib.sha256(f"{seed} {name}\n".encode()).hexdigest()
