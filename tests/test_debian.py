@@ -172,7 +172,7 @@ def in_a_root(debs, tmp_path_factory):
 
     def outcome_of(script):
         (work / "script").write_text(script)
-        return run("unshare", "-rm", "bash", "-e", "-c", ROOT, work, HERE, debs, timeout=120)
+        return run("unshare", "-rm", "bash", "-e", "-c", ROOT, work, HERE, debs)
 
     if outcome_of("true").status:
         pytest.skip("no overlay can be mounted (run it as root, outside of other overlays)")
@@ -427,14 +427,14 @@ print -r -- ${{${{found##*<<}}%%>>*}}
 @pytest.fixture
 def in_zsh(unpacked, tmp_path):
     need("zsh")
-    if run("zsh", "-f", "-c", "zmodload zsh/zpty && zpty probe true", timeout=20).status:
+    if run("zsh", "-f", "-c", "zmodload zsh/zpty && zpty probe true").status:
         pytest.skip("zsh can open no pseudo-terminal (mount devpts at /dev/pts)")
     (tmp_path / "public_key.h").touch()
     functions = unpacked / "usr/share/zsh/vendor-completions"
 
     def completes(line):
         script = OF_ZSH.format(functions=functions, line=line)
-        return succeed("zsh", "-f", stdin=script.encode(), cwd=tmp_path, timeout=60).decode().removesuffix("\n")
+        return succeed("zsh", "-f", stdin=script.encode(), cwd=tmp_path).decode().removesuffix("\n")
 
     return completes
 
