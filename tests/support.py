@@ -28,8 +28,9 @@ PACKAGES = {"cc": "gcc", "nm": "binutils", "objdump": "binutils", "readelf": "bi
             "ssss-split": "ssss", "systemd-creds": "systemd", "systemd-analyze": "systemd", "node": "nodejs",
             "tsc": "node-typescript", "go": "golang-go", "gofmt": "golang-go", "ld.lld": "lld", "llvm-nm": "llvm",
             "llvm-objdump": "llvm", "wasm2c-1.0.36": "tools/setup.sh", "dpkg-deb": "dpkg",
-            "dpkg-shlibdeps": "dpkg-dev", "man": "man-db", "rustfmt": "rustfmt, or that of rustup",
-            "unshare": "util-linux", "x86_64-w64-mingw32-objdump": "binutils-mingw-w64-x86-64"}
+            "dpkg-shlibdeps": "dpkg-dev", "man": "man-db", "musl-gcc": "musl-tools",
+            "rustfmt": "rustfmt, or that of rustup", "unshare": "util-linux",
+            "x86_64-w64-mingw32-objdump": "binutils-mingw-w64-x86-64"}
 PACKAGES |= {f"{it}-gcc": f"gcc-{it.replace('x86_64-w64-mingw32', 'mingw-w64-x86-64')}" for it in (
     "aarch64-linux-gnu", "arm-linux-gnueabihf", "arm-none-eabi", "riscv64-linux-gnu", "s390x-linux-gnu",
     "x86_64-w64-mingw32")}

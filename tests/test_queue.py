@@ -8,6 +8,7 @@ import contextlib
 import fcntl
 import os
 import pathlib
+import re
 import shutil
 import signal
 import socket
@@ -417,6 +418,14 @@ def test_systemd_takes_the_service(unit):
 ], ids=["another word", "no socket", "another value"])
 def test_systemd_finds_a_change_of_the_service(unit, line, by):
     assert unit[1](line, by) != (0, b"", b"")
+
+
+def test_page_shows_lines_of_the_service():
+    """docs/RELEASES.md explains those that matter for the key."""
+    lines = (EXAMPLES / "sign_queue.service").read_text().splitlines()
+    shown = re.findall(r"^\| (`[A-Z]\w+=.*?`) \|", (HERE / "docs/RELEASES.md").read_text(), re.M)
+    found = [it for cell in shown for it in re.findall("`(.*?)`", cell)]
+    assert len(found) >= 8 and [it for it in found if it not in lines] == []
 
 
 @pytest.mark.slow

@@ -67,6 +67,8 @@ strace strace
 mypy mypy
 esbuild esbuild
 tsc node-typescript
+meson meson
+musl-gcc musl-tools
 debootstrap debootstrap"
 of_other_machines="aarch64-linux-gnu-gcc gcc-aarch64-linux-gnu
 arm-linux-gnueabihf-gcc gcc-arm-linux-gnueabihf
