@@ -406,7 +406,8 @@ def test_each_source_is_one_that_a_note_depends_on(copy):
 @slow
 @pytest.mark.parametrize("file", [
     "HANDLES", "VERSION", "crates.txt", "c/include/slh.h", "tools/kit.py", "tools/program.sh", "tools/target.sh",
-    "crates/slh/src/main.rt", "crates/slh_params/specs/Lib.antt", "crates/slh_params/proofs/Bounds.antt"])
+    "tools/symbols.sh", "crates/slh/src/main.rt", "crates/slh_params/specs/Lib.antt",
+    "crates/slh_params/proofs/Bounds.antt"])
 def test_changed_source_is_seen_over_a_note(copy_of_module, file):
     """Though its length and time are as they were."""
     copy, path = copy_of_module.take_release(), copy_of_module.path / file

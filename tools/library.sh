@@ -51,8 +51,11 @@ fi
 work=$(mktemp -d)
 trap 'rm -rf "$work"' EXIT
 
+# Sets `files` to what is installed for x86-64, with the shared object of this number.
+files_here() { files=(x86-64/{libslh.a,"libslh.so.$1"} x86-64-v{2,3,4}/libslh.a x86-64-v2/libslh_verify.a); }
+
 # What of dist/ is installed: of another target than x86-64 all that is listed.
-files=(x86-64/{libslh.a,libslh.so.0} x86-64-v{2,3,4}/libslh.a x86-64-v2/libslh_verify.a)
+files_here "$(if has_release; then shared_number; fi)"
 [ "$target" = x86-64 ] || mapfile -t files < <(listed "$target")
 headers=(include/{slh.h,slh.hpp,slh_internal.h,slh_verify.h})
 beside=(share/{cmake/slh-config.cmake,cmake/slh-config-version.cmake.in,man/man3/slh.3})
@@ -85,6 +88,7 @@ else
     cp -r "$here/c/include" "$work/"
     "$here/tools/share.sh" "$work"
     beside=(share)
+    files_here "$(cut -d . -f 1 "$here/VERSION")"
     [ "$target" = x86-64 ] || mapfile -t files < <(cd "$work" && printf '%s\n' "$target"/*)
     made=$work version=$(cat "$here/VERSION") how="built of the sources"
 fi
@@ -144,13 +148,13 @@ else
         case "$file" in
         *.c) place=src/${file##*/} mode=644 ;;
         *.dll) place=bin/${file##*/} mode=755 ;;
-        *.so.0) place=lib/${file##*/} mode=755 ;;
+        *.so.*) place=lib/${file##*/} mode=755 ;;
         x86-64-v*/libslh.a) place=lib/libslh-${file:7:2}.a mode=644 ;;
         *) place=lib/${file##*/} mode=644 ;;
         esac
         install -D -m $mode "$made/$file" "$prefix/$place"
+        if [[ $place = lib/libslh.so.* ]]; then ln -sf "${file##*/}" "$prefix/lib/libslh.so"; fi
     done
-    if has libslh.so.0; then ln -sf libslh.so.0 "$prefix/lib/libslh.so"; fi
     if has libslh.a; then pkgconfig slh "SLH-DSA (FIPS 205) with SHA-2, proved by machine"; fi
     if has libslh_verify.a; then
         pkgconfig slh_verify "Verifying signatures of SLH-DSA (FIPS 205) with SHA-2, proved by machine"
