@@ -352,6 +352,20 @@ def installed(install):
     return install()
 
 
+def is_from_source(prefix):
+    """Whether stock rustc built the library of a prefix (tools/library.sh --from-source)."""
+    words = prefix / "lib/pkgconfig/slh.pc"
+    return words.exists() and "\nbuild=built from source" in words.read_text()
+
+
+@pytest.fixture(scope="session")
+def built_by_the_kit(pytestconfig):
+    """The library is a release's, or built by the kit: one from source lacks what the test tests."""
+    prefix = pytestconfig.option.prefix
+    if prefix and is_from_source(pathlib.Path(prefix)):
+        pytest.skip("the library was built from source (tools/plain_rust/README.md tells what it lacks)")
+
+
 @pytest.fixture(scope="session")
 def installed_as_is(pytestconfig, install, tmp_path_factory):
     """The same for examples that make no new call: it is also that of dist/ if the sources are others."""
