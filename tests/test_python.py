@@ -5,6 +5,7 @@ import csv
 import hashlib
 import os
 import pathlib
+import re
 import shutil
 import zipfile
 
@@ -14,7 +15,8 @@ from packages import check_memory, check_script, count_tests, lines_of, refuses_
 from support import HERE, PYTHON, TESTS, need, run, succeed
 
 VERSION = (HERE / "VERSION").read_text().strip()
-WHEEL = f"slh-{VERSION}-py3-none-linux_x86_64.whl"
+PLATFORMS = ["manylinux_2_25_x86_64", "musllinux_1_2_x86_64"]
+WHEEL = f"slh-{VERSION}-py3-none-{'.'.join(PLATFORMS)}.whl"
 ENV = {**os.environ, "PYTHONDONTWRITEBYTECODE": "1", "PYTHONNOUSERSITE": "1"}
 SIGNS = """import slh
 secret = slh.SecretKey.generate("SLH-DSA-SHA2-128f")
@@ -105,6 +107,44 @@ def test_wheel_lists_what_it_has(wheel):
     listed = {name: words for name, *words in csv.reader(files[path].decode().splitlines())}
     assert listed == {name: ["", ""] if name == path else entry(data) for name, data in files.items()}
     assert len(files) > 6
+
+
+def test_wheel_names_its_platforms(wheel):
+    """Each by a line, as pip reads them."""
+    files = files_of(wheel)
+    text = files[next(it for it in files if it.endswith("/WHEEL"))].decode()
+    assert re.findall("^Tag: (.*)$", text, re.M) == [f"py3-none-{it}" for it in PLATFORMS]
+
+
+def test_platforms_are_those_of_the_shared_object(installed):
+    """It needs no library but that of C, and no symbol of a glibc after the version in the tag. It has three calls."""
+    need("readelf")
+    shared = installed / "lib/libslh.so.0"
+    assert re.findall(rb"\(NEEDED\).*\[(.*)\]", succeed("readelf", "-d", shared)) in ([], [b"libc.so.6"])
+    symbols = succeed("readelf", "-W", "--dyn-syms", shared).decode()
+    called = re.findall(r" UND ([^\s@]+)(?:@GLIBC_2\.(\d+))?", symbols)
+    assert {name for name, _ in called} == {"memcpy", "memmove", "memset"}
+    assert all(int(minor or 0) <= 25 for _, minor in called)
+
+
+MUSL = """#include <dlfcn.h>
+#include <stdlib.h>
+#include <sys/random.h>
+int main(int count, char **words) {
+    void *library = dlopen(words[1], RTLD_NOW | RTLD_LOCAL), *self = dlopen(0, RTLD_NOW);
+    unsigned (*version)(void) = library ? (unsigned (*)(void))dlsym(library, "slh_version") : 0;
+    (void)count, (void)getrandom, (void)calloc;
+    return !(version && version() >= 13000 && dlsym(self, "getrandom") && dlsym(self, "calloc") && dlsym(self, "free"));
+}
+"""
+
+
+def test_musl_loads_the_shared_object(installed, tmp_path):
+    """A program of musl, in place of Python, which Debian has for glibc alone."""
+    need("musl-gcc")
+    (tmp_path / "load.c").write_text(MUSL)
+    succeed("musl-gcc", "-o", tmp_path / "load", tmp_path / "load.c")
+    succeed(tmp_path / "load", installed / "lib/libslh.so.0")
 
 
 def test_relative_path_of_the_library_is_named(pip_wheel, copied, tmp_path):

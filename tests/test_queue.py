@@ -8,6 +8,7 @@ import contextlib
 import fcntl
 import os
 import pathlib
+import re
 import shutil
 import signal
 import socket
@@ -20,7 +21,7 @@ import urllib.request
 import pytest
 
 from conftest import STRICT
-from support import HERE, PYTHON, need, run, succeed
+from support import HERE, PATIENCE, PYTHON, free_port, need, run, succeed
 
 EXAMPLES = HERE / "examples"
 PROCESSES, FILES = 2, 40
@@ -42,14 +43,8 @@ for it in text_string_to_metric_families(sys.stdin.read()):
 # ---- processes, ports and pipes
 
 
-def free_port():
-    with socket.socket() as it:
-        it.bind(("127.0.0.1", 0))
-        return it.getsockname()[1]
-
-
 def waits_until(is_so, what):
-    end = time.monotonic() + 30
+    end = time.monotonic() + PATIENCE
     while not is_so():
         assert time.monotonic() < end, what
         time.sleep(0.02)
@@ -201,7 +196,7 @@ class Example:
 
     def scraped(self, process, signed, failed):
         """Scrapes until all is done."""
-        end = time.monotonic() + 60
+        end = time.monotonic() + PATIENCE
         while True:
             found = self.scrape()
             if found.get("slh_signatures_total") == signed and found.get("slh_failures_total") == failed:
@@ -211,13 +206,13 @@ class Example:
 
     def ended(self, process, status, said):
         """What it wrote to standard error. Its status and its last line have to be these."""
-        out, err = process.communicate(timeout=60)
+        out, err = process.communicate(timeout=PATIENCE)
         assert (process.returncode, out.decode().strip()) == (status, said), err[-900:]
         return err.decode()
 
     def all_are_ended(self, process):
         """The number of files that a program says it signed, which was stopped: all its processes and its port end."""
-        out, err = process.communicate(timeout=60)
+        out, err = process.communicate(timeout=PATIENCE)
         assert process.returncode == 0 and out.endswith(b" signed, 0 failed\n") and b"it was stopped" in err, err
         waits_until(lambda: has_ended(process.pid) and is_free(self.port), "processes, or the port, live on")
         return int(out.split()[0])
@@ -263,7 +258,7 @@ def test_loss_of_its_processes_is_told(example):
         end_signers(process)
         with contextlib.suppress(BrokenPipeError):
             example.feed(process, *files[1:])
-        out, err = process.communicate(timeout=60)
+        out, err = process.communicate(timeout=PATIENCE)
         assert process.returncode == 1, out + err[-900:]
 
 
@@ -276,7 +271,7 @@ def test_no_file_is_lost_with_its_processes(example):
         example.scraped(process, 1, 0)
         end_signers(process)
         pipe.put(*(f"{it}\n" for it in files[1:]))
-        _, err = process.communicate(timeout=60)
+        _, err = process.communicate(timeout=PATIENCE)
         left = pipe.left()
     lost = [it.name for it in files if not it.with_name(it.name + ".sig").exists()
             and f"{it}: " not in err.decode() and os.fsencode(it) not in left]
@@ -364,7 +359,7 @@ def test_folder_is_synced(example, tmp_path):
 def test_key_of_another_kind_is_refused(example, tmp_path, kind):
     bad = tmp_path / "bad"
     bad.write_text("" if kind == "empty" else (example.keys / "key.pub").read_text())
-    outcome = run(*map(str, [*example.words, bad, example.port]), env=example.env, timeout=60)
+    outcome = run(*map(str, [*example.words, bad, example.port]), env=example.env)
     assert outcome.status == 2 and outcome.errors
 
 
@@ -423,6 +418,14 @@ def test_systemd_takes_the_service(unit):
 ], ids=["another word", "no socket", "another value"])
 def test_systemd_finds_a_change_of_the_service(unit, line, by):
     assert unit[1](line, by) != (0, b"", b"")
+
+
+def test_page_shows_lines_of_the_service():
+    """docs/RELEASES.md explains those that matter for the key."""
+    lines = (EXAMPLES / "sign_queue.service").read_text().splitlines()
+    shown = re.findall(r"^\| (`[A-Z]\w+=.*?`) \|", (HERE / "docs/RELEASES.md").read_text(), re.M)
+    found = [it for cell in shown for it in re.findall("`(.*?)`", cell)]
+    assert len(found) >= 8 and [it for it in found if it not in lines] == []
 
 
 @pytest.mark.slow

@@ -13,11 +13,11 @@ from conftest import STRICT
 from machines import LIBRARY_CALLS, OF_C, OTHERS, VERIFY_CALLS, counted, of_kind, symbols, text_of
 from support import TESTS, need, run, succeed
 
-# The compiler's triple of each target with Linux, its name for qemu, that of a wheel for it, and its name for CMake.
+# The compiler's triple of each target with Linux, its name for qemu, that of a machine in a wheel's tags, and its name for CMake.
 LINUX = {
-    "aarch64": ("aarch64-linux-gnu", "aarch64", "linux_aarch64", "aarch64"),
-    "riscv64": ("riscv64-linux-gnu", "riscv64", "linux_riscv64", "riscv64"),
-    "armv7": ("arm-linux-gnueabihf", "arm", "linux_armv7l", "armv7l"),
+    "aarch64": ("aarch64-linux-gnu", "aarch64", "aarch64", "aarch64"),
+    "riscv64": ("riscv64-linux-gnu", "riscv64", "riscv64", "riscv64"),
+    "armv7": ("arm-linux-gnueabihf", "arm", "armv7l", "armv7l"),
 }
 MACOS = {"macos-arm64": "ARM64", "macos-x86-64": "X86_64"}
 # Of libslh.a for macOS: what each Mac has beside the calls of C, and which names of its own no other file sees.
@@ -212,7 +212,8 @@ def test_objcopy_that_changes_nothing_is_noticed(machine, archive, tmp_path):
 @ON_LINUX
 def test_wheel_has_the_shared_object(target, venv, prefix, tmp_path):
     """Its name has the machine's."""
-    machines.wheel_has(venv, prefix, prefix / "lib/libslh.so.0", LINUX[target][2], tmp_path)
+    tags = ".".join(f"{it}_{LINUX[target][2]}" for it in ("manylinux_2_25", "musllinux_1_2"))
+    machines.wheel_has(venv, prefix, prefix / "lib/libslh.so.0", tags, tmp_path)
 
 
 @pytest.mark.slow

@@ -28,8 +28,11 @@ VERSION = HERE.parent.parent / "VERSION"
 NAME = "libslh.so.0"
 SETUPTOOLS = ["setuptools>=64", "wheel"]
 LICENSES = ["LICENSE-APACHE", "LICENSE-MIT"]
-# The platform tags, by the first bytes of a file and by the class and the machine of ELF.
+# The machines in platform tags, by the class and the machine of ELF.
 MACHINES = {(2, 62): "x86_64", (2, 183): "aarch64", (2, 243): "riscv64", (1, 40): "armv7l"}
+# The C libraries for which a wheel is: the package calls their getrandom, which glibc has since 2.25. The shared object
+# calls memcpy, memmove and memset alone. Musl 1.2 has all of them.
+LIBRARIES = "manylinux_2_25", "musllinux_1_2"
 # The oldest time that a zip file can have.
 OLDEST = 1980, 1, 1, 0, 0, 0
 
@@ -72,11 +75,12 @@ def shared_of(prefix: pathlib.Path) -> pathlib.Path:
 
 
 def platform_of(shared: pathlib.Path) -> str:
-    """The platform tag of a wheel with this shared object."""
+    """The platform tags of a wheel with this shared object, with dots between them."""
     head = shared.read_bytes()[:20]
     if head[:2] == b"MZ":
         return "win_amd64"
-    return "linux_" + MACHINES[head[4], int.from_bytes(head[18:20], "little")]
+    machine = MACHINES[head[4], int.from_bytes(head[18:20], "little")]
+    return ".".join(f"{it}_{machine}" for it in LIBRARIES)
 
 
 def has_shared() -> bool:
@@ -108,7 +112,7 @@ def metadata(version: str) -> str:
     return "\n".join(lines) + "\n\n" + (HERE / "README.md").read_text(encoding="utf-8")
 
 
-def contents(prefix: pathlib.Path, version: str, tag: str) -> dict[str, bytes]:
+def contents(prefix: pathlib.Path, version: str, platform: str) -> dict[str, bytes]:
     """The files of the wheel, but for RECORD."""
     info = f"slh-{version}.dist-info"
     package = [*sorted((HERE / "slh").glob("*.py")), HERE / "slh" / "py.typed"]
@@ -116,8 +120,9 @@ def contents(prefix: pathlib.Path, version: str, tag: str) -> dict[str, bytes]:
     files[f"slh/{NAME}"] = shared_of(prefix).read_bytes()
     files.update({f"{info}/{it}": (HERE / it).read_bytes() for it in LICENSES})
     files[f"{info}/METADATA"] = metadata(version).encode()
-    wheel = f"Wheel-Version: 1.0\nGenerator: slh_wheel {version}\nRoot-Is-Purelib: false\nTag: {tag}\n"
-    files[f"{info}/WHEEL"] = wheel.encode()
+    tags = [f"py3-none-{it}" for it in platform.split(".")]
+    lines = ["Wheel-Version: 1.0", f"Generator: slh_wheel {version}", "Root-Is-Purelib: false"]
+    files[f"{info}/WHEEL"] = "\n".join([*lines, *(f"Tag: {it}" for it in tags), ""]).encode()
     return files
 
 
@@ -166,11 +171,11 @@ def build_wheel(wheel_directory: str, config_settings: Settings = None, metadata
     if not has_shared():
         return setuptools_backend().build_wheel(wheel_directory, config_settings, metadata_directory)
     prefix = library_prefix()
-    version, tag = library_version(prefix), f"py3-none-{platform_of(shared_of(prefix))}"
-    files = contents(prefix, version, tag)
+    version, platform = library_version(prefix), platform_of(shared_of(prefix))
+    files = contents(prefix, version, platform)
     own = f"slh-{version}.dist-info/RECORD"
     files[own] = record(files, own)
-    name = f"slh-{version}-{tag}.whl"
+    name = f"slh-{version}-py3-none-{platform}.whl"
     write_zip(pathlib.Path(wheel_directory, name), files)
     return name
 

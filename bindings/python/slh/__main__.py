@@ -1,4 +1,5 @@
 """The commands keygen, public, sign, verify and check of the program `slh`, over this package: `python -m slh sign ..`.
+`python -m slh acvp PROMPT` writes the response to a prompt of NIST's ACVP (`_acvp.py`).
 
 Options, files, refusals and statuses are those of the program (docs/FORMATS.md of the repository), which is for Linux
 alone. These differ. Custom sets are refused as 12 UnknownSet. `sign` signs two times, as the program does with --twice,
@@ -16,7 +17,7 @@ import types
 import typing
 
 import slh
-from slh import _key_files
+from slh import _acvp, _key_files
 from slh._help import OPTIONS, Command, help_text, usual
 
 _MOST_BYTES = 1 << 30
@@ -103,10 +104,9 @@ def _hex(digits: str | None) -> bytes:
 
 def _form(words: types.SimpleNamespace) -> tuple[bytes, slh.Function | None]:
     context = _hex(words.context)
-    names = {f"SHA2-{it.name[9:].replace('_', '/')}": it for it in slh.Function}
-    if words.prehash is not None and words.prehash not in names:
+    if words.prehash is not None and words.prehash not in _acvp.FUNCTIONS:
         raise _Stop(35)
-    return context, names.get(words.prehash)
+    return context, _acvp.FUNCTIONS.get(words.prehash)
 
 
 def _points(text: str | None) -> list[int] | None:
@@ -233,16 +233,40 @@ _COMMANDS = {
 }
 
 
+_ACVP = "Writes the response to a prompt of NIST's ACVP"
+_ACVP_HELP = f"""{_ACVP}
+
+Usage: python -m slh acvp PROMPT
+
+PROMPT is a JSON file for SLH-DSA: the mode keyGen, sigGen or sigVer of FIPS205.
+Usual refusals:
+   9 NoSuchFunction  a pre-hash function that is not of SHA-2.
+  12 UnknownSet      a parameter set that is not of SHA-2.
+  21 NotJson         a file that was cut off.
+  23 Missing, 24 Bad a member, which is named with its tgId and tcId.
+"""
+
+
+def _acvp_answer(given: list[str]) -> tuple[int, bytes]:
+    if given in (["--help"], ["-h"]):
+        return 0, _ACVP_HELP.encode()
+    if len(given) != 1 or given[0].startswith("-"):
+        raise _Stop(31)
+    return 0, _acvp.response(_message(given[0]))
+
+
 def _answer(given: list[str]) -> tuple[int, bytes | bytearray]:
     """The status of a command, and what it writes."""
     if given == ["help"] or (given and (given[0] == "--help" or given[0].startswith("-h"))):
-        rows = "".join(f"  {name:<8} {it.about}\n" for name, it in _COMMANDS.items())
+        rows = "".join(f"  {name:<8} {it.about}\n" for name, it in _COMMANDS.items()) + f"  acvp     {_ACVP}\n"
         return 0, f"slh {slh.__version__} for Python\n\nUsage: python -m slh COMMAND\n\nCommands:\n{rows}".encode()
     if given and (given[0] == "--version" or given[0].startswith("-V")):
         return 0, f"slh {slh.__version__}\n".encode()
     name, *options = given or [""]
     if name == "help" and len(options) == 1:
         name, options = options[0], ["--help"]
+    if name == "acvp":
+        return _acvp_answer(options)
     if name not in _COMMANDS:
         raise _Stop(31)
     command = _COMMANDS[name]
@@ -275,6 +299,8 @@ def main(given: list[str]) -> int:
         number = 31
     except _Stop as stop:
         number = stop.args[0]
+    except _acvp.Stop as stop:
+        number, name = stop.args
     except slh.Refusal as refusal:
         number, name = refusal.number, refusal.name
     except slh.Fault:
