@@ -23,6 +23,7 @@ import pytest
 pytest.register_assert_rewrite("packages", "browsers", "archives")
 
 from copies import Copy
+from debian_roots import Root, make_base, need_roots
 from provider import Provider, compiled_calls, development_of
 from support import HERE, VECTORS, drawn, need, run, succeed
 
@@ -558,3 +559,36 @@ def provider(installed, oracle, compiled, tmp_path_factory):
     made = Provider(prefix, oracle, development_of(oracle), compiled_calls(compiled, prefix / "include"))
     made.build(prefix)
     return made
+
+
+# ---- a Debian of its own
+
+
+def skip_unless_asked(config):
+    """Skips what is run before a release alone, unless somebody asks for it: by --all, by its marker or by its name."""
+    by_marker = config.option.markexpr in ("release", "debian")
+    if not (config.option.all or by_marker or is_chosen_by_name(config)):
+        pytest.skip("it makes a Debian, and is run before a release (pytest --all)")
+
+
+@pytest.fixture(scope="session")
+def debian(pytestconfig, tmp_path_factory):
+    """Makes a Debian with some packages: debian(NAME, PACKAGE..) is its Root. What it is made of stays in out/tests, by
+    the list of packages, and what a test changes is removed."""
+    skip_unless_asked(pytestconfig)
+    need_roots()
+    kept, made = cache_folder(tmp_path_factory), []
+
+    def makes(name, *packages):
+        base = kept / f"debian-{name}-{hashlib.sha256(repr(packages).encode()).hexdigest()[:16]}"
+        if not base.exists():
+            part = kept / f"debian.{os.getpid()}"
+            shutil.rmtree(part, ignore_errors=True)
+            make_base(part, name, packages)
+            part.rename(base)
+        made.append(tmp_path_factory.mktemp("debian"))
+        return Root(made[-1] / "it", name, base / "root")
+
+    yield makes
+    for it in made:
+        shutil.rmtree(it)

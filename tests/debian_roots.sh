@@ -1,5 +1,5 @@
-# Minimal Debian systems in folders, by debootstrap. tests/fresh_tests.sh, tests/openssl_programs.sh and
-# tests/debian_keys.sh read it with `source`, after tests/counts.sh and tests/library_parts.sh, with the folders `here`,
+# Minimal Debian systems in folders, by debootstrap. tests/fresh_tests.sh and tests/openssl_programs.sh read
+# it with `source`, after tests/counts.sh and tests/library_parts.sh, with the folders `here`,
 # `work` and, for a root, `root`, whose last part is the name of Debian's release. Downloaded packages stay in
 # ~/.cache/slh for the next run.
 cache=${XDG_CACHE_HOME:-${HOME:-/root}/.cache}/slh

@@ -1,4 +1,4 @@
-# What scripts over the library for C share: tests/debian_keys.sh, tests/fresh_tests.sh, tests/openssl_programs.sh,
+# What scripts over the library for C share: tests/fresh_tests.sh, tests/openssl_programs.sh,
 # tools/depths.sh and bindings/cmake/tests read it with `source`, after tests/counts.sh, with the folders `here` and
 # `work`.
 strict=(-Wall -Wextra -Werror -pedantic)

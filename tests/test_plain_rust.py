@@ -409,13 +409,14 @@ def built(crates):
 
 
 def rows():
-    """The tests of tests/vectors, each a case by its file, its number there, its kind and its set."""
+    """The tests of tests/vectors, each a case by its file and its number there. Its kind is not in the name, so that
+    `-k verify`, which takes seconds elsewhere, builds no library here."""
     for file, number, test in library_vectors.all_tests():
-        name = f"{pathlib.Path(file).stem} {number} {test['kind']} {test['set'].removeprefix('SLH-DSA-SHA2-')}"
-        marks = () if file.startswith("smoke") else pytest.mark.slow
-        yield pytest.param(test, id=name.removeprefix("slh-dsa-sha2-"), marks=marks)
+        name = pathlib.Path(file).stem.removeprefix("slh-dsa-sha2-").replace("smoke", "few")
+        yield pytest.param(test, id=f"{name} {number}{' faults' * (test['kind'] == 'faults')}")
 
 
+@pytest.mark.slow
 @BY_LEVEL
 @pytest.mark.parametrize("row", rows())
 def test_row(built, monkeypatch, level, row):
@@ -447,13 +448,13 @@ def instructions(built, compiled, tmp_path_factory):
 
 
 @pytest.mark.slow
-@pytest.mark.parametrize("task", ["keygen", "sign", "verify"])
 @BY_LEVEL
-def test_128f_takes_few_instructions(instructions, level, task):
-    """At most 1.1 of those of libslh."""
+def test_128f_takes_few_instructions(instructions, level):
+    """Keys, signing and verifying: at most 1.1 of those of libslh."""
     need("valgrind", "cc")
     table = [line.split() for line in (TESTS / "instructions.txt").read_text().splitlines()]
-    wanted = {(f"x86-64-{it}", name): int(count) for it, name, set_name, count in table if set_name == "128f"}
-    if (level, task) not in wanted:
-        pytest.skip(f"tests/instructions.txt has no counts for {level}")
-    assert instructions(level)[f"{task} 128f"] <= MOST_INSTRUCTIONS * wanted[level, task]
+    wanted = {f"{task} {of_set}": int(count) for it, task, of_set, count in table if f"x86-64-{it}" == level}
+    if not wanted:
+        pytest.skip(f"tests/instructions.txt has no counts for {level} (only for x86-64)")
+    ratios = {it: instructions(level)[it] / wanted[it] for it in ("keygen 128f", "sign 128f", "verify 128f")}
+    assert max(ratios.values()) <= MOST_INSTRUCTIONS, ratios

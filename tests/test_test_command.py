@@ -1,5 +1,5 @@
-"""Tests tools/test.sh and the harness that it runs (parts.py, conftest.py). Whatever fails, ends early or is skipped has
-to be seen at its end. A small repository has stubs in place of the parts that need rt, and one file of tests."""
+"""Tests tools/test.sh and the harness that it runs (parts.py, conftest.py). Whatever fails, ends early or is skipped
+has to be seen at its end. A small repository has stubs in place of the parts that need rt, and one file of tests."""
 import hashlib
 import os
 import re
