@@ -6,6 +6,8 @@ import socket
 import subprocess
 import time
 
+from support import PATIENCE, free_port
+
 
 class Browser:
     """Chromium with one page, told by pipes what to do."""
@@ -71,7 +73,7 @@ class Browser:
         self.tell("DOM.setFileInputFiles", files=[str(path)], objectId=node["objectId"])
 
     def wait_for(self, expression):
-        end = time.monotonic() + 60
+        end = time.monotonic() + PATIENCE
         while not self.value(expression):
             assert time.monotonic() < end, f"it is not so: {expression}: {self.value('document.body?.innerText')}"
             time.sleep(0.01)
@@ -92,8 +94,7 @@ class Firefox(Browser):
 
     def __init__(self, path, folder):
         folder.mkdir()
-        with socket.create_server(("127.0.0.1", 0)) as it:
-            place = it.getsockname()
+        place = "127.0.0.1", free_port()
         (folder / "user.js").write_text(f'user_pref("marionette.port", {place[1]});\n')
         self.number, self.socket, self.place = 0, None, place
         words = [path, "--headless", "--no-remote", "--marionette", "--profile", str(folder)]
@@ -101,10 +102,10 @@ class Firefox(Browser):
         self.process = subprocess.Popen(words, env={**os.environ, "HOME": str(folder)}, **quiet)
 
     def begin(self):
-        end = time.monotonic() + 90
+        end = time.monotonic() + PATIENCE
         while self.socket is None:
             try:
-                self.socket = socket.create_connection(self.place, 90)
+                self.socket = socket.create_connection(self.place, PATIENCE)
             except OSError:
                 assert time.monotonic() < end and self.process.poll() is None, "Firefox does not answer"
                 time.sleep(0.1)

@@ -98,11 +98,6 @@ def pytest_report_header(config):
 # ---- which tests are run
 
 
-def is_brief(config):
-    """Whether a few tests of each kind are run."""
-    return "not slow" in config.option.markexpr
-
-
 def is_chosen_by_name(config):
     """Whether somebody asks for single tests, of which none is left to a draw then."""
     return bool(config.option.keyword or config.getoption("lf", False)) or any("::" in it for it in config.args)
@@ -114,9 +109,6 @@ MARKER_OF_FIXTURE = {"program": "program", "kit": "kit", "emulated": "emulator"}
 
 @pytest.hookimpl(tryfirst=True)
 def pytest_itemcollected(item):
-    script = getattr(item, "callspec", None) and item.callspec.params.get("script")
-    if script:
-        item.user_properties.append(("script", {"file": f"tests/{script.file}"}))
     for fixture, marker in MARKER_OF_FIXTURE.items():
         if fixture in item.fixturenames:
             item.add_marker(marker)
@@ -170,26 +162,18 @@ def pytest_runtest_makereport(item, call):
         outcome.get_result().user_properties.append(("processor seconds", taken))
 
 
-def script_of(report):
-    """What tests/test_scripts.py says of a script that it has run as a case, or nothing."""
-    return dict(getattr(report, "user_properties", ())).get("script", {})
-
-
 class Told:
-    """What is told at the end: processor seconds by file, failures, skipped tests by file and cause, skipped parts of
-    scripts, and the number of tests that have ended."""
+    """What is told at the end: processor seconds by file, failures, skipped tests by file and cause, and the number of
+    tests that have ended."""
 
     def __init__(self):
-        self.seconds, self.failures, self.skips = collections.Counter(), [], collections.Counter()
-        self.skipped_parts, self.ended = [], 0
+        self.seconds, self.failures, self.skips, self.ended = collections.Counter(), [], collections.Counter(), 0
 
     def take(self, report):
-        file = script_of(report).get("file") or report.nodeid.split("::")[0]
+        file = report.nodeid.split("::")[0]
         if report.when == "teardown":
             self.ended += 1
             self.seconds[file] += dict(report.user_properties).get("processor seconds", 0)
-        elif report.when == "call":
-            self.skipped_parts += script_of(report).get("skips", [])
         if report.failed:
             self.failures.append(report)
         elif report.skipped:
@@ -214,10 +198,10 @@ def pytest_collectreport(report):
 
 
 def alone(config, report):
-    """The command that runs one test, or one script, as it was run here."""
+    """The command that runs one test, as it was run here."""
     given = {it: config.getoption(it) for it in ("release", "program", "python", "prefix")}
     options = [f"--{it}={value}" for it, value in given.items() if value]
-    return script_of(report).get("alone") or shlex.join(["pytest", *options, report.nodeid])
+    return shlex.join(["pytest", *options, report.nodeid])
 
 
 def note_failures(config):
@@ -226,16 +210,9 @@ def note_failures(config):
         return
     with open(os.environ["SLH_FAILURES"], "a") as file:
         for report in told.failures:
-            print(*failures_of(report), f"    alone: {alone(config, report)}", sep="\n", file=file)
-
-
-def failures_of(report):
-    """A line for each failure: those of a script, or that of a test."""
-    script = script_of(report)
-    if report.when == "call" and script.get("failures"):
-        return [f"{script['file']}: {it}" for it in script["failures"]]
-    crash = getattr(report.longrepr, "reprcrash", None)
-    return [f"{report.nodeid}: {crash.message.splitlines()[0] if crash else 'no'}"]
+            crash = getattr(report.longrepr, "reprcrash", None)
+            print(f"{report.nodeid}: {crash.message.splitlines()[0] if crash else 'no'}", file=file)
+            print(f"    alone: {alone(config, report)}", file=file)
 
 
 def budgets():
@@ -249,8 +226,8 @@ def budgets():
 def spent_before():
     """The processor seconds of the parts that the test command has run before pytest."""
     path = pathlib.Path(os.environ.get("SLH_SPENT") or os.devnull)
-    lines = [it.split(maxsplit=2) for it in path.read_text().splitlines()] if path.exists() else []
-    return {name: float(user) + float(system) for user, system, name in lines}
+    lines = [it.split(maxsplit=1) for it in path.read_text().splitlines()] if path.exists() else []
+    return {name: float(seconds) for seconds, name in lines}
 
 
 def pytest_terminal_summary(terminalreporter, config):
@@ -261,8 +238,6 @@ def pytest_terminal_summary(terminalreporter, config):
         terminalreporter.write_line(f"{file}: {seconds / 60:.2f}{of} processor minutes{over}")
     for (file, why), count in sorted(told.skips.items()):
         terminalreporter.write_line(f"{file}{f', {count} tests' * (count > 1)}: SKIPPED, since {why}")
-    for line in told.skipped_parts:
-        terminalreporter.write_line(line)
     note_failures(config)
 
 
@@ -280,9 +255,7 @@ def pytest_unconfigure(config):
         return
     count = collections.Counter()
     for word, counted in {"passed": "passed", "failed": "failed", "error": "failed", "skipped": "skipped"}.items():
-        for report in reporter.getreports(word):
-            of_script = script_of(report).get("counts") if report.when == "call" else None
-            count.update(of_script or {counted: 1})
+        count[counted] += len(reporter.getreports(word))
     if count:
         reporter.write_line(f"{count['passed']} passed, {count['failed']} failed, {count['skipped']} skipped")
 
@@ -377,6 +350,20 @@ def installed(install):
     if not has_libraries_here():
         pytest.skip("the library is for Linux on x86-64 (other machines take slh.c, docs/MACHINES.md)")
     return install()
+
+
+def is_from_source(prefix):
+    """Whether stock rustc built the library of a prefix (tools/library.sh --from-source)."""
+    words = prefix / "lib/pkgconfig/slh.pc"
+    return words.exists() and "\nbuild=built from source" in words.read_text()
+
+
+@pytest.fixture(scope="session")
+def built_by_the_kit(pytestconfig):
+    """The library is a release's, or built by the kit: one from source lacks what the test tests."""
+    prefix = pytestconfig.option.prefix
+    if prefix and is_from_source(pathlib.Path(prefix)):
+        pytest.skip("the library was built from source (tools/plain_rust/README.md tells what it lacks)")
 
 
 @pytest.fixture(scope="session")

@@ -1,5 +1,5 @@
-"""Counts for the tests in Python what passed, what failed and what was skipped, and reads the options that the test
-scripts have in common, as tests/counts.sh does."""
+"""Counts for the programs in Python that tests run what passed and what failed, and reads the options that they have in
+common."""
 import os
 import pathlib
 import subprocess
@@ -19,29 +19,9 @@ def count(word, line=None):
             failures.write((line or "a test without a name").splitlines()[-1] + "\n")
 
 
-def skip(name, why):
-    count("skipped", f"{name}: SKIPPED, since {why}")
-
-
 def tell(name, is_right):
     """Counts a test, and prints its line."""
     count("passed" if is_right else "failed", f"{name}: {'yes' if is_right else 'no'}")
-
-
-def run(name, test, *arguments):
-    """Runs a test, and counts it. It has failed if it raised something, which is printed before its line."""
-    try:
-        test(*arguments)
-    except Exception as fault:
-        print(f"{type(fault).__name__}: {fault}")
-        return tell(name, False)
-    tell(name, True)
-
-
-def expect(is_so, what):
-    """For a test that `run` runs: it has failed if this is not so."""
-    if not is_so:
-        raise AssertionError(what)
 
 
 def end_counts():

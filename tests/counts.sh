@@ -1,5 +1,5 @@
-# Counts what passed, what failed and what was skipped, for the scripts beside this file, tools/test.sh and
-# tools/release.sh, which read it with `source`, with the folder `here`; and reads the options that the test scripts
+# Counts what passed, what failed and what was skipped, for the scripts beside this file, those of bindings/cmake/tests
+# and tools/release.sh, which read it with `source`, with the folder `here`; and reads the options that the test scripts
 # have in common.
 passed=0 failed=0 skipped=0
 
@@ -48,40 +48,6 @@ add_counts() {
     [ -z "$fault" ] || failed=$((failed + 1))
 }
 
-# Copies the lines of standard input to LOG, and prints them if SHOW is yes. After 20 seconds in which nothing was
-# printed it prints a dot. The tests set another number of seconds.
-watch_lines() {
-    local log=$1 show=$2 line= piece status=0 dots= last=$SECONDS pause=${SLH_DOTS_AFTER:-20}
-    : >"$log"
-    while [ $status != 1 ]; do
-        status=0
-        IFS= read -r -t "$pause" piece || status=$?
-        line+=$piece
-        if [ $status = 0 ] || { [ $status = 1 ] && [ -n "$line" ]; }; then
-            echo "$line" >>"$log"
-            [ "$show" = no ] || { printf '%s%s\n' "$dots" "$line" && last=$SECONDS dots=; }
-            line=
-        fi
-        [ $((SECONDS - last)) -lt "$pause" ] || { printf . && last=$SECONDS dots=$'\n'; }
-    done
-    printf %s "$dots"
-}
-
-# For the test command: runs a part by its NAME and COMMAND, whose last line has counts, and adds them up. It notes the
-# processor seconds in SLH_SPENT, and its failure in SLH_FAILURES, but for the tests of pytest, which notes them itself.
-part() {
-    local name=$1 status before=$failed TIMEFORMAT='%U %S'
-    shift
-    printf '\n== %s\n' "$*"
-    { time "$@" 2>&1 | watch_lines "$work/log" yes; status=${PIPESTATUS[0]}; } 2>"$work/time"
-    add_counts "$status" "$work/log"
-    echo "$(tail -n 1 "$work/time") $name" >>"$SLH_SPENT"
-    [ $failed != "$before" ] || return 0
-    [ "$name" = pytest ] || grep 'no proof' "$work/log" | sed "s/^/$name: /" >>"$SLH_FAILURES"
-    [ "$name" = pytest ] && [ -z "$fault" ] ||
-        printf '%s: %s\n    alone: %s\n' "$name" "${fault:-$(tail -n 1 "$work/log")}" "$*" >>"$SLH_FAILURES"
-}
-
 # Prints the counts as the last line. The status is 0 where nothing failed. Where nothing was run, that has failed.
 end_counts() {
     if [ $((passed + failed + skipped)) = 0 ]; then
@@ -114,40 +80,4 @@ take_options() {
         shift
     done
     words=("$@")
-}
-
-# Reads --all where it is the first of `words`: nothing is drawn then, and each part is run.
-take_all() {
-    [ "${words[0]-}" = --all ] || return 0
-    export SLH_SEED=all
-    words=("${words[@]:1}")
-}
-
-# Draws one of some parts into `drawn`, and says which: NAME PARTS. The number SLH_SEED decides, so that a run with the
-# same number draws the same. If it is `all`, all are drawn.
-draw() {
-    local name=$1 sum
-    shift
-    export SLH_SEED=${SLH_SEED:-$((RANDOM << 15 | RANDOM))}
-    drawn=("$@")
-    [ "$SLH_SEED" != all ] || return 0
-    sum=$(sha256sum <<<"$SLH_SEED $name")
-    drawn=("${@:1 + 0x${sum:0:8} % $#:1}")
-    echo "$name: drawn is $drawn of $*, by SLH_SEED=$SLH_SEED"
-}
-
-# Whether a part is among those that were drawn.
-is_drawn() { [[ " ${drawn[*]} " = *" $1 "* ]]; }
-
-# Sets `program`: with --dist the one of the release for this processor, else the one that is named, GIVEN or DEFAULT.
-# Where it can't be run, there is nothing to test. It has a status of its own where it builds.
-choose_program() {
-    program=${1:-$2}
-    if [ -n "$release" ]; then
-        source "$here/tools/released.sh"
-        dist=$release
-        program=$(programs_here | head -n 1)
-    fi
-    [ -f "$program" ] && program=$(realpath "$program") && [ -n "$("$program" params 2>/dev/null)" ] ||
-        nothing_to_test "there is no program that can be run: ${program:-none for this processor in $release}"
 }

@@ -22,12 +22,13 @@ OPENAT = "257"  # the number of the call of Linux on x86-64 that opens a file
 
 
 def is_waiting(process):
-    """Whether the process waits for a file to be opened, now and a while later."""
+    """Whether the process waits for a file to be opened for writing, now and a while later."""
     said = set()
     for _ in range(3):
-        said.add(pathlib.Path(f"/proc/{process}/syscall").read_text().split()[0])
+        call, *arguments = pathlib.Path(f"/proc/{process}/syscall").read_text().split()
+        said.add(call == OPENAT and int(arguments[2], 16) & os.O_ACCMODE != os.O_RDONLY)
         time.sleep(0.05)
-    return said == {OPENAT}
+    return said == {True}
 
 
 def memory(process):
@@ -62,7 +63,7 @@ def main():
     sig.unlink(missing_ok=True)
     os.mkfifo(sig)
     with subprocess.Popen(command, stdout=subprocess.PIPE, text=True) as child:
-        end = time.monotonic() + 60
+        end = time.monotonic() + 600
         while not is_waiting(child.pid):
             if child.poll() is not None or time.monotonic() > end:
                 child.kill()

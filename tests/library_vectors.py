@@ -108,13 +108,25 @@ class Through:
         return int(result)
 
 
-words = sys.argv[1:]
-few, verify_only = ("--few" in words[:1]), ("--verify-only" in words[:1])
-is_through = words[few or verify_only] == "--through"
 here = pathlib.Path(__file__).resolve().parent.parent
-library, vectors = (words[(few or verify_only) + is_through :] + [here / "tests/vectors"])[:2]
-library = Through(library) if is_through else ctypes.CDLL(str(pathlib.Path(library).resolve()))
-vectors = pathlib.Path(vectors)
+# What the words of the command say. A program that imports this file sets the library.
+few = verify_only = is_through = False
+library, vectors = None, here / "tests/vectors"
+
+
+def loaded(path):
+    """The library of a shared object."""
+    return ctypes.CDLL(str(pathlib.Path(path).resolve()))
+
+
+def take(words):
+    """Takes the words of the command."""
+    global few, verify_only, is_through, library, vectors
+    few, verify_only = ("--few" in words[:1]), ("--verify-only" in words[:1])
+    is_through = words[few or verify_only] == "--through"
+    library, vectors = (words[(few or verify_only) + is_through :] + [vectors])[:2]
+    library = Through(library) if is_through else loaded(library)
+    vectors = pathlib.Path(vectors)
 
 
 def call(name, *arguments):
@@ -380,7 +392,8 @@ def soon_done(found):
     return chosen_rows
 
 
-def main():
+def all_tests():
+    """The tests that the words ask for: the name of the file of each, its number there, and its row."""
     tests = []
     for path in sorted(set(vectors.glob("*.json")) - {vectors / "records.json"}):
         tests += [(path.name, number, test) for number, test in enumerate(json.loads(path.read_text()), 1)]
@@ -390,14 +403,26 @@ def main():
         tests += [(file, number, dict(test, kind="faults")) for file, number, test in pure[:1]]
     if verify_only:
         tests = [it for it in tests if it[2]["kind"] == "verify" and it[2]["form"] != "internal"]
+    return tests
+
+
+def passes(test):
+    """Whether the library passes a test."""
+    return PASSES[test["kind"]](test)
+
+
+def main():
+    take(sys.argv[1:])
+    tests = all_tests()
     with concurrent.futures.ThreadPoolExecutor(1 if verify_only and not is_through else 4) as pool:
-        passes = list(pool.map(lambda it: PASSES[it[2]["kind"]](it[2]), tests))
-    for (name, number, test), well in zip(tests, passes):
+        passed = list(pool.map(lambda it: passes(it[2]), tests))
+    for (name, number, test), well in zip(tests, passed):
         if not well:
             print(f"{name} test {number} {test['kind']} {test['set']}: fail")
-    failed = passes.count(False) + (is_through and not library.end())
-    print(f"{passes.count(True)} passed, {failed} failed")
-    sys.exit(1 if failed or not passes else 0)
+    failed = passed.count(False) + (is_through and not library.end())
+    print(f"{passed.count(True)} passed, {failed} failed")
+    sys.exit(1 if failed or not passed else 0)
 
 
-main()
+if __name__ == "__main__":
+    main()

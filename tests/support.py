@@ -1,9 +1,12 @@
 """What the tests and their fixtures share: tools that may be missing, runs of programs, and what is drawn."""
+import contextlib
 import hashlib
+import itertools
 import os
 import pathlib
 import re
 import shutil
+import socket
 import subprocess
 import sys
 import typing
@@ -15,6 +18,8 @@ TESTS = HERE / "tests"
 # The Python that has Debian's packages.
 PYTHON = "/usr/bin/python3" if os.path.exists("/usr/bin/python3") else sys.executable
 VECTORS = TESTS / "vectors"
+# How many seconds a test waits for what has to come. A busy machine takes its time: only a hang may be a failure.
+PATIENCE = 600
 SANITIZED = ("-g", "-fsanitize=address,undefined", "-fno-sanitize-recover=all")
 
 # What cures a missing command: the Debian package, if it has another name than the command.
@@ -55,7 +60,7 @@ class Outcome(typing.NamedTuple):
 def run(*words, stdin=b"", **options):
     """Runs a program to its end. `stdin` is bytes or an open file."""
     given = {"input": stdin} if isinstance(stdin, bytes) else {"stdin": stdin}
-    options = {"stdout": subprocess.PIPE, "stderr": subprocess.PIPE, "timeout": 600, **given, **options}
+    options = {"stdout": subprocess.PIPE, "stderr": subprocess.PIPE, "timeout": PATIENCE, **given, **options}
     done = subprocess.run([os.fspath(it) for it in words], **options)
     return Outcome(done.returncode, done.stdout or b"", done.stderr or b"")
 
@@ -123,13 +128,25 @@ def need_level(level):
         pytest.skip(f"this processor lacks x86-64-v{level}")
 
 
+# Ports that no test of this process has had, below those that systems give to clients.
+PORTS = itertools.cycle(10000 + (97 * os.getpid() + it) % 20000 for it in range(20000))
+
+
+def free_port():
+    """A port that nothing has. No client gets it before the server, and another worker of xdist begins elsewhere."""
+    for port in PORTS:
+        with socket.socket() as it, contextlib.suppress(OSError):
+            it.bind(("127.0.0.1", port))
+            return port
+
+
 def refused(line):
     """The outcome of a refusal by the program `slh`."""
     return Outcome(2, b"", f"slh: {line}\n".encode())
 
 
 def drawn(seed, name, parts):
-    """The parts that a number draws: one of them, or all of them if it is `all`. tests/counts.sh draws the same."""
+    """The parts that a number draws: one of them, or all of them if it is `all`."""
     if seed == "all":
         return list(parts)
     digest = hashlib.sha256(f"{seed} {name}\n".encode()).hexdigest()

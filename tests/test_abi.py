@@ -1,5 +1,6 @@
 """Tests the comparison of ABIs (tools/abi.py): a release is as it was, what breaks programs is found, and what is only
-added is not. The sources of today are compared with the release in dist/, too."""
+added is not. The sources of today are compared with the release in dist/, too. The shared objects here have the version
+script of tools/symbols.sh for the calls of their headers."""
 import pathlib
 import shutil
 import subprocess
@@ -11,6 +12,7 @@ HERE = pathlib.Path(__file__).resolve().parent.parent
 sys.path.append(str(HERE / "tools"))
 import abi  # noqa: E402
 
+SHARED = "libslh.so.0"
 PUBLIC = "uint32_t slh_public(uint32_t set, const uint8_t *sk, size_t sk_len, uint8_t *pk, size_t pk_len);"
 BROKEN = {
     "the type of a result": ("slh.h", PUBLIC, PUBLIC.replace("uint32_t slh_", "uint64_t slh_"), "slh_public"),
@@ -49,10 +51,23 @@ def change(release, file, old, new):
     path.write_text(text.replace(old, new))
 
 
-def compare(new):
-    """The status and the output of a comparison with the release in dist/."""
-    abi.compiled(new, abi.stub(new), new / "x86-64/libslh", "-shared", "-fPIC").rename(new / "x86-64/libslh.so.0")
-    done = subprocess.run([HERE / "tools/abi.py", HERE / "dist", new], stdout=subprocess.PIPE, text=True)
+def link(release, version="SLH_0", text=None):
+    """Links the shared object of a release of its stub, or of this text."""
+    script = release / "symbols"
+    script.write_text(f"{version} {{ global: slh_*; other; local: *; }};\n" if version else "{ local: none; };\n")
+    made = abi.compiled(release, text or abi.stub(release), release / "x86-64/libslh", "-shared", "-fPIC",
+                        f"-Wl,--version-script={script}")
+    made.rename(release / f"x86-64/{SHARED}")
+
+
+def compare(new, old=HERE / "dist"):
+    """The status and the output of a comparison, with the release in dist/ or another."""
+    link(new)
+    return compared(old, new)
+
+
+def compared(old, new):
+    done = subprocess.run([HERE / "tools/abi.py", old, new], stdout=subprocess.PIPE, text=True)
     return done.returncode, done.stdout
 
 
@@ -83,11 +98,37 @@ def test_the_headers_of_today(new):
 
 
 def test_a_call_that_is_not_exported_is_found(new):
-    text = abi.stub(new)
-    abi.compiled(new, text.replace("slh_public(", "other("), new / "x86-64/libslh", "-shared", "-fPIC").rename(
-        new / "x86-64/libslh.so.0")
-    done = subprocess.run([HERE / "tools/abi.py", HERE / "dist", new], stdout=subprocess.PIPE, text=True)
-    assert done.returncode == 1 and "declared and exported calls differ: ['other', 'slh_public']" in done.stdout
+    link(new, text=abi.stub(new).replace("slh_public(", "other("))
+    status, output = compared(HERE / "dist", new)
+    assert status == 1 and "declared and exported calls differ: ['other', 'slh_public']" in output
+
+
+@pytest.fixture
+def old(new, tmp_path_factory):
+    """A release as `new`, with versions of its symbols."""
+    old = tmp_path_factory.mktemp("old") / "release"
+    shutil.copytree(new, old)
+    link(old)
+    return old
+
+
+def test_a_release_with_versions_of_symbols_is_as_it_was(old, new):
+    assert compare(new, old) == (0, "33 calls are as they were\n")
+
+
+@pytest.mark.parametrize("version, said", [("SLH_9", "SLH_9"), ("", "none")])
+def test_another_version_of_symbols_is_found(old, new, version, said):
+    """A program that asks for slh_sign@SLH_0 does not start over it, or is warned."""
+    link(new, version)
+    status, output = compared(old, new)
+    assert status == 1 and f"slh_sign has the version {said}, and had SLH_0" in output
+
+
+def test_another_name_of_the_shared_object_is_found(old, new):
+    link(new)
+    (new / "x86-64" / SHARED).rename(new / "x86-64/libslh.so.x")
+    status, output = compared(old, new)
+    assert status == 1 and f"the shared object is libslh.so.x, and was {SHARED}" in output
 
 
 def test_without_a_file_or_a_tool_nothing_is_said_to_be_equal(new):

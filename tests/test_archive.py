@@ -14,7 +14,7 @@ import time
 import pytest
 
 from archives import Runs, flip, has_each_once, key_file, lines_of, need_module, vectors
-from support import HERE, PYTHON, run
+from support import HERE, PATIENCE, PYTHON, run
 
 slow = pytest.mark.slow
 
@@ -252,7 +252,7 @@ class Cluster:
         return (self.folder / "scheduler.log").read_text()
 
     def wait_for(self, is_so):
-        end = time.monotonic() + 60
+        end = time.monotonic() + PATIENCE
         while not is_so():
             assert time.monotonic() < end, self.log()[-2000:]
             time.sleep(0.05)

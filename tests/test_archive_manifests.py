@@ -110,10 +110,12 @@ def test_changed_while_read(them):
     them.signs(0, folder)
     signature = (folder / "log.sig").read_bytes()
     (folder / "log.sig").unlink()
+    begun = (folder / "log").stat().st_mtime_ns
     code = "import sys\nwhile True:\n    with open(sys.argv[1], 'r+b') as it: it.write(bytes(1))"
     with subprocess.Popen([PYTHON, "-c", code, folder / "log"]) as writer:
         try:
-            time.sleep(0.2)
+            while (folder / "log").stat().st_mtime_ns == begun:
+                time.sleep(0.01)
             out = them.signs(1, folder)
             assert 'unreadable "log" log changed while it was read' in out, out
             assert not (folder / "log.sig").exists(), "it was signed"

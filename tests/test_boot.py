@@ -171,7 +171,7 @@ class Maker:
         succeed(*self.cc, "-Wl,--gc-sections,--undefined=slot_a,--build-id=none", f"-Wl,{places}", *self.board.loader,
                 HERE / "examples/boot.c", self.folder / "slots.S", self.archive, "-lgcc", "-o",
                 self.folder / "loader.elf")
-        done = run(*self.board.runs, self.folder / "loader.elf", stderr=subprocess.STDOUT, timeout=60)
+        done = run(*self.board.runs, self.folder / "loader.elf", stderr=subprocess.STDOUT)
         return done.output.decode().splitlines()
 
 

@@ -23,6 +23,18 @@ CHANGES = {
                                    "no row has examine of JavaScript"),
     "another name in Java": ("bindings/java/src/pipitscreen/slh/SlhPrivateKey.java", "public void check()",
                              "public void examine()", "no row has examine of Java"),
+    "another word": ("tools/calls.py", '"check", "check", "Check"', '"check", "set", "Check"',
+                     "Rust has another word for 'check a secret key': settle it"),
+    "a reason without another word": ("tools/calls.py", '("read PEM", "Java"): ', '("the version", "Go"): ',
+                                      "REASONS has ('the version', 'Go')"),
+    "a comment of C++": ("c/include/slh.hpp", "/* deprecated, ", "/* ", "Options::twice of C++ is not marked"),
+    "a mark of Rust": ("bindings/rust/slh/src/options.rs", "#[deprecated(", "#[doc(", "Options::twice of Rust is not"),
+    "a mark of Go": ("bindings/go/keys.go", "// Deprecated: use Erase.", "// Use Erase.", "Destroy of Go is not"),
+    "a mark of Python": ("bindings/python/slh/__init__.py", "DeprecationWarning, 3", "UserWarning, 3",
+                         "twice of Python is not marked"),
+    "a mark of JavaScript": ("bindings/javascript/slh.d.ts", "@deprecated", "@remarks", "twice of JavaScript is not"),
+    "a mark of Java": ("bindings/java/src/pipitscreen/slh/SlhSignatureSpec.java", "    @Deprecated\n", "",
+                       "SlhSignatureSpec.verified of Java is not marked"),
     "another page": ("bindings/CALLS.md", "`slh_check`", "`slh_checks`", "is not as it would be written"),
 }
 

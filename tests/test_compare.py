@@ -19,6 +19,8 @@ BUILDS = ["v2", "v3", "v4", *(pytest.param(it, marks=DRAWN) for it in OF_SLH_C)]
 # What a processor has to have for the code of a level.
 FEATURES = {"v2": "ssse3", "v3": "avx2"}
 
+pytestmark = pytest.mark.usefixtures("built_by_the_kit")
+
 
 @pytest.fixture(scope="module")
 def links(compiled):

@@ -65,6 +65,42 @@ def contents(folder):
     return {it.name: it.read_bytes() for it in folder.iterdir()}
 
 
+# ---- a package on its way
+
+
+def is_whole(package, folder):
+    """Whether a package can be unpacked, and has the files that it lists, each with its sum."""
+    if run("dpkg-deb", "--raw-extract", package, folder).status:
+        return False
+    listed = {it.split("  ", 1)[1] for it in (folder / "DEBIAN/md5sums").read_text().splitlines()}
+    files = {str(it.relative_to(folder)) for it in (folder / "usr").rglob("*") if it.is_file() and not it.is_symlink()}
+    sums = run("md5sum", "--check", "--strict", "--status", "DEBIAN/md5sums", cwd=folder)
+    return sums.status == 0 and listed == files != set()
+
+
+def test_packages_are_whole(debs, tmp_path):
+    assert [it.name for it in sorted(debs.iterdir()) if not is_whole(it, tmp_path / it.name)] == []
+
+
+def place_in(data, member):
+    """The middle of a member of an archive of `ar`."""
+    at = 8
+    while not data.startswith(member, at):
+        length = int(data[at + 48:at + 58])
+        at += 60 + length + length % 2
+    return at + 60 + int(data[at + 48:at + 58]) // 2
+
+
+@pytest.mark.parametrize("member", ["control.tar", "data.tar"])
+def test_damaged_package_is_not_unpacked(debs, tmp_path, member):
+    """One byte of it is another one."""
+    package, = debs.glob("slh_*.deb")
+    data = bytearray(package.read_bytes())
+    data[place_in(data, member.encode())] ^= 1
+    (tmp_path / "damaged.deb").write_bytes(data)
+    assert is_whole(package, tmp_path / "whole") and not is_whole(tmp_path / "damaged.deb", tmp_path / "damaged")
+
+
 # ---- no package of what is damaged
 
 
@@ -172,7 +208,7 @@ def in_a_root(debs, tmp_path_factory):
 
     def outcome_of(script):
         (work / "script").write_text(script)
-        return run("unshare", "-rm", "bash", "-e", "-c", ROOT, work, HERE, debs, timeout=120)
+        return run("unshare", "-rm", "bash", "-e", "-c", ROOT, work, HERE, debs)
 
     if outcome_of("true").status:
         pytest.skip("no overlay can be mounted (run it as root, outside of other overlays)")
@@ -427,14 +463,14 @@ print -r -- ${{${{found##*<<}}%%>>*}}
 @pytest.fixture
 def in_zsh(unpacked, tmp_path):
     need("zsh")
-    if run("zsh", "-f", "-c", "zmodload zsh/zpty && zpty probe true", timeout=20).status:
+    if run("zsh", "-f", "-c", "zmodload zsh/zpty && zpty probe true").status:
         pytest.skip("zsh can open no pseudo-terminal (mount devpts at /dev/pts)")
     (tmp_path / "public_key.h").touch()
     functions = unpacked / "usr/share/zsh/vendor-completions"
 
     def completes(line):
         script = OF_ZSH.format(functions=functions, line=line)
-        return succeed("zsh", "-f", stdin=script.encode(), cwd=tmp_path, timeout=60).decode().removesuffix("\n")
+        return succeed("zsh", "-f", stdin=script.encode(), cwd=tmp_path).decode().removesuffix("\n")
 
     return completes
 

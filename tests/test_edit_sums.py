@@ -38,7 +38,8 @@ def copy(tmp_path):
     if shutil.which("rt") is None:
         pytest.skip("rt is not on the path: install the Rattle kit")
     shutil.copytree(HERE / "crates", tmp_path / "crates", ignore=shutil.ignore_patterns("out"))
-    for name in ("crates.txt", "tools/kit.py", *(f"tests/{it}.py" for it in ("counts", "edit_sums", "wrong_bodies"))):
+    tests = [f"tests/{it}.py" for it in ("counts", "edit_sums", "wrong_bodies")]
+    for name in ("VERSION", "crates.txt", "tools/kit.py", *tests):
         (tmp_path / name).parent.mkdir(exist_ok=True)
         shutil.copy(HERE / name, tmp_path / name)
     return tmp_path

@@ -19,6 +19,8 @@ LIBRARIES = {**ARCHIVES, "libslh.so": None}
 SETS = {"128f": "2", "192f": "4", "256f": "6"}
 MACHINE = machines.Machine("x86-64", tool_of("cc"))
 
+pytestmark = pytest.mark.usefixtures("built_by_the_kit")
+
 
 # ---- depths
 

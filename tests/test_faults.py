@@ -30,6 +30,8 @@ OF_EACH = pytest.mark.parametrize("archive", [pytest.param(it, marks=DRAWN) for 
 STEPS = "300"
 WRONG = re.compile(r"valid and wrong: (\S+) (\d+): .* at (0x[0-9a-f]+)$", re.M)
 
+pytestmark = pytest.mark.usefixtures("built_by_the_kit")
+
 
 @pytest.fixture(scope="module")
 def seed():

@@ -2,11 +2,12 @@
 with that growth refused, until a run meets no refusal.
 
 Each run has to end with status 2, nothing on standard output and `slh: 1 NoMemory` on standard error, or with what the
-program gives without any refusal, where it goes on without a refused growth: the start of a thread, or a text of `clap`
-about arguments that are refused anyway.
+program gives without any refusal. That is right in two cases: it has started fewer threads, or `clap` lacks memory for
+a text about arguments that are refused anyway.
 """
 import json
 import os
+import typing
 
 import pytest
 
@@ -44,62 +45,73 @@ def refusing(compiled):
     return compiled("refuse_nth.so", "-O2", "-shared", "-fPIC", TESTS / "refuse_nth.c", "-ldl")
 
 
+class Came(typing.NamedTuple):
+    """What came of a run: its outcome, whether it met the growth that is refused, and how many threads it started."""
+
+    outcome: Outcome
+    is_met: bool
+    threads: int
+
+
 @pytest.fixture
 def outcome_without(program, folder, refusing, tmp_path):
-    """Runs a command without a growth: its outcome, and whether it asked for that growth."""
+    """Runs a command without a growth, or with all if its number is 0: what came of it."""
 
     def runs(number, words):
-        met = tmp_path / "met"
+        met, threads = tmp_path / "met", tmp_path / "threads"
         met.unlink(missing_ok=True)
-        env = {**os.environ, "REFUSE_NTH": str(number), "REFUSE_MET": str(met), "LD_PRELOAD": str(refusing)}
+        threads.write_bytes(b"")
+        env = {**os.environ, "REFUSE_NTH": str(number), "REFUSE_MET": str(met), "REFUSE_THREADS": str(threads),
+               "LD_PRELOAD": str(refusing)}
         with open(folder / "seeds", "rb") as stdin:
-            outcome = run(program, *words, cwd=folder, stdin=stdin, env=env if number else None)
-        return outcome, met.exists()
+            outcome = run(program, *words, cwd=folder, stdin=stdin, env=env)
+        return Came(outcome, met.exists(), threads.stat().st_size)
 
     return runs
 
 
-def slow(words, over=0, least=50):
-    return pytest.param(over, least, words, id=" ".join(it[:20] for it in words), marks=pytest.mark.slow)
+def slow(words, threads=0, texts=0, least=50):
+    return pytest.param(threads, texts, least, words, id=" ".join(it[:20] for it in words), marks=pytest.mark.slow)
 
 
-# Of each: at most so many refused growths may leave the answer as it is, and at least so many have to refuse it. Each
-# thread that a run starts asks for a growth, without which the work is done on the thread that asked. If several
-# threads ask, one of these growths may have another number in each run, and be met more than once.
-@pytest.mark.parametrize("over, least, words", [
-    pytest.param(0, 50, [], id="nothing"),
+# Of each: how many threads it starts, how many texts of `clap` it may omit at most, and how many growths have to refuse
+# it at least. Without a growth for the start of a thread, the work is done on the thread that asked. How often such a
+# growth is met differs: if several threads ask, it may have another number in each run.
+@pytest.mark.parametrize("threads, texts, least, words", [
+    pytest.param(0, 0, 50, [], id="nothing"),
     slow(["params"]),
     slow(["params", "--set", SET]),
     slow(["root", "--set", SET]),
     slow(["keygen", "--set", SET]),
-    slow(["keygen", "--set", SET, "--workers", "2", *LEVEL_1], over=4),
+    slow(["keygen", "--set", SET, "--workers", "2", *LEVEL_1], threads=2),
     slow(["public", "--key", "key"]),
     slow(["check", "--key", "key"]),
     slow(["upgrade", "--key", "key"]),
     slow(["upgrade", "--key", "public"]),
     slow(SIGN),
     slow([*SIGN, "--twice"]),
-    slow([*SIGN, "--context", 255 * "00", "--random", bytes(range(16)).hex(), "--workers", "2", *LEVEL_1], over=8),
-    slow([*SIGN, "--prehash", "SHA2-512/256", "--workers", "3", "--xmss-cuts", "3,5", "--fors-cuts", "5"], over=12),
+    slow([*SIGN, "--context", 255 * "00", "--random", bytes(range(16)).hex(), "--workers", "2", *LEVEL_1], threads=2),
+    slow([*SIGN, "--prehash", "SHA2-512/256", "--workers", "3", "--xmss-cuts", "3,5", "--fors-cuts", "5"], threads=4),
     slow([*VERIFY, "signature"]),
     slow([*VERIFY, "hash_signature", "--prehash", "SHA2-256", "--context", "00"]),
     slow(["vectors", "--file", "tests.json"]),
-    slow(["vectors", "--file", "tests.json", "--workers", "2"], over=4),
+    slow(["vectors", "--file", "tests.json", "--workers", "2"], threads=2),
     slow(["--help"]),
     slow(["sign", "--help"]),
-    slow(["sign", "--nothing"], over=100),
+    slow(["sign", "--nothing"], texts=100),
     slow(["root", "--set", SET, "--set", SET], least=10),
     slow(["public", "--key", "nowhere"], least=10),
 ])
-def test_each_growth_refused(outcome_without, over, least, words):
-    wanted, _ = outcome_without(0, words)
-    refusals = passed_over = 0
+def test_each_growth_refused(outcome_without, threads, texts, least, words):
+    wanted = outcome_without(0, words)
+    assert wanted.threads == threads
+    refusals = omitted = 0
     for number in range(1, MOST):
-        outcome, is_met = outcome_without(number, words)
-        if not is_met:
-            assert outcome == wanted
+        came = outcome_without(number, words)
+        if not came.is_met:
+            assert came == wanted
             break
-        assert outcome in (wanted, refused("1 NoMemory")), f"growth {number}"
-        passed_over += outcome == wanted
-        refusals += outcome != wanted
-    assert not is_met and passed_over <= over and refusals >= least, f"{refusals} refused, {passed_over} passed over"
+        assert came.outcome in (wanted.outcome, refused("1 NoMemory")), f"growth {number}"
+        omitted += came.outcome == wanted.outcome and came.threads == threads
+        refusals += came.outcome != wanted.outcome
+    assert not came.is_met and omitted <= texts and refusals >= least, f"{refusals} refused, {omitted} passed over"

@@ -40,6 +40,8 @@ ORDERS = {
 }
 EMULATED = [pytest.mark.slow, pytest.mark.emulator]
 
+pytestmark = pytest.mark.usefixtures("built_by_the_kit")
+
 
 @pytest.fixture(scope="module")
 def weak(lib, tmp_path_factory):

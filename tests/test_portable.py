@@ -247,7 +247,7 @@ def test_call_within_another_is_answered(compiled, include, slh_verify_c, image,
     library = compiled("busy.o", *words, "-Dmemcpy=coming_in", "-fno-builtin", "-DSLH_TRAP=trapped", "-c", slh_verify_c,
                        cc="gcc")
     program = compiled("busy", *words, "-I", image.folder, TESTS / "portable_busy.c", library, "-pthread", cc="gcc")
-    status, text = text_of(run(program, image.file("image.sig"), tmp_path / "digest", timeout=60))
+    status, text = text_of(run(program, image.file("image.sig"), tmp_path / "digest"))
     assert status == 0 and re.fullmatch(r"160 calls in threads, \d+ done, the others refused", text), text
 
 

@@ -8,6 +8,7 @@ import time
 import pytest
 
 from provider import CA_CONFIG, SETS, Folder, succeeded
+from support import PATIENCE
 
 QUICK = "128f"
 REQUEST = b"GET / HTTP/1.0\r\n\r\n"
@@ -33,7 +34,7 @@ class Ends:
         env = {**self.folder.provider.env, "OPENSSL_CONF": str(config)}
         with open(self.folder.path / "server.out", "wb") as file:
             self.server = subprocess.Popen(command, cwd=self.folder.path, env=env, stdout=file, stderr=file)
-        for _ in range(300):
+        for _ in range(10 * PATIENCE):
             if (self.folder.path / "socket").exists() or self.server.poll() is not None:
                 break
             time.sleep(0.1)
@@ -42,8 +43,8 @@ class Ends:
     def connect(self, config, *words):
         """The client's status, what it said, and what the server said by its end."""
         client = ["s_client", "-unix", "socket", "-ign_eof", "-CAfile", "server.pem", "-verify_return_error", "-brief"]
-        done = self.folder.under(config, *client, *words, stdin=REQUEST, timeout=60)
-        self.server.wait(60)
+        done = self.folder.under(config, *client, *words, stdin=REQUEST)
+        self.server.wait(PATIENCE)
         return done.status, (done.output + done.errors).decode(errors="replace"), self.server_said()
 
     def server_said(self):

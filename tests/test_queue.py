@@ -21,7 +21,7 @@ import urllib.request
 import pytest
 
 from conftest import STRICT
-from support import HERE, PYTHON, need, run, succeed
+from support import HERE, PATIENCE, PYTHON, free_port, need, run, succeed
 
 EXAMPLES = HERE / "examples"
 PROCESSES, FILES = 2, 40
@@ -43,14 +43,8 @@ for it in text_string_to_metric_families(sys.stdin.read()):
 # ---- processes, ports and pipes
 
 
-def free_port():
-    with socket.socket() as it:
-        it.bind(("127.0.0.1", 0))
-        return it.getsockname()[1]
-
-
 def waits_until(is_so, what):
-    end = time.monotonic() + 30
+    end = time.monotonic() + PATIENCE
     while not is_so():
         assert time.monotonic() < end, what
         time.sleep(0.02)
@@ -202,7 +196,7 @@ class Example:
 
     def scraped(self, process, signed, failed):
         """Scrapes until all is done."""
-        end = time.monotonic() + 60
+        end = time.monotonic() + PATIENCE
         while True:
             found = self.scrape()
             if found.get("slh_signatures_total") == signed and found.get("slh_failures_total") == failed:
@@ -212,13 +206,13 @@ class Example:
 
     def ended(self, process, status, said):
         """What it wrote to standard error. Its status and its last line have to be these."""
-        out, err = process.communicate(timeout=60)
+        out, err = process.communicate(timeout=PATIENCE)
         assert (process.returncode, out.decode().strip()) == (status, said), err[-900:]
         return err.decode()
 
     def all_are_ended(self, process):
         """The number of files that a program says it signed, which was stopped: all its processes and its port end."""
-        out, err = process.communicate(timeout=60)
+        out, err = process.communicate(timeout=PATIENCE)
         assert process.returncode == 0 and out.endswith(b" signed, 0 failed\n") and b"it was stopped" in err, err
         waits_until(lambda: has_ended(process.pid) and is_free(self.port), "processes, or the port, live on")
         return int(out.split()[0])
@@ -264,7 +258,7 @@ def test_loss_of_its_processes_is_told(example):
         end_signers(process)
         with contextlib.suppress(BrokenPipeError):
             example.feed(process, *files[1:])
-        out, err = process.communicate(timeout=60)
+        out, err = process.communicate(timeout=PATIENCE)
         assert process.returncode == 1, out + err[-900:]
 
 
@@ -277,7 +271,7 @@ def test_no_file_is_lost_with_its_processes(example):
         example.scraped(process, 1, 0)
         end_signers(process)
         pipe.put(*(f"{it}\n" for it in files[1:]))
-        _, err = process.communicate(timeout=60)
+        _, err = process.communicate(timeout=PATIENCE)
         left = pipe.left()
     lost = [it.name for it in files if not it.with_name(it.name + ".sig").exists()
             and f"{it}: " not in err.decode() and os.fsencode(it) not in left]
@@ -365,7 +359,7 @@ def test_folder_is_synced(example, tmp_path):
 def test_key_of_another_kind_is_refused(example, tmp_path, kind):
     bad = tmp_path / "bad"
     bad.write_text("" if kind == "empty" else (example.keys / "key.pub").read_text())
-    outcome = run(*map(str, [*example.words, bad, example.port]), env=example.env, timeout=60)
+    outcome = run(*map(str, [*example.words, bad, example.port]), env=example.env)
     assert outcome.status == 2 and outcome.errors
 
 

@@ -248,12 +248,12 @@ def test_fifo_is_not_waited_for(changed, file):
     note = note_now(changed, "same")
     path.unlink()
     os.mkfifo(path)
-    changed.refuses("slh: ", *PARAMS, timeout=20)
+    changed.refuses("slh: ", *PARAMS)
     note.unlink()
-    changed.refuses("slh: ", *PARAMS, timeout=20)
+    changed.refuses("slh: ", *PARAMS)
     if file != "the program":
-        changed.refuses("library.sh: ", "tools/library.sh", "prefix", timeout=20)
-    changed.refuses(".sh: ", "tools/install.sh", "prefix", timeout=20)
+        changed.refuses("library.sh: ", "tools/library.sh", "prefix")
+    changed.refuses(".sh: ", "tools/install.sh", "prefix")
     assert not (changed.path / "prefix").exists()
 
 
@@ -261,7 +261,7 @@ def test_fifo_in_place_of_a_note_is_not_waited_for(changed):
     note = note_now(changed, "same")
     note.unlink()
     os.mkfifo(note)
-    done = changed.run(*PARAMS, timeout=20)
+    done = changed.run(*PARAMS)
     note.unlink()
     assert done.status == 0
 
@@ -406,7 +406,8 @@ def test_each_source_is_one_that_a_note_depends_on(copy):
 @slow
 @pytest.mark.parametrize("file", [
     "HANDLES", "VERSION", "crates.txt", "c/include/slh.h", "tools/kit.py", "tools/program.sh", "tools/target.sh",
-    "crates/slh/src/main.rt", "crates/slh_params/specs/Lib.antt", "crates/slh_params/proofs/Bounds.antt"])
+    "tools/symbols.sh", "crates/slh/src/main.rt", "crates/slh_params/specs/Lib.antt",
+    "crates/slh_params/proofs/Bounds.antt"])
 def test_changed_source_is_seen_over_a_note(copy_of_module, file):
     """Though its length and time are as they were."""
     copy, path = copy_of_module.take_release(), copy_of_module.path / file

@@ -19,6 +19,8 @@ LEAKS = {"branches": 1, "addresses": 2}
 LEAKING = ["slh_keygen", "slh_sign", "slh_hash_sign", "slh_sign_internal"]
 HASHING = re.compile(r"<(sha2|slh_lanes|slh_hash)::")
 
+pytestmark = pytest.mark.usefixtures("built_by_the_kit")
+
 
 @pytest.fixture(scope="module")
 def linked(compiled, installed):

@@ -493,10 +493,9 @@ def threads_of(process):
 
 
 def most_threads(process, wanted):
-    """The most threads that a process has. It is looked at 60 times at most, and once it has as many as are wanted 10
-    times."""
+    """The most threads that a process has until it ends, or has been seen 10 times with as many as are wanted."""
     most = after = 0
-    for _ in range(60):
+    while process.poll() is None:
         most = max(most, threads_of(process))
         after += most >= wanted
         if after == 10:

@@ -1,5 +1,5 @@
-"""Tests tools/test.sh and the harness that it runs (conftest.py, test_scripts.py). Whatever fails, ends early or is
-skipped has to be seen at its end. A small repository has stubs in place of the scripts, and one file of tests."""
+"""Tests tools/test.sh and the harness that it runs (parts.py, conftest.py). Whatever fails, ends early or is skipped has
+to be seen at its end. A small repository has stubs in place of the parts that need rt, and one file of tests."""
 import hashlib
 import os
 import re
@@ -8,21 +8,12 @@ import shutil
 import pytest
 
 from copies import WITHOUT_KIT, script, skip_beside_kit
-from support import HERE, TESTS, run
-from test_scripts import OTHER_SOURCES, SCRIPTS
+from support import HERE, run
 
 HARNESS = [
     ".ci/run", "pytest.ini", "tools/test.sh", "tools/released.sh", "tests/budgets.toml", "tests/conftest.py",
-    "tests/copies.py", "tests/counts.sh", "tests/provider.py", "tests/support.py", "tests/test_scripts.py"]
-TABLE = """\
-OF_LIBRARY = [("of_library", "cat"), ("other_library", "", "--dist {release}", "--dist {release} --drawn")]
-OF_RELEASE = [("of_release", "")]
-OF_WRONG_BODIES = [("bodies", "", "--changed", "--gate")]
-OF_KIT = [("tables", "", "")]
-OF_NEW_MACHINES = [("of_new_machine", "", "--few")]
-"""
-OF_SOURCES = ["of_library", "other_library"]
-OF_KIT = ["bodies", "tables"]
+    "tests/copies.py", "tests/parts.py", "tests/provider.py", "tests/support.py"]
+OF_KIT = ["wrong_bodies.py", "tested_bodies.py", "fresh_tests.sh"]
 FOUR = 'echo "4 passed, 0 failed"\n'
 STUB = '#!/bin/sh\necho "${0##*/} $*" >>"$HOME/called"\n'
 TESTS_OF_PYTEST = "import pytest\ndef test_right(): pass\n"
@@ -38,8 +29,7 @@ class Small:
             shutil.copy(HERE / file, self.path / file)
         script(self.path / "tools/sources.sh", "#!/bin/sh\necho x\n")
         script(self.path / "tools/setup.sh", '#!/bin/sh\n[ "$1" = --missing ]\n')
-        self.write("tests/scripts.py", TABLE)
-        for it in [*OF_SOURCES, "of_release", *OF_KIT, "of_new_machine"]:
+        for it in OF_KIT:
             script(self.path / "tests" / it, STUB + FOUR)
         self.write("tests/test_vectors.py", TESTS_OF_PYTEST)
         self.write("dist/BUILD", "version 0\nsources x\n")
@@ -84,22 +74,27 @@ def skips(lines):
 
 
 def test_release_is_tested_without_rt(small):
-    """Each script runs once over dist/, and the counts are added up. The parts that need rt are skipped by name."""
+    """Over dist/. The parts that need rt are skipped by name."""
     status, lines = small.run("--no-setup")
-    assert small.calls() == [f"{it} --dist dist" for it in [*OF_SOURCES, "of_release"]]
-    assert (status, lines[-1]) == (0, "13 passed, 0 failed, 4 skipped")
-    names = [f"tests/{it}: SKIPPED, since there is no rt (to be had by the Rattle kit)" for it in OF_KIT]
-    made = "it makes a Debian (tools/test.sh runs it beside rt ci, pytest -k of_new_machine alone)"
-    assert skips(lines) == sorted(
-        [*names, "rt ci: SKIPPED, since there is no rt", f"tests/of_new_machine: SKIPPED, since {made}"])
+    assert small.calls() == [] and "== pytest --release=dist" in lines
+    assert (status, lines[-1]) == (0, "1 passed, 0 failed, 4 skipped")
+    names = ["rt ci", *(f"tests/{it}" for it in OF_KIT)]
+    assert skips(lines) == sorted(f"{it}: SKIPPED, since there is no rt" for it in names)
 
 
 @pytest.mark.slow
-def test_few_tests_of_each_script(small):
+def test_release_is_tested_beside_rt(small):
+    small.add_kit()
+    status, lines = small.run("--no-setup", "--release")
+    assert small.calls() == [] and (status, lines[-1]) == (0, "1 passed, 0 failed, 4 skipped")
+
+
+@pytest.mark.slow
+def test_few_tests_of_each_kind(small):
+    small.write("tests/test_vectors.py", TESTS_OF_PYTEST + "@pytest.mark.slow\ndef test_wrong(): assert False\n")
     status, lines = small.run("--no-setup", "--few")
-    assert small.calls() == [
-        "of_library --few --dist dist", "other_library --dist dist", "of_release --few --dist dist"]
-    assert status == 0
+    assert "== pytest -m 'not slow' --release=dist" in lines
+    assert (status, lines[-1]) == (0, "1 passed, 0 failed, 4 skipped")
 
 
 @pytest.mark.slow
@@ -107,18 +102,18 @@ def test_one_test_of_each_file(small):
     """For a new machine, which shows what only it can show."""
     small.write("tests/test_vectors.py", TESTS_OF_PYTEST + "def test_wrong(): assert False\n")
     status, lines = small.run("--no-setup", "--few", PYTEST_ADDOPTS="--one")
-    assert small.calls() == []
-    assert (status, lines[-1]) == (0, "1 passed, 0 failed, 2 skipped")
+    assert (status, lines[-1]) == (0, "1 passed, 0 failed, 4 skipped")
 
 
 def test_release_of_rt_ci_is_tested_once(small):
-    """`rt ci` and the release come first. Then each part runs once, over that release."""
+    """`rt ci` and the release come first. Then each part runs once, and pytest over that release."""
     small.add_kit()
     status, lines = small.run("--no-setup")
     assert small.calls() == [
-        "rt ci", "release.sh --after-ci --check out/release", "bodies --gate", "tables ", "of_new_machine --few",
-        "of_library --dist out/release", "other_library --dist out/release --drawn", "of_release --dist out/release"]
-    assert (status, lines[-1]) == (0, "33 passed, 0 failed, 0 skipped")
+        "rt ci", "release.sh --after-ci --check out/release", "wrong_bodies.py --gate", "tested_bodies.py --few",
+        "fresh_tests.sh --few"]
+    assert len([it for it in lines if re.match("== pytest .*--release=out/release$", it)]) == 1
+    assert (status, lines[-1]) == (0, "21 passed, 0 failed, 0 skipped")
 
 
 @pytest.mark.slow
@@ -126,9 +121,10 @@ def test_program_is_tested_quickly(small):
     small.add_kit()
     script(small.path / "slh", STUB)
     script(small.path / "crates/slh/out/slh", "#!/bin/sh\necho 128f\n")
+    small.write("tests/test_vectors.py", TESTS_OF_PYTEST.replace("def", "@pytest.mark.quick\ndef"))
     status, lines = small.run("--no-setup", "--quick")
-    assert small.calls() == ["slh params", "bodies --changed"]
-    assert (status, lines[-1]) == (0, "5 passed, 0 failed, 0 skipped")
+    assert small.calls() == ["slh params", "wrong_bodies.py --changed"]
+    assert (status, lines[-1]) == (0, "6 passed, 0 failed, 0 skipped")
 
 
 @pytest.mark.slow
@@ -138,17 +134,6 @@ def test_program_that_is_not_built_is_a_failure(small):
     script(small.path / "crates/slh/out/slh", "#!/bin/sh\necho 128f\n")
     status, lines = small.run("--no-setup", "--quick")
     assert status == 1 and "SLH_BUILD=1 ./slh params: no" in failures(lines)
-
-
-@pytest.mark.slow
-def test_scripts_over_an_older_release_are_skipped(small):
-    """They would test what it lacks."""
-    script(small.path / "tools/sources.sh", "#!/bin/sh\necho y\n")
-    status, lines = small.run("--no-setup")
-    assert "the sources are NOT those that the release was built of" in lines
-    assert small.calls() == ["of_release --dist dist"]
-    names = [f"tests/{it}: SKIPPED, since {OTHER_SOURCES}" for it in OF_SOURCES]
-    assert status == 0 and set(names) <= set(skips(lines))
 
 
 # ---- what is seen at the end
@@ -164,22 +149,25 @@ ENDS = [
 
 
 @pytest.mark.parametrize("status, line, said", ENDS, ids=[it[2] for it in ENDS])
-def test_failure_of_a_script_is_named(small, status, line, said):
-    count = 'tell "it is right" "no, it is not"' if "1 failed" in line else ":"
-    script(small.path / "tests/of_release",
-           f'#!/bin/bash\n. tests/counts.sh\n{count}\necho "{line}"\nexit {status}\n')
+def test_failure_of_a_part_is_named(small, status, line, said):
+    """And all other parts are run."""
+    small.add_kit()
+    note = 'echo "it is right: no, it is not" >>"$SLH_FAILURES"\n' if "1 failed" in line else ""
+    script(small.path / "tests/tested_bodies.py", f'#!/bin/sh\n{note}echo "{line}"\nexit {status}\n')
     ended, lines = small.run("--no-setup")
-    assert failures(lines) == [
-        f"tests/of_release: {said}", "    alone: tests/of_release --dist dist"]
-    assert ended == 1 and re.fullmatch(r"\d+ passed, 1 failed, 4 skipped", lines[-1])
+    assert failures(lines) == [f"tests/tested_bodies.py: {said}", "    alone: tests/tested_bodies.py --few"]
+    assert ended == 1 and re.fullmatch(r"\d+ passed, 1 failed, 0 skipped", lines[-1])
+    assert small.calls()[-1] == "fresh_tests.sh --few"
 
 
 @pytest.mark.slow
-def test_failure_that_a_script_does_not_note_is_named(small):
-    script(small.path / "tests/of_release",
+def test_failure_that_a_part_does_not_note_is_named(small):
+    small.add_kit()
+    script(small.path / "tests/tested_bodies.py",
            '#!/bin/sh\necho "one: yes"\necho "two: no"\necho "1 passed, 2 failed"\nexit 1\n')
     status, lines = small.run("--no-setup")
-    assert failures(lines)[:2] == [f"tests/of_release: {it}" for it in ("two: no", "1 failed that it names above")]
+    named = [f"tests/tested_bodies.py: {it}" for it in ("two: no", "1 failed that it names above")]
+    assert failures(lines)[:2] == named
     assert status == 1 and " passed, 2 failed, " in lines[-1]
 
 
@@ -235,17 +223,18 @@ def test_failure_of_the_proofs_is_named(small, rt, said):
     """And all other parts are run."""
     small.add_kit(rt)
     status, lines = small.run("--no-setup")
-    assert failures(lines)[0] == said and failures(lines)[-1] == "    alone: rt ci"
+    assert failures(lines) == [said, "    alone: rt ci"]
     assert status == 1 and " passed, 1 failed, 0 skipped" in lines[-1]
-    assert "of_release --dist out/release" in small.calls()
+    assert small.calls()[-1] == "fresh_tests.sh --few"
+    assert any(re.match("== pytest .*--release=out/release$", it) for it in lines)
 
 
 @pytest.mark.slow
 def test_difference_from_dist_is_named(small):
     small.add_kit(release='echo "dist/slh is built again bit for bit: no"\necho "4 passed, 1 failed"\nexit 1\n')
     status, lines = small.run("--no-setup")
-    assert failures(lines) == [
-        "tools/release.sh: 4 passed, 1 failed", "    alone: tools/release.sh --after-ci --check out/release"]
+    assert failures(lines) == ["tools/release.sh: dist/slh is built again bit for bit: no",
+                               "    alone: tools/release.sh --after-ci --check out/release"]
     assert status == 1
 
 
@@ -264,22 +253,21 @@ esac
 echo './proofs/board/Board/claim/Answers.antt:1:1: error: `claim`: there is no proof'
 printf '%s\\n' "fn slh_board::board::Board::claim: no proof" "only=1 proved=0" && exit 1
 """)
-    script(copy.path / "tests/of_release", f'#!/bin/sh\nexec tests/wrong_bodies.py --write {refused} {other}\n')
-    (copy.path / "tests/scripts.py").write_text(TABLE)
-    done = copy.run("pytest", "--release=dist", "-k", "of_release", "tests/test_scripts.py",
+    done = copy.run("tests/wrong_bodies.py", "--write", refused, other,
                     path=f"{copy.work / 'kit/bin'}:{WITHOUT_KIT}", SLH_FAILURES=str(copy.work / "noted"))
     assert done.status == 1 and re.search(f"^{refused}.edit: refused in .*no proof", done.output.decode(), re.M)
-    assert (copy.work / "noted").read_text().splitlines()[0] == (
-        f"tests/of_release: {other}: NOT REFUSED: the function is still proved")
+    assert (copy.work / "noted").read_text() == f"{other}: NOT REFUSED: the function is still proved\n"
+    assert done.output.decode().splitlines()[-1] == "1 passed, 1 failed, 0 skipped"
 
 
 @pytest.mark.slow
-def test_skipped_parts_of_a_script_are_named_and_counted(small):
-    script(small.path / "tests/of_release",
-           '#!/bin/bash\n. tests/counts.sh\nskip "it" "not"\ntell "other" yes\nend_counts\n')
+def test_skipped_parts_of_a_part_are_shown_and_counted(small):
+    small.add_kit()
+    script(small.path / "tests/tested_bodies.py",
+           '#!/bin/sh\necho "it: SKIPPED, since not"\necho "other: yes"\necho "1 passed, 0 failed, 1 skipped"\n')
     status, lines = small.run("--no-setup")
-    assert "it: SKIPPED, since not" in lines[lines.index("== pytest --release=dist"):]
-    assert (status, lines[-1]) == (0, "10 passed, 0 failed, 5 skipped")
+    assert "it: SKIPPED, since not" in lines
+    assert (status, lines[-1]) == (0, "18 passed, 0 failed, 1 skipped")
 
 
 # ---- what a watcher sees
@@ -287,7 +275,7 @@ def test_skipped_parts_of_a_script_are_named_and_counted(small):
 
 @pytest.mark.slow
 def test_lines_are_shown_as_they_come_and_a_silence_has_dots(small):
-    script(small.path / "tests/of_release", "#!/bin/sh\necho begins\nsleep 3\necho ends\n" + FOUR)
+    small.add_kit(rt="echo begins\nsleep 3\necho ends\n" + FOUR)
     lines = small.run("--no-setup", SLH_DOTS_AFTER="1")[1]
     begins, ends = lines.index("begins"), lines.index("ends")
     assert any(re.fullmatch(r"\.{2,}", it) for it in lines[begins:ends])
@@ -297,12 +285,11 @@ def test_lines_are_shown_as_they_come_and_a_silence_has_dots(small):
 def test_part_over_its_budget_is_marked(small):
     """Whatever its options are. That is no failure."""
     pytest.importorskip("tomllib", reason="Python before 3.11 has no tomllib")
-    script(small.path / "tests/of_release",
-           "#!/bin/sh\ni=0\nwhile [ $i -lt 100000 ]; do i=$((i + 1)); done\n" + FOUR)
-    small.write("tests/budgets.toml", '[release]\n"tests/of_release" = 0.0001\n"tests/test_vectors.py" = 9\n')
+    small.write("tests/test_vectors.py", "def test_right(): assert sum(range(3000000))\n")
+    small.write("tests/budgets.toml", '[release]\n"tests/test_vectors.py" = 0.0001\n"rt ci" = 9\n')
     status, lines = small.run("--no-setup")
     over, = {it for it in lines if "OVER ITS BUDGET" in it}
-    assert status == 0 and re.fullmatch(r"tests/of_release: .* of 0.0001 processor minutes: OVER ITS BUDGET", over)
+    assert status == 0 and re.fullmatch(r"tests/test_vectors.py: .* of 0.0001 processor minutes: OVER ITS BUDGET", over)
 
 
 @pytest.mark.slow
@@ -341,19 +328,20 @@ def test_missing_tools_are_named_without_setup(small):
     assert lines[0].startswith("missing: it and more. ") and "setup.sh " not in small.calls()
 
 
-@pytest.mark.parametrize("content, ends", [
-    ("version 0\nsources x\n", "1 passed, 0 failed, 2 skipped"), ("damaged\n", "0 passed, 1 failed, 2 skipped")],
-    ids=["whole", "damaged"])
-def test_without_pytest_dist_is_checked(small, content, ends):
+@pytest.mark.parametrize("more, skipped", [([], 2), (["python3"], 5)], ids=["nor Python", "but Python"])
+@pytest.mark.parametrize("content, counts", [
+    ("version 0\nsources x\n", "1 passed, 0 failed"), ("damaged\n", "0 passed, 1 failed")], ids=["whole", "damaged"])
+def test_without_pytest_dist_is_checked(small, content, counts, more, skipped):
     """On a machine that has next to nothing. The user is told what is missing."""
-    for name in "bash sh dirname cat mktemp rm sed grep tail sha256sum id awk".split():
+    for name in ["bash", "sh", "dirname", "cat", "sed", "grep", "sha256sum", "id", "awk", *more]:
         (small.path / "kit").mkdir(exist_ok=True)
-        (small.path / "kit" / name).symlink_to(shutil.which(name))
+        (small.path / "kit" / name).symlink_to(shutil.which(name, path=WITHOUT_KIT))
     listed = hashlib.sha256((small.path / "dist/BUILD").read_bytes()).hexdigest()
     small.write("dist/SHA256SUMS", f"{listed}  BUILD\n")
     small.write("dist/BUILD", content)
     status, lines = small.run("--no-setup", PATH=str(small.path / "kit"))
-    assert (status, lines[-1]) == (int("1 failed" in ends), ends)
+    assert (status, lines[-1]) == (int("1 failed" in counts), f"{counts}, {skipped} skipped")
+    assert failures(lines) == ["dist/ is as listed: no"] * status
     assert "all tests: SKIPPED, since there is no pytest (to be had by the package python3-pytest)" in lines
 
 
@@ -372,21 +360,7 @@ def test_help(tool):
     assert (done.status, done.errors) == (0, b"") and done.output.decode().startswith(f"usage: {tool} ")
 
 
-# ---- scripts that have nothing to test
-
-GIVEN = {"an empty folder": "empty", "a program that fails": "none", "no file": "no_such_file"}
-THAT_TAKE_ONE = [it.file for it in SCRIPTS if "{release}" in it.words]
-
-
-@pytest.mark.slow
-@pytest.mark.parametrize("given", GIVEN.values(), ids=GIVEN)
-@pytest.mark.parametrize("file", THAT_TAKE_ONE)
-def test_script_without_anything_to_test_has_status_2(tmp_path, file, given):
-    (tmp_path / "empty").mkdir()
-    script(tmp_path / "none", "#!/bin/sh\nexit 1\n")
-    env = {"HOME": str(tmp_path), "PATH": WITHOUT_KIT}
-    done = run(TESTS / file, "--dist", tmp_path / given, env=env)
-    assert done.status == 2 and b" passed, " not in done.output
+# ---- nothing to test
 
 
 @pytest.mark.parametrize("option", ["program", "release"])

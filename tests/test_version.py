@@ -10,6 +10,7 @@ HERE = pathlib.Path(__file__).resolve().parent.parent
 sys.path.append(str(HERE / "tools"))
 import version  # noqa: E402
 
+NAMES = r"libslh.so.N libslh\.so\.N libslhN libslhN_1.deb libslh.so libslh-dev"
 FILES = sorted({path for path, _ in version.PLACES} | {"CHANGELOG.md"})
 
 
@@ -38,9 +39,13 @@ def test_a_new_version_is_written_to_all_places(copy):
     if "## Unreleased" not in text:
         changes.write_text(text.replace("\n## ", "\n## Unreleased\n\n## ", 1))
     (copy / "VERSION").write_text("7.65.432\n")
+    (copy / "tests").mkdir(exist_ok=True)
+    names = copy / "tests" / "any_names"
+    names.write_text(NAMES.replace("N", "0"))
     status, said = run(copy, "--check")
-    assert status == 1 and sorted(said.splitlines()[:-1]) == FILES
+    assert status == 1 and sorted(said.splitlines()[:-1]) == sorted([*FILES, f"tests/{names.name}"])
     assert run(copy)[0] == 0 and run(copy, "--check") == (0, "")
+    assert names.read_text() == NAMES.replace("N", "7")
     assert "    7_065_432\n" in (copy / "crates/slh_c/src/version.rt").read_text()
     assert "new: 7_065_433\n" in (copy / "crates/slh_c/wrong/version_of_the_next_release.edit").read_text()
     assert '#define SLH_VERSION_PATCH 432\n' in (copy / "c/include/slh_verify.h").read_text()

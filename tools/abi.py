@@ -1,11 +1,12 @@
 #!/usr/bin/env python3
 """Compares the ABI of the library for C of two releases: whether programs compiled with the OLD one run on the NEW one.
 
-usage: tools/abi.py OLD NEW      folders as tools/release.sh writes them: include/ and x86-64/libslh.so.0 are read
+usage: tools/abi.py OLD NEW      folders as tools/release.sh writes them: include/ and x86-64/libslh.so.* are read
 
 The shared objects have no types. So it compiles the headers of each release to a library of empty functions with debug
 information, and abidiff compares these. Macros are not in it: their values are printed by a program and compared. Each
 header has to declare just the calls that its shared object exports. New calls, numbers and macros are no difference.
+The names of the shared objects and the versions of their symbols have to be equal: loaders look for them.
 
 The status is 0 if nothing was lost or changed, 1 if something was, and 2 if a tool or a file is missing. It needs a C
 compiler as CC or cc, nm, and abidiff of Debian's package abigail-tools.
@@ -67,12 +68,32 @@ def compiled(release, text, to, *words):
     return to
 
 
+def shared_of(release):
+    """The shared object of a release."""
+    found = list((release / "x86-64").glob("libslh.so.*"))
+    if len(found) != 1:
+        raise Missing(f"{release}/x86-64 has {len(found)} files libslh.so.*")
+    return found[0]
+
+
 def exported(shared):
-    """The functions that a shared object exports, but for those of the C runtime."""
+    """The functions that a shared object exports, but for those of the C runtime, each with the version of its symbol,
+    which is empty if it has none."""
     done = run("nm", "-D", "--defined-only", shared)
     if done.returncode:
         raise Missing(f"{shared} is no shared object")
-    return {name for name in re.findall(r" [TWi] (\w+)", done.stdout) if not name.startswith("_")}
+    found = re.findall(r" [TWi] (\w+)(?:@@?(\w+))?", done.stdout)
+    return {name: version for name, version in found if not name.startswith("_")}
+
+
+def lost_symbols(old, new):
+    """What a loader misses in the shared object of NEW, a line each."""
+    if shared_of(old).name != shared_of(new).name:
+        yield f"the shared object is {shared_of(new).name}, and was {shared_of(old).name}"
+    after = exported(shared_of(new))
+    for name, version in exported(shared_of(old)).items():
+        if version and after.get(name, version) != version:
+            yield f"{name} has the version {after[name] or 'none'}, and had {version}"
 
 
 def numbers(release, work, name):
@@ -86,9 +107,10 @@ def numbers(release, work, name):
 def differences(old, new, work):
     """What programs of OLD miss in NEW, a line each."""
     for it in (old, new):
-        declared, found = calls(it), exported(it / "x86-64" / "libslh.so.0")
+        declared, found = calls(it), set(exported(shared_of(it)))
         if declared != found or not declared:
             yield f"{it}: declared and exported calls differ: {sorted(declared ^ found)}"
+    yield from lost_symbols(old, new)
     before, after = numbers(old, work, "old_numbers"), numbers(new, work, "new_numbers")
     for name, value in before.items():
         if after.get(name) != value:

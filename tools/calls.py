@@ -5,9 +5,11 @@ usage: tools/calls.py            writes the page
        tools/calls.py --check    the status is 0 if the page is as it would be written
 
 A row of ROWS names a subject and its words in each language. Each word has to be declared, and each public call of a
-package has to be in a row: so a call that is new, renamed or gone is found.
+package has to be in a row: so a call that is new, renamed or gone is found. A language whose words are others than
+those of the row needs a reason in REASONS. Each deprecated name has to be marked in its language's manner.
 """
 import ast
+import collections
 import pathlib
 import re
 import sys
@@ -72,8 +74,60 @@ ROWS = [
     ("the name of a refusal", "slh_refusal_name", "name", "name", "Name", "name", "name", "name"),
     ("a sentence for a refusal", "slh_refusal_text", "text", "text", "(Error)", "(str)", "(message)",
      "(getMessage)"),
+    ("the context", "ctx", "context", "context", "Context", "context", "context", "withContext"),
+    ("the randomizer", "randomizer", "randomizer", "randomizer", "(io.Reader)", "randomizer", "randomizer",
+     "(SecureRandom.nextBytes)"),
+    ("the type of a refusal", NONE, "Error", "Refusal", "Refusal", "Refusal", "Refusal", "Refusal"),
+    ("not valid", "SLH_INVALID", "(false)", "Invalid", "ErrInvalid", "Invalid", "(false)", "(false)"),
+    ("two computations differ", "SLH_FAULT", "SLH_FAULT", "Fault", "ErrFault", "Fault", "Fault",
+     "(java.security.SignatureException)"),
+    ("use of an erased key", NONE, NONE, NONE, "ErrErased ErrDestroyed", "Erased", "Erased",
+     "(java.lang.IllegalStateException)"),
     ("the version", "slh_version", NONE, "version", "Version", "version", "version", NONE),
     ("the level of the processor", "slh_level", NONE, NONE, NONE, NONE, NONE, NONE),
+]
+# The part that the words of a row share, where it is not the word that most languages have.
+STEMS = {"one signature as jobs": "join", "read DER": "der", "write DER": "der", "read PEM": "pem", "write PEM": "pem",
+         "overwrite a key": "erase", "read a key file": "load"}
+X509 = "named as in `crypto/x509`"
+OF_KEY = "one call makes a key of its bytes, as other types of the language are made"
+IN_TEXT = "as the language's own modules for formats name it"
+# Why a language has other words.
+REASONS = {
+    ("sign, computed once", "C"): "each way to sign is a call of its own",
+    ("sign in the pre-hash form", "Java"): "a parameter of `Signature`, as in the JCA",
+    ("sign by several workers", "Python"): "an object with a pool, which has to be closed",
+    ("overwrite a key", "Java"): "`Destroyable` and `AutoCloseable` name the calls",
+    ("a secret key of bytes", "Go"): OF_KEY, ("a secret key of bytes", "Python"): OF_KEY,
+    ("a secret key of bytes", "JavaScript"): OF_KEY, ("a secret key of bytes", "Java"): OF_KEY,
+    ("a public key of bytes", "Rust"): OF_KEY, ("a public key of bytes", "Java"): OF_KEY,
+    ("the bytes of a key", "C++"): "a view of them, not a copy", ("the bytes of a key", "Rust"): "borrowed",
+    ("the bytes of a key", "Go"): "as `crypto/ecdh` names it",
+    ("read a key file", "Go"): "as `os.ReadFile`", ("write a key file", "Go"): "as `os.WriteFile`",
+    ("read the text of a key file", "Rust"): "of `io::Read`", ("read the text of a key file", "Python"): IN_TEXT,
+    ("write the text of a key file", "Go"): IN_TEXT, ("write the text of a key file", "Python"): IN_TEXT,
+    ("write the text of a key file", "JavaScript"): "the opposite of `parse`",
+    ("read DER", "Go"): X509, ("write DER", "Go"): X509, ("write DER", "Java"): "of `java.security.Key`",
+    ("read PEM", "Java"): "calls of `SlhPem`", ("write PEM", "Java"): "a call of `SlhPem`",
+    ("lengths of a set", "Java"): "three calls of `SlhSet`",
+    ("the context", "C"): "`ctx` in FIPS 205",
+    ("the type of a refusal", "C++"): "thrown for 38 Fault, too, as Rust's `Error`",
+}
+# Deprecated names: the language, the name, the name to write instead, the file, and its mark in the language's manner.
+# C++17 has none for a member of an aggregate: compilers would warn of each `Options`.
+DEPRECATED = [
+    ("C++", "Options::twice", "", "c/include/slh.hpp", r"bool twice = false; +/\* deprecated"),
+    ("Rust", "Options::twice", "", "bindings/rust/slh/src/options.rs", r"#\[deprecated\(.*\)\]\n +pub twice:"),
+    ("Rust", "Workers::twice", "", "bindings/rust/slh/src/jobs.rs", r"#\[deprecated\(.*\)\]\n +pub fn twice\("),
+    ("Go", "Options.Twice", "", "bindings/go/options.go", r"// Deprecated: .*\n\tTwice bool"),
+    ("Go", "Destroy", "Erase", "bindings/go/keys.go", r"// Deprecated: use Erase\. .*\nfunc \(.*\) Destroy\("),
+    ("Go", "ErrDestroyed", "ErrErased", "bindings/go/slh.go", r"// Deprecated: use ErrErased\. .*\nvar ErrDestroyed"),
+    ("Python", "twice", "", "bindings/python/slh/__init__.py", r"warnings\.warn\(.*`twice`.*, DeprecationWarning"),
+    ("JavaScript", "twice", "", "bindings/javascript/slh.d.ts", r"@deprecated .*\n +\*/\n +twice\?:"),
+    ("Java", "SlhSignatureSpec.twice", "", "bindings/java/src/pipitscreen/slh/SlhSignatureSpec.java",
+     r"@deprecated .*\n +\*/\n +@Deprecated\n +public \w+ twice\("),
+    ("Java", "SlhSignatureSpec.verified", "verify", "bindings/java/src/pipitscreen/slh/SlhSignatureSpec.java",
+     r"@deprecated use verify: .*\n +\*/\n +@Deprecated\n +public \w+ verified\("),
 ]
 
 
@@ -101,6 +155,7 @@ def of_python():
                 if isinstance(it, (ast.FunctionDef, ast.ClassDef)) and not it.name.startswith("_"):
                     calls.add(it.name)
         words |= {it.arg for it in ast.walk(tree) if isinstance(it, ast.arg)}
+        words |= {it.name for it in ast.walk(tree) if isinstance(it, ast.alias)}
     return calls, calls | words | {"name"}
 
 
@@ -148,8 +203,31 @@ def words_of(cell):
     return [] if cell == NONE else [it for it in re.sub(r"\([^)]*\)", "", cell).split()]
 
 
+def plain(word):
+    """A word without what languages write differently."""
+    return word.removeprefix("slh_").replace("_", "").lower()
+
+
+def other_words():
+    """The subjects and the languages whose words are others than those of the row. Words of the language's own library
+    are not looked at."""
+    for subject, *cells in ROWS:
+        words = [{plain(it) for it in words_of(cell)} for cell in cells]
+        count = collections.Counter(it for cell in words for it in sorted(cell))
+        stem = STEMS.get(subject) or max(count, key=count.get)
+        for language, mine in zip(LANGUAGES, words):
+            if mine and not any(stem in it for it in mine):
+                yield subject, language
+
+
+def unmarked():
+    """The deprecated names without their mark."""
+    return [f"{name} of {language} is not marked as deprecated in {path}"
+            for language, name, _, path, mark in DEPRECATED if not re.search(mark, (ROOT / path).read_text())]
+
+
 def faults():
-    """What is wrong with ROWS: words that are not declared, and calls that no row has."""
+    """What is wrong with ROWS: words that are not declared, or have no reason, and calls that no row has."""
     calls, words = declared()
     found = []
     for at, language in enumerate(LANGUAGES, 1):
@@ -158,7 +236,10 @@ def faults():
         found += [f"no row has {it} of {language}" for it in sorted(calls[language] - listed - OF_LANGUAGE[language])]
         found += [f"OF_LANGUAGE has {it}, which {language} does not declare"
                   for it in sorted(OF_LANGUAGE[language] - words[language] - {"valueOf", "values"})]
-    return found
+    found += [f"{language} has another word for {subject!r}: settle it, or give a reason in REASONS"
+              for subject, language in other_words() if (subject, language) not in REASONS]
+    found += [f"REASONS has {it}, whose word is no other" for it in sorted(set(REASONS) - set(other_words()))]
+    return found + unmarked()
 
 
 def cell_text(cell):
@@ -171,15 +252,32 @@ def cell_text(cell):
 def page():
     lines = [
         "# The calls in each language", "",
-        "For programmers: what is a call of C named in my language? `tools/calls.py` writes this page out of the headers",
-        "and the packages. A test finds a call that is missing here, or gone.", "",
-        "`its` precedes a call of the language's library. [Packages](README.md) has the rules that all share. Deprecated are",
-        "`twice` of each language, Go's `Destroy` and `ErrDestroyed`, and Java's `verified`.", "",
+        "For programmers: what is a call of C named in my language? `tools/calls.py` writes this page out of the",
+        "headers and the packages. A test finds a call that is missing here, or gone.", "",
+        "`its` precedes a call of the language's library. [Packages](README.md) has the rules that all share.", "",
         "| subject | " + " | ".join(LANGUAGES) + " |", "|" + (len(LANGUAGES) + 1) * "---|",
     ]
     for subject, *cells in ROWS:
         lines.append(f"| {subject} | " + " | ".join(map(cell_text, cells)) + " |")
-    return "\n".join([*lines, ""])
+    return "\n".join(lines + pages_end())
+
+
+def pages_end():
+    """The lines of the page behind the table of calls."""
+    lines = ["", "## Other words", "", "These languages have other words than the rest:", "",
+             "| subject | language | reason |", "|---|---|---|"]
+    of_reason = collections.defaultdict(list)
+    for (subject, language), reason in REASONS.items():
+        of_reason[subject, reason].append(language)
+    lines += [f"| {subject} | {', '.join(languages)} | {reason} |"
+              for (subject, reason), languages in of_reason.items()]
+    lines += ["", "## Deprecated names", "",
+              "They work as before. Two computations are the default, so `twice` is left out. A test finds a name",
+              "without its mark. C++ marks it in a comment, since compilers would else warn of each `Options`.", "",
+              "| language | name | write |", "|---|---|---|"]
+    lines += [f"| {language} | `{name}` | {f'`{new}`' if new else 'nothing'} |"
+              for language, name, new, *_ in DEPRECATED]
+    return [*lines, ""]
 
 
 def main():

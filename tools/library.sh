@@ -17,6 +17,10 @@
 #   PREFIX/bin/slh.dll, lib/slh.lib for --target windows-x86-64: libslh.a as a DLL, and what imports it
 #
 # usage: tools/library.sh [--after-ci | --dist DIST] [--target TARGET] PREFIX
+#        tools/library.sh --from-source [--target TRIPLE] PREFIX
+#
+# --from-source builds by cargo and stock rustc, without the kit: tools/from_source.sh says for which targets, and of
+# what. It installs libslh.a, libslh.so.0 and libslh_verify.a with one level of code, and all that lies beside them.
 #
 # TARGET is x86-64, as without it, or one of tools/target.sh. The archives for one level are for x86-64 alone. Of a
 # module for WebAssembly there is PREFIX/lib/slh.wasm alone, of portable the headers, PREFIX/src and what CMake reads.
@@ -32,32 +36,38 @@
 set -euo pipefail
 here=$(cd "$(dirname "${BASH_SOURCE[0]}")/.." && pwd)
 source "$here/tools/released.sh"
-after_ci=no target=x86-64
+after_ci=no target=x86-64 build=
 if [ "${1-}" = --after-ci ]; then
     after_ci=yes
     shift
 elif [ "${1-}" = --dist ] && [ $# -gt 1 ]; then
     after_ci=given dist=$(realpath "$2")
     shift 2
+elif [ "${1-}" = --from-source ]; then
+    after_ci=source target=
+    shift
 fi
 if [ "${1-}" = --target ] && [ $# -gt 1 ]; then
     target=$2
     shift 2
 fi
 if [ $# != 1 ] || [[ $1 = -* ]]; then
-    echo "usage: tools/library.sh [--after-ci | --dist DIST] [--target TARGET] PREFIX" >&2
+    echo "usage: tools/library.sh [--after-ci | --dist DIST | --from-source] [--target TARGET] PREFIX" >&2
     exit 2
 fi
 work=$(mktemp -d)
 trap 'rm -rf "$work"' EXIT
 
+# Sets `files` to what is installed for x86-64, with the shared object of this number.
+files_here() { files=(x86-64/{libslh.a,"libslh.so.$1"} x86-64-v{2,3,4}/libslh.a x86-64-v2/libslh_verify.a); }
+
 # What of dist/ is installed: of another target than x86-64 all that is listed.
-files=(x86-64/{libslh.a,libslh.so.0} x86-64-v{2,3,4}/libslh.a x86-64-v2/libslh_verify.a)
+files_here "$(if has_release; then shared_number; fi)"
 [ "$target" = x86-64 ] || mapfile -t files < <(listed "$target")
 headers=(include/{slh.h,slh.hpp,slh_internal.h,slh_verify.h})
 beside=(share/{cmake/slh-config.cmake,cmake/slh-config-version.cmake.in,man/man3/slh.3})
 if has_release && ! lists "${beside[0]}"; then beside=(); fi # releases up to 0.13.0
-if [ "$after_ci" = given ] || ! command -v rt >/dev/null; then
+if [ "$after_ci" = given ] || { [ "$after_ci" != source ] && ! command -v rt >/dev/null; }; then
     has_release || [ "$after_ci" = no ] || {
         echo "library.sh: there is no release in $dist" >&2
         exit 2
@@ -75,6 +85,13 @@ if [ "$after_ci" = given ] || is_released; then
     how="the release $version"
     [ ${#beside[@]} != 0 ] ||
         echo "library.sh: the release $version has no files for CMake and no manual page: none are installed" >&2
+elif [ "$after_ci" = source ]; then
+    "$here/tools/from_source.sh" ${target:+--target "$target"} "$work/source"
+    "$here/tools/share.sh" "$work"
+    cp -r "$here/c/include" "$work/"
+    beside=(share) files=(source/{libslh.a,libslh.so.0,libslh_verify.a})
+    made=$work version=$(cat "$here/VERSION") how="built from source by $(rustc --version)"
+    build=$how
 else
     command -v rt >/dev/null || {
         echo "library.sh: there is nothing to install: rt is not on the path to build it" >&2
@@ -85,6 +102,7 @@ else
     cp -r "$here/c/include" "$work/"
     "$here/tools/share.sh" "$work"
     beside=(share)
+    files_here "$(cut -d . -f 1 "$here/VERSION")"
     [ "$target" = x86-64 ] || mapfile -t files < <(cd "$work" && printf '%s\n' "$target"/*)
     made=$work version=$(cat "$here/VERSION") how="built of the sources"
 fi
@@ -100,7 +118,8 @@ pkgconfig() {
 prefix=\${pcfiledir}/../..
 includedir=\${prefix}/include
 libdir=\${prefix}/lib
-
+${build:+build=$build
+}
 Name: $1
 Description: $2
 Version: $version
@@ -144,13 +163,13 @@ else
         case "$file" in
         *.c) place=src/${file##*/} mode=644 ;;
         *.dll) place=bin/${file##*/} mode=755 ;;
-        *.so.0) place=lib/${file##*/} mode=755 ;;
+        *.so.*) place=lib/${file##*/} mode=755 ;;
         x86-64-v*/libslh.a) place=lib/libslh-${file:7:2}.a mode=644 ;;
         *) place=lib/${file##*/} mode=644 ;;
         esac
         install -D -m $mode "$made/$file" "$prefix/$place"
+        if [[ $place = lib/libslh.so.* ]]; then ln -sf "${file##*/}" "$prefix/lib/libslh.so"; fi
     done
-    if has libslh.so.0; then ln -sf libslh.so.0 "$prefix/lib/libslh.so"; fi
     if has libslh.a; then pkgconfig slh "SLH-DSA (FIPS 205) with SHA-2, proved by machine"; fi
     if has libslh_verify.a; then
         pkgconfig slh_verify "Verifying signatures of SLH-DSA (FIPS 205) with SHA-2, proved by machine"
@@ -160,7 +179,7 @@ else
         if has libslh.a || has slh.c; then manual; fi
     fi
 fi
-if [ "$target" = x86-64 ]; then
+if [[ $target = x86-64 || $after_ci = source ]]; then
     # Releases up to 0.4 put the code for a level there, and glibc would load it in place of what is installed now.
     rm -f "$prefix"/lib/glibc-hwcaps/x86-64-v{3,4}/libslh.so.0
 fi

@@ -9,7 +9,8 @@
 #   dist/include/                 the headers
 #   dist/share/                   what is installed beside them, as tools/share.sh writes it
 #   dist/BUILD                    the version, the hashes of the sources and of those of share/ (tools/sources.sh), the
-#                                 kit, and the hashes of what compiles: its files, tools/clang.sh, and wasm2c
+#                                 kit, python3, and the hashes of what compiles and of what is linked with: the kit's
+#                                 files, tools/clang.sh, and wasm2c
 #   dist/SBOM.spdx.json           the bill of materials, as tools/sbom.py writes it
 #   dist/SHA256SUMS               the hashes of all these files
 #   dist/SHA256SUMS.sig           its signature, if SLH_RELEASE_KEY names a secret key file (tools/sign_release.sh)
@@ -19,8 +20,8 @@
 #
 # `rt check` proves what is not proved yet; under --after-ci nobody looks, since `rt ci` has just proved all. What
 # --check builds is left in FOLDER, where one is given. Its last line is 'N passed, M failed'. Where the sources or the
-# kit are not those of dist/BUILD, it says so and compares the hashes alone: the status is then 3, and 0 under
-# --after-ci. It needs rt.
+# kit are not those of dist/BUILD, or rt is missing, it says so and compares the hashes alone: the status is then 3, and
+# 0 under --after-ci. tools/tag_text.py writes the text of a tag for the release.
 set -euo pipefail
 here=$(cd "$(dirname "${BASH_SOURCE[0]}")/.." && pwd)
 source "$here/tests/counts.sh"
@@ -43,14 +44,24 @@ has_share_of_release() { [ "$(release_says share)" = "$("$here/tools/sources.sh"
 
 has_wasm2c() { "$here/tools/portable.py" wasm2c >/dev/null 2>&1; }
 
-# The kit: its name, the sum of its logic, and the hashes of what compiles, of which one file is not the kit's.
+# The hash of the list of hashes of all files below a folder of the kit.
+sum_of_folder() {
+    (cd "$("$here/tools/kit.py" path "$1")" && find . -type f -print0 | LC_ALL=C sort -z | xargs -0 sha256sum) |
+        sha256sum | cut -d ' ' -f 1
+}
+
+# The kit: its name, the sum of its logic, and the hashes of what compiles, of which one file is not the kit's, and of
+# what is linked with. The scripts of the build need python3, too.
 kit_lines() {
     rt version | sed -n 's/^\([^ ]*\) logic \([^ ]*\).*/kit \1\nlogic \2/p'
+    sed -n 's/^archive /kit_archive /p' "$("$here/tools/kit.py" path WHAT)"
     (exec -a clang "$("$here/tools/kit.py" path toolchain/bin/clang)" --version) | sed -n '1s/^/compiler /p'
     local file
-    for file in bin/rattle bin/rattle-link toolchain/bin/clang; do
+    echo "python3 $(python3 -c 'import platform; print(platform.python_version())')"
+    for file in bin/rattle bin/rattle-link toolchain/bin/{clang,rattle-x64}; do
         echo "$file $(sha256sum <"$("$here/tools/kit.py" path "$file")" | cut -d ' ' -f 1)"
     done
+    for file in toolchain/lib c/; do echo "$file $(sum_of_folder "$file")"; done
     echo "tools/clang.sh $(sha256sum <"$here/tools/clang.sh" | cut -d ' ' -f 1)"
     ! has_wasm2c || echo "wabt/wasm2c $(sha256sum <"$("$here/tools/portable.py" wasm2c)" | cut -d ' ' -f 1)"
 }
@@ -98,7 +109,7 @@ write() {
     rm -rf "$here/dist"
     mv "$work/dist" "$here/dist"
     write_numbers
-    echo "dist/ is the release $1"
+    echo "dist/ is the release $1. After its commit: tools/tag_text.py | git tag -a -F - v$1"
 }
 
 # Writes the sizes and the stack of what is now in dist/ into the documents.
@@ -135,6 +146,7 @@ check() {
     [ ! -f "$here/dist/SBOM.spdx.json" ] ||
         tell "the bill of materials lists what is in dist/" \
             "$("$here/tools/sbom.py" --check "$here/dist" >&2 && echo yes || echo no)"
+    command -v rt >/dev/null || not_compared "rt is not on the path"
     has_sources_of_release || not_compared "the sources are not those of dist/BUILD"
     tell "dist/BUILD has the version of the file VERSION" \
         "$([ "$(release_says version)" = "$(cat "$here/VERSION")" ] && echo yes || echo no)"

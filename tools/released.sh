@@ -22,6 +22,9 @@ programs_here() {
     done
 }
 
+# The number of the release's shared object, libslh.so.N: the first one of its version.
+shared_number() { release_says version | cut -d . -f 1; }
+
 # The files of a target that SHA256SUMS lists, but for programs.
 listed() {
     [ ! -f "$dist/SHA256SUMS" ] ||

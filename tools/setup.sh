@@ -17,7 +17,6 @@
 # with their libraries. On Debian 12 and 13 the commands are openssl-3.5 and wasm2c-1.0.36 in /usr/local/bin.
 set -euo pipefail
 here=$(cd "$(dirname "${BASH_SOURCE[0]}")/.." && pwd)
-source "$here/tests/counts.sh"
 folder=/usr/local/lib
 few=no asked=install
 
@@ -175,9 +174,23 @@ install_packages() {
     logged env DEBIAN_FRONTEND=noninteractive apt-get -q -y --no-install-recommends install "${packages[@]}"
 }
 
+# Copies standard input to a file, and prints a dot after each 20 seconds.
+with_dots() {
+    local log=$1 line= piece status=0 dots= last=$SECONDS
+    : >"$log"
+    while [ $status != 1 ]; do
+        status=0
+        IFS= read -r -t 20 piece || status=$?
+        line+=$piece
+        if [ $status = 0 ] || { [ $status = 1 ] && [ -n "$line" ]; }; then echo "$line" >>"$log" && line=; fi
+        [ $((SECONDS - last)) -lt 20 ] || { printf . && last=$SECONDS dots=$'\n'; }
+    done
+    printf %s "$dots"
+}
+
 # Runs a command, and shows its output only if it fails.
 logged() {
-    "$@" 2>&1 | watch_lines "$work/log" no || {
+    "$@" 2>&1 | with_dots "$work/log" || {
         tail -n 20 "$work/log" >&2
         echo "tools/setup.sh: failed: $*" >&2
         return 1

@@ -35,7 +35,8 @@ mapfile -t crates < <(lines | sed 's/[: ].*//')
     lines
     {
         find HANDLES VERSION c/{exports,include,portable} c/starter.c \
-            tools/{clang.sh,for_128.sed,for_hook.sed,for_machine.sed,for_size.sed,kit.py,lay_out.py,portable.py,program.sh,target.sh} -type f -print0
+            tools/{clang.sh,for_128.sed,for_hook.sed,for_machine.sed,for_size.sed,kit.py,lay_out.py,portable.py} \
+            tools/{program.sh,symbols.sh,target.sh} -type f -print0
         find "${crates[@]/#/crates/}" -path '*/out' -prune -o -path '*/tests/*' -o -name 'tests.*' \
             -o \( -path '*/src/*' -o -path '*/specs/*' -o -path '*/proofs/*' \) -type f -print0
     } | sort -z | xargs -0 sha256sum

@@ -197,7 +197,9 @@ archive() {
 share_elf() {
     local it files=()
     for it in ${beside[@]+"${beside[@]}"}; do files+=("$(kit "$it")"); done
-    "$linker" -shared -soname "$shared" -z noexecstack -z relro -z now -o "$folder/$1/$shared" \
+    "$here/tools/symbols.sh" >"$work/symbols"
+    "$linker" -shared -soname "$shared" --version-script "$work/symbols" --no-undefined-version -z noexecstack \
+        -z relro -z now -o "$folder/$1/$shared" \
         --whole-archive "$folder/$1/libslh.a" --no-whole-archive ${files[@]+"${files[@]}"}
 }
 
@@ -207,8 +209,7 @@ share_coff() {
     mkdir "$out"
     printf '%s\n' "LIBRARY msvcrt.dll" EXPORTS memcpy memmove memset >"$out/c.def"
     as llvm-dlltool -m i386:x86-64 -d "$out/c.def" -l "$out/c.lib"
-    { names_of '[A-Z]+' && printf '%s\n' erase level refusal_text; } | sed '1i EXPORTS
-        s/^/slh_/' >"$out/slh.def"
+    "$here/tools/symbols.sh" --calls | sed '1i EXPORTS' >"$out/slh.def"
     as lld-link /nologo /dll /noentry /nodefaultlib /machine:x64 /Brepro /opt:ref "/def:$out/slh.def" \
         "/out:$folder/$1/$shared" "/implib:$folder/$1/$name.lib" "/wholearchive:$folder/$1/libslh.a" "$out/c.lib"
 }

@@ -1,7 +1,8 @@
 #!/usr/bin/env bash
 # The test command. With rt it runs `rt ci` (every proof from nothing, some wrong bodies, the tests and the stored
-# runs), builds a release in out/release and compares it with dist/, and runs pytest over it. Without rt it runs pytest
-# over the release in dist/, and skips the parts that need rt by name. pytest runs the scripts of tests/, too.
+# runs), builds a release in out/release and compares it with dist/, tries wrong bodies, and runs pytest over the
+# release. Without rt it runs pytest over the release in dist/, and skips the parts that need rt by name. tests/parts.py
+# runs the parts.
 #
 # usage: tools/test.sh [--no-setup] [--quick | [--release] [--few]] [--all]
 #
@@ -21,7 +22,7 @@
 # that runs it alone. The last line is 'N passed, M failed, K skipped', and the status is 0 if nothing failed. What is
 # drawn follows from SLH_SEED, which is printed. Set to the same number it repeats the draws, and `all` is --all.
 set -uo pipefail
-cd "$(dirname "${BASH_SOURCE[0]}")/.." && source tests/counts.sh || exit 2
+cd "$(dirname "${BASH_SOURCE[0]}")/.." || exit 2
 usage() { sed -n '/^# usage:/,/^#   --help/s/^# \{0,1\}//p' tools/test.sh; }
 setup=yes mode=whole
 for word in "$@"; do
@@ -36,8 +37,6 @@ for word in "$@"; do
     esac
 done
 [ $mode != whole ] || command -v rt >/dev/null || mode=release
-work=$(mktemp -d) && trap 'rm -rf "$work"' EXIT
-export SLH_SEED=${SLH_SEED:-$((RANDOM << 15 | RANDOM))} SLH_MODE=$mode SLH_FAILURES=$work/failures SLH_SPENT=$work/spent
 
 # Installs missing tools, or names them.
 prepare() {
@@ -53,31 +52,8 @@ prepare() {
 }
 
 prepare
-command -v rt >/dev/null || skip "rt ci" "there is no rt"
-case $mode in
-whole)
-    part "rt ci" rt ci
-    rm -rf out/release
-    part tools/release.sh tools/release.sh --after-ci --check out/release
-    words=(--release=out/release)
-    ;;
-quick)
-    tell "SLH_BUILD=1 ./slh params" "$(SLH_BUILD=1 ./slh params >/dev/null && echo yes || echo no)"
-    words=(-m "program or quick" --program=crates/slh/out/slh)
-    ;;
-few) words=(-m "not slow" --release=dist) ;;
-release) words=(--release=dist) ;;
-esac
-if [ $mode = whole ] && pytest -n 2 --version >/dev/null 2>&1; then
-    # Most tests take one core. The scripts come alone, since their lines are shown.
-    part pytest pytest -n 2 --dist loadfile "${words[@]}" --ignore=tests/test_scripts.py
-    part pytest pytest "${words[@]}" tests/test_scripts.py
-elif command -v pytest >/dev/null; then
-    part pytest pytest "${words[@]}"
-else
-    tell "dist/ is as listed" "$( (cd dist && sha256sum --check --quiet SHA256SUMS >&2) && echo yes || echo no)"
-    skip "all tests" "there is no pytest (to be had by the package python3-pytest)"
-fi
-echo "drawn by SLH_SEED=$SLH_SEED"
-[ ! -s "$SLH_FAILURES" ] || { echo "failed:" && cat "$SLH_FAILURES"; }
-end_counts
+! command -v python3 >/dev/null || exec python3 tests/parts.py $mode
+echo "rt ci: SKIPPED, since there is no rt"
+echo "all tests: SKIPPED, since there is no pytest (to be had by the package python3-pytest)"
+(cd dist && sha256sum --check --quiet SHA256SUMS >&2) && echo "1 passed, 0 failed, 2 skipped" && exit
+printf '%s\n' "failed:" "dist/ is as listed: no" "0 passed, 1 failed, 2 skipped" && exit 1

@@ -5,7 +5,8 @@ usage: tools/version.py            writes it, and names each file that changed
        tools/version.py --check    the status is 0 if each place has it
 
 The first heading of CHANGELOG.md, `## Unreleased`, becomes that of the version and of today. bindings/debian/slh.3 gets
-the version of the headers, and tools/man3.py writes its sections.
+the version of the headers, and tools/man3.py writes its sections. The first number is also that of the shared object,
+libslh.so.N, and of Debian's package libslhN: each such name in FOLDERS gets it.
 """
 import datetime
 import pathlib
@@ -40,6 +41,11 @@ PLACES = [
     *((f"bindings/rust/{it}/Cargo.toml", line) for it in ("slh-rand-core", "slh-signature")
       for line in ('\nversion = "{text}"', 'path = "../slh", version = "{text}"')),
 ]
+# The names with the number of the shared object, also as a regular expression writes them, and the folders that they
+# are looked for in, without what is built there.
+SHARED = re.compile(rb"\b(libslh(?:\\?\.so\\?\.)?)[0-9]+(?![0-9A-Za-z])")
+FOLDERS = ("bindings", "c", "docs", "examples", "tests", "tools")
+BUILT = {"out", "target", "__pycache__", "node_modules", "vectors"}
 
 
 def forms(text):
@@ -55,9 +61,9 @@ def pattern(line):
     return re.sub(r"\\{\w+\\}", r"[0-9._]*[0-9]", re.escape(line))
 
 
-def written(path, version):
-    """The text of a file with the version in each of its places. Each place has to be there once."""
-    text = (ROOT / path).read_text()
+def written(path, version, text=None):
+    """The text of a file, or this one, with the version in each of its places. Each place has to be there once."""
+    text = text or (ROOT / path).read_text()
     for line in (line for it, line in PLACES if it == path):
         text, count = re.subn(pattern(line), lambda _: line.format(**forms(version)), text)
         if count != 1:
@@ -73,10 +79,23 @@ def changelog(version, day):
     return re.sub(r"^## Unreleased$", f"## {version}, {day.day} {day:%B %Y}", text, count=1, flags=re.M)
 
 
+def shared_names(version):
+    """The files with names of the shared object, each with its text with the number of a version."""
+    number = version.split(".")[0].encode()
+    for path in (it for folder in FOLDERS for it in sorted((ROOT / folder).rglob("*"))):
+        name = path.relative_to(ROOT).as_posix()
+        if path.is_file() and not path.is_symlink() and not BUILT & set(name.split("/")):
+            data = path.read_bytes()
+            if SHARED.search(data):
+                yield name, SHARED.sub(rb"\g<1>" + number, data).decode()
+
+
 def outdated():
     """The files that do not have the version, each with the text that it should have."""
     version = (ROOT / "VERSION").read_text().strip()
-    files = {path: written(path, version) for path, _ in PLACES}
+    files = dict(shared_names(version))
+    for path in dict.fromkeys(it for it, _ in PLACES):
+        files[path] = written(path, version, files.get(path))
     files["CHANGELOG.md"] = changelog(version, datetime.date.today())
     found = {path: text for path, text in files.items() if text != (ROOT / path).read_text()}
     if f"\n## {version}, " not in files["CHANGELOG.md"]:

@@ -17,7 +17,7 @@ if [ $# != 1 ]; then
     exit 2
 fi
 prefix=$1
-[ -f "$prefix/include/slh.h" ] && [ -f "$prefix/lib/libslh.so.0" ] || {
+[ -f "$prefix/include/slh.h" ] && [ -f "$prefix/lib/libslh.so" ] || {
     echo "build.sh: there is no library in $prefix: tools/library.sh installs it" >&2
     exit 2
 }

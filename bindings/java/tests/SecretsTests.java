@@ -463,7 +463,7 @@ final class SecretsTests {
         MemorySegment segment = key.segment();
         WeakReference<SlhPrivateKey> reference = new WeakReference<>(key);
         key = null;
-        for (int turn = 0; turn < 100 && segment.scope().isAlive(); turn++) {
+        for (int turn = 0; turn < 3000 && segment.scope().isAlive(); turn++) {
             System.gc();
             Thread.sleep(20);
         }

@@ -16,8 +16,8 @@ pub struct Options<'a> {
     /// [`Workers`](crate::Workers) each of its jobs, and all bytes are compared. If they differ nothing is signed:
     /// [`Error::Fault`]. One wrong signature under a key can be enough to forge others (SECURITY.md, "Faults").
     pub once: bool,
-    /// Asks for two computations, even with `once`. This is deprecated: they are the default, and a later release
-    /// removes this field.
+    /// Asks for two computations, even with `once`. A later release removes this field.
+    #[deprecated(note = "two computations are the default: leave it out")]
     pub twice: bool,
     /// Verifies the signature under the public key before it is returned. If it is not valid it is overwritten with
     /// zeros: [`Error::Fault`]. This finds fewer faults than two computations: a wrong signature can be valid, and
@@ -27,6 +27,7 @@ pub struct Options<'a> {
 
 impl Options<'_> {
     /// Whether the signature is computed one time. The deprecated word prevails.
+    #[allow(deprecated)]
     pub(crate) fn is_once(self) -> bool {
         self.once && !self.twice
     }

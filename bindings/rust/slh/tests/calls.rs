@@ -14,6 +14,7 @@ use slh::{
 
 type Secret = SecretKey<SlhDsaSha2_128f>;
 
+#[allow(deprecated)]
 const DETERMINISTIC: Options<'_> =
     Options { context: b"", randomizer: Randomizer::Deterministic, once: false, twice: false, verify: false };
 
@@ -147,6 +148,7 @@ fn a_wrong_root_signs_nothing_valid() {
 }
 
 /// One computation, `verify`, both, and the deprecated word.
+#[allow(deprecated)]
 const CHECKED: [Options<'_>; 4] = [
     Options { once: true, ..DETERMINISTIC },
     Options { verify: true, ..DETERMINISTIC },
@@ -234,6 +236,7 @@ fn faults_are<T>(wanted: bool, sign: impl Fn(&[u8]) -> Result<T, Error>) -> bool
 }
 
 #[test]
+#[allow(deprecated)]
 fn two_computations_that_differ_are_a_fault() {
     let (secret, function) = (generated(), Function::Sha2_256);
     for (once, twice) in [(false, false), (true, false), (true, true)] {

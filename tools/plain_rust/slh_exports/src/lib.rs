@@ -6,59 +6,15 @@
 #![no_std]
 #![allow(clippy::missing_safety_doc, clippy::too_many_arguments)]
 
+#[macro_use]
+mod calls;
 mod refusal_text;
 
+use calls::{input, output};
 use core::ffi::c_char;
-use core::slice;
 use slh_plain::slh_c;
 
-/// The bytes of an input.
-///
-/// # Safety
-/// The caller has the duties of the header.
-unsafe fn input<'a>(at: *const u8, len: usize) -> &'a [u8] {
-    // Safety: the caller's duty. No bytes need no pointer.
-    if len == 0 { &[] } else { unsafe { slice::from_raw_parts(at, len) } }
-}
-
-/// The bytes of an output.
-///
-/// # Safety
-/// The caller has the duties of the header.
-unsafe fn output<'a>(at: *mut u8, len: usize) -> &'a mut [u8] {
-    // Safety: the caller's duty. No bytes need no pointer.
-    if len == 0 { &mut [] } else { unsafe { slice::from_raw_parts_mut(at, len) } }
-}
-
-/// Exports calls of modules of `slh_c`. An argument is a `number`; a `place` of a number of this type; or an `input` or
-/// `output`, a pointer and a length. Each `len` is another name, since each step of the macro has names of its own.
-macro_rules! calls {
-    (@next [$($call:ident)*] [$($parameter:tt)*] [$($given:expr,)*] $it:ident: number, $($rest:tt)*) => {
-        calls! { @next [$($call)*] [$($parameter)* $it: u32,] [$($given,)* $it,] $($rest)* }
-    };
-    (@next [$($call:ident)*] [$($parameter:tt)*] [$($given:expr,)*] $it:ident: place $type:ty, $($rest:tt)*) => {
-        calls! { @next [$($call)*] [$($parameter)* $it: *mut $type,] [$($given,)* unsafe { &mut *$it },] $($rest)* }
-    };
-    (@next [$($call:ident)*] [$($parameter:tt)*] [$($given:expr,)*] $it:ident: input, $($rest:tt)*) => {
-        calls! { @next [$($call)*] [$($parameter)* $it: *const u8, len: usize,]
-            [$($given,)* unsafe { input($it, len) },] $($rest)* }
-    };
-    (@next [$($call:ident)*] [$($parameter:tt)*] [$($given:expr,)*] $it:ident: output, $($rest:tt)*) => {
-        calls! { @next [$($call)*] [$($parameter)* $it: *mut u8, len: usize,]
-            [$($given,)* unsafe { output($it, len) },] $($rest)* }
-    };
-    (@next [$module:ident $name:ident] [$($parameter:tt)*] [$($given:expr,)*]) => {
-        #[unsafe(no_mangle)]
-        pub unsafe extern "C" fn $name($($parameter)*) -> u32 {
-            slh_c::$module::$name($($given,)*)
-        }
-    };
-    ($($module:ident::$name:ident($($arguments:tt)*);)*) => {
-        $(calls! { @next [$module $name] [] [] $($arguments)* })*
-    };
-}
-
-calls! {
+calls! { slh_c:
     keys::slh_lengths(set: number, pk: place usize, sk: place usize, sig: place usize, n: place usize,);
     keys::slh_keygen(set: number, sk_seed: input, sk_prf: input, pk_seed: input, sk: output,);
     keys::slh_public(set: number, sk: input, pk: output,);

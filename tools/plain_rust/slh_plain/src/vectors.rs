@@ -190,17 +190,33 @@ register! { uint32x4_t, at, x, y, bits,
     right_64: vreinterpretq_u32_u64(vshlq_u64(vreinterpretq_u64_u32(x), vdupq_n_s64(-(bits as i64)))),
 }
 
-/// The operation on each piece of two vectors that fills a register. The vectors are some registers long.
+/// The operation on each piece of two vectors that fills a register. The vectors are 1, 2, 4 or 8 registers long.
+/// The pieces are written out: with a loop in each operation of each round LLVM took minutes.
 #[allow(dead_code)]
 #[inline(always)]
 fn pieces<R: Register, A: Copy>(x: A, y: A, operation: impl Fn(R, R) -> R) -> A {
+    const { assert!(size_of::<A>() <= 8 * size_of::<R>()) };
     let mut out = x;
     let (from_x, from_y) = (&raw const x as *const R, &raw const y as *const R);
     let to = &raw mut out as *mut R;
-    for piece in 0..size_of::<A>() / size_of::<R>() {
-        // Safety: the place is within the value, which has as many registers.
+    let at = |piece: usize| {
+        // Safety: the place is within the value, which has more registers than `piece`.
         let (x, y, to) = unsafe { (from_x.add(piece), from_y.add(piece), to.add(piece)) };
         operation(R::load(x), R::load(y)).store(to);
+    };
+    at(0);
+    if size_of::<A>() > size_of::<R>() {
+        at(1);
+    }
+    if size_of::<A>() > 2 * size_of::<R>() {
+        at(2);
+        at(3);
+    }
+    if size_of::<A>() > 4 * size_of::<R>() {
+        at(4);
+        at(5);
+        at(6);
+        at(7);
     }
     out
 }

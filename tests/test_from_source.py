@@ -1,0 +1,134 @@
+"""Builds the library for C from source, by cargo and stock rustc without the kit (tools/library.sh --from-source), and
+tests it as it is installed: by the tests of the library that need nothing of the kit. What stands in the way is named.
+
+The crates are Debian's, and no network is used.
+"""
+import os
+import re
+import shutil
+import sys
+import sys
+
+import pytest
+
+from packages import text_of
+from support import HERE, need, run, succeed
+
+LEAST_RUSTC = 1, 85
+# The tests of the library that are run over it.
+FILES = ["test_library.py", "test_examples.py"]
+SKIPPED = "the library was built from source (tools/plain_rust/README.md tells what it lacks)"
+# What the scripts take, besides the tools that a test removes or replaces.
+TOOLS = ["bash", "basename", "cat", "cp", "dirname", "env", "grep", "head", "install", "ld", "ln", "mkdir", "mktemp",
+         "python3", "rm", "sed", "sort", "tr", "uname"]
+
+
+def need_rust():
+    """Skips without cargo, rustfmt, rustc 1.85 and Debian's crates."""
+    need("cargo", "rustc", "rustfmt", "cc")
+    version = re.search(r"(\d+)\.(\d+)", succeed("rustc", "--version").decode())
+    if tuple(map(int, version.groups())) < LEAST_RUSTC:
+        pytest.skip("rustc is older than 1.85 (Debian 13 has it in the package rustc)")
+    for crate in ("sha2", "arrayvec", "rand_core", "thiserror"):
+        if not os.path.exists("/usr/share/cargo/registry") or not [
+                it for it in os.listdir("/usr/share/cargo/registry") if re.match(rf"{crate}-\d", it)]:
+            pytest.skip(f"there is no {crate} (to be had by librust-{crate.replace('_', '-')}-dev)")
+
+
+def installs(*words, **options):
+    """The outcome of the command that builds from source and installs."""
+    return run(HERE / "tools/library.sh", "--from-source", *words, timeout=3600, **options)
+
+
+# ---- the library
+
+
+@pytest.fixture(scope="module")
+def prefix(tmp_path_factory):
+    need_rust()
+    folder = tmp_path_factory.mktemp("source") / "prefix"
+    outcome = installs(folder, env={**os.environ, "CARGO_BUILD_JOBS": "2"})
+    assert outcome.status == 0, text_of(outcome)[-4000:]
+    return folder
+
+
+@pytest.mark.slow
+def test_library_passes_its_tests(pytestconfig, prefix):
+    """A few of each kind, and with --all all. Those that are skipped need what only the kit's build has."""
+    some = [] if pytestconfig.option.all else ["-m", "not slow"]
+    whole = ["--all"] if pytestconfig.option.all else []
+    outcome = run(sys.executable, "-m", "pytest", "-q", "-rs", "-p", "no:cacheprovider", f"--prefix={prefix}", *whole,
+                  *some, *(HERE / "tests" / it for it in FILES), cwd=HERE, timeout=3600)
+    text = text_of(outcome)
+    counts = re.search(r"^(\d+) passed, 0 failed, (\d+) skipped\n\Z", text, re.M)
+    assert outcome.status == 0 and counts and int(counts[1]) > 20, text[-4000:]
+    skips = re.findall(r"^SKIPPED \[(\d+)\] .*?: (.*)$", text, re.M)
+    assert sum(int(it) for it, why in skips if why == SKIPPED) >= 1, skips
+
+
+@pytest.mark.slow
+def test_package_says_how_it_was_built(prefix):
+    need("pkg-config")
+    said = succeed("env", f"PKG_CONFIG_PATH={prefix}/lib/pkgconfig", "pkg-config", "--variable=build", "slh").decode()
+    assert said == f"built from source by {succeed('rustc', '--version').decode()}"
+
+
+# ---- what stands in the way
+
+
+@pytest.fixture
+def path(tmp_path):
+    """A folder for PATH with the tools that the scripts take, and without cargo and rustc."""
+    folder = tmp_path / "path"
+    folder.mkdir()
+    for tool in TOOLS:
+        need(tool)
+        (folder / tool).symlink_to(shutil.which(tool))
+    return folder
+
+
+def stub(folder, name, text):
+    (folder / name).write_text(f"#!/bin/sh\n{text}\n")
+    (folder / name).chmod(0o755)
+
+
+def is_refused(outcome, words, prefix):
+    """The command names what is missing, and installs nothing."""
+    assert outcome.status == 2 and words in outcome.errors.decode(), text_of(outcome)[-4000:]
+    assert not prefix.exists()
+    return True
+
+
+def test_without_cargo(path, tmp_path):
+    outcome = installs(tmp_path / "prefix", env={"PATH": str(path)})
+    assert is_refused(outcome, "there is no cargo (Debian has it in the package cargo)", tmp_path / "prefix")
+
+
+@pytest.mark.parametrize("version", ["1.84.1 (e71f9a9a9 2025-01-27)", "1.63.0"])
+def test_old_rustc(path, tmp_path, version):
+    for name in ("cargo", "rustfmt"):
+        stub(path, name, "exit 1")
+    stub(path, "rustc", f"echo 'rustc {version}'")
+    outcome = installs(tmp_path / "prefix", env={"PATH": str(path)})
+    assert is_refused(outcome, "rustc is older than 1.85", tmp_path / "prefix")
+
+
+def test_target_without_a_library(tmp_path):
+    need_rust()
+    outcome = installs("--target", "loongarch64-unknown-linux-gnu", tmp_path / "prefix", env={**os.environ, "CC": "cc"})
+    assert is_refused(outcome, "rustc has no library for loongarch64-unknown-linux-gnu", tmp_path / "prefix")
+
+
+def test_unknown_target(tmp_path):
+    need_rust()
+    outcome = installs("--target", "pdp11-unknown-linux-gnu", tmp_path / "prefix", env={**os.environ, "CC": "cc"})
+    assert is_refused(outcome, "rustc has no library for pdp11-unknown-linux-gnu", tmp_path / "prefix")
+
+
+def test_crates_that_are_not_found(tmp_path):
+    """There is neither Debian's folder nor a network."""
+    need_rust()
+    env = {**os.environ, "SLH_CRATES": str(tmp_path), "CARGO_HOME": str(tmp_path / "cargo"), "CARGO_NET_OFFLINE": "true"}
+    outcome = installs(tmp_path / "prefix", env=env)
+    assert is_refused(outcome, "cargo does not find the crates sha2 arrayvec rand_core thiserror (Debian: librust-sha2-dev",
+                      tmp_path / "prefix")
