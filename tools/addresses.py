@@ -20,9 +20,10 @@ PLACES = [
     ("docs/VERSIONS.md", "git clone {repository} "),
 ]
 # The files that have the module path, once or more. The last one says which path the others have.
-OF_GO = [f"bindings/{it}" for it in (
-    "go/README.md", "go/examples/sign_queue/main.go", "go/key_files_test.go", "go/printing_test.go", "go/users_test.go",
-    "tests/erased.go", "tests/wycheproof.go", "go/go.mod")]
+OF_GO = [
+    "bindings/go/README.md", "bindings/go/examples/sign_queue/main.go", "bindings/go/key_files_test.go",
+    "bindings/go/printing_test.go", "bindings/go/users_test.go", "bindings/tests/erased.go",
+    "bindings/tests/wycheproof.go", "bindings/go/go.mod"]
 
 
 def addresses():
