@@ -198,8 +198,8 @@ exec chroot root /usr/bin/env -i PATH=/usr/sbin:/usr/bin:/sbin:/bin LC_ALL=C.UTF
 @pytest.fixture(scope="module")
 def in_a_root(debs, tmp_path_factory):
     """Runs a script of bash in a root that has this one's programs, as overlays whose changes are gone afterwards. The
-    packages are installed first, or are only in /debs. The repository is in /sources, and an image to verify in /files.
-    The answer is the output."""
+    packages are installed first, or are only in /debs. The repository is in /sources, and an image to verify in /files,
+    as are copies of further folders by their names. The answer is the output."""
     need("unshare")
     work = tmp_path_factory.mktemp("root")
     (work / "over").mkdir()
@@ -213,7 +213,9 @@ def in_a_root(debs, tmp_path_factory):
     if outcome_of("true").status:
         pytest.skip("no overlay can be mounted (run it as root, outside of other overlays)")
 
-    def runs(script, installs=True):
+    def runs(script, installs=True, **folders):
+        for name, folder in folders.items():
+            shutil.copytree(folder, work / "files" / name, dirs_exist_ok=True)
         outcome = outcome_of(f"{INSTALL} >&2\n{script}" if installs else script)
         assert outcome.status == 0, text_of(outcome)[-3000:]
         return outcome.output.decode()
@@ -349,6 +351,102 @@ listed > installed
 dpkg --purge slh-openssl slh libslh-dev libslh0 >&2
 listed | diff before -""", installs=False)
     assert int(said) > 20
+
+
+# ---- the symbols file, and the package of the next number
+
+NUMBER = int((HERE / "VERSION").read_text().split(".")[0]) + 1
+NEXT = f"{NUMBER}.0.0"
+UPGRADE = """build() { cc -std=c99 /sources/examples/sign_file.c $(pkg-config --cflags --libs slh) -o "$1"; }
+{ find /usr /etc 2> /dev/null || true; } | grep -v '^/etc/ld.so.cache' | sort > before
+dpkg -i --force-depends /debs/*.deb >&2
+build old
+dpkg -i --force-depends /files/next/*.deb >&2
+build new
+echo "Dear reader," > letter.txt
+for it in old new; do
+    ./$it letter.txt
+    ldd $it | grep -o 'libslh.so.[0-9]*' | head -n 1
+done
+nm -D new | grep -o ' slh_verify.*'
+dpkg-query -W -f '${Package} ${Version}\\n' 'libslh*' slh
+dpkg --purge libslh0 >&2
+./new letter.txt
+./old letter.txt 2> /dev/null && exit 3
+dpkg --purge $(dpkg-query -W -f '${Package}\\n' 'libslh*' 'slh*') >&2
+{ find /usr /etc 2> /dev/null || true; } | grep -v '^/etc/ld.so.cache' | sort | diff before -
+"""
+
+
+def control_file(debs, pattern, name):
+    (package,) = debs.glob(pattern)
+    return succeed("bash", "-c", f'dpkg-deb --ctrl-tarfile "$0" | tar -xO ./{name}', package).decode()
+
+
+def test_symbols_file_has_each_call(debs, release):
+    """The version of each is at most that of the release."""
+    need("nm")
+    said = control_file(debs, "libslh0_*.deb", "symbols").splitlines()
+    version = re.search("^version (.*)$", (release / "BUILD").read_text(), re.M)[1]
+    exported = succeed("nm", "-D", "--defined-only", release / "x86-64/libslh.so.0").decode()
+    names = [it.replace("@@", "@") for it in re.findall(r" [TW] (slh_\S+)", exported)]
+    assert said[:2] == ["libslh.so.0 libslh0 #MINVER#", "* Build-Depends-Package: libslh-dev"]
+    assert [it.split()[0] for it in said[2:]] == sorted(it if "@" in it else f"{it}@Base" for it in names)
+    assert all(version_of(it.split()[1]) <= version_of(version) for it in said[2:])
+
+
+def version_of(text):
+    return tuple(map(int, text.split(".")))
+
+
+@pytest.mark.parametrize("call, since", [("slh_verify", "0.5.0"), ("slh_sign_twice", "0.10.0"),
+                                         ("slh_verify_front", "0.12.0")])
+def test_program_depends_on_the_version_of_its_calls(debs, tmp_path, call, since):
+    """As CHANGELOG names them. With symbol versions it is the first release that has these."""
+    symbols = control_file(debs, "libslh0_*.deb", "symbols")
+    if "@SLH_" in symbols:
+        pytest.skip("the release has symbol versions, and depends on the first release with them")
+    assert f" {call}@Base {since}\n" in symbols
+
+
+@pytest.fixture(scope="module")
+def next_debs(copy_of_module):
+    """Packages of a stand-in for the release of the next number: this one's archive, linked anew in a copy of the
+    repository whose file VERSION has that number."""
+    need("cc")
+    copy, shared = copy_of_module, copy_of_module.dist / f"x86-64/libslh.so.{NUMBER}"
+    changes = copy.path / "CHANGELOG.md"
+    if "## Unreleased" not in changes.read_text():
+        changes.write_text(changes.read_text().replace("\n## ", "\n## Unreleased\n\nNumber.\n\n## ", 1))
+    (copy.path / "VERSION").write_text(f"{NEXT}\n")
+    succeed(copy.path / "tools/version.py")
+    build = copy.dist / "BUILD"
+    build.write_text(re.sub("^version .*$", f"version {NEXT}", build.read_text(), flags=re.M))
+    (copy.work / "symbols").write_bytes(succeed(copy.path / "tools/symbols.sh"))
+    (copy.dist / "x86-64/libslh.so.0").unlink()
+    succeed("cc", "-shared", f"-Wl,-soname,{shared.name},--version-script={copy.work}/symbols,--whole-archive",
+            copy.dist / "x86-64/libslh.a", "-Wl,--no-whole-archive", "-o", shared)
+    copy.list_anew()
+    succeed(copy.path / "tools/debian.sh", copy.dist, copy.work / "next", env=ENV)
+    return copy.work / "next"
+
+
+@pytest.mark.slow
+def test_package_has_the_number_of_the_version(next_debs):
+    package = f"libslh{NUMBER}"
+    assert package in names_in(next_debs) and "libslh0" not in names_in(next_debs)
+    symbols = control_file(next_debs, f"{package}_*.deb", "symbols")
+    assert symbols.startswith(f"libslh.so.{NUMBER} {package} #MINVER#\n")
+    assert f"\n slh_sign@SLH_{NUMBER} {NEXT}\n" in symbols
+
+
+@installed_in_root
+def test_upgrade_to_the_next_number(in_a_root, next_debs):
+    """Programs of both numbers run side by side, until the old package is removed."""
+    said = in_a_root(UPGRADE, installs=False, next=next_debs).splitlines()
+    assert said[:4] == ["valid", "libslh.so.0", "valid", f"libslh.so.{NUMBER}"]
+    assert {f" slh_verify@SLH_{NUMBER}", f"libslh{NUMBER} {NEXT}-1", f"libslh-dev {NEXT}-1"} <= {*said}
+    assert [it for it in said if it.startswith("libslh0 ")] and said[-1] == "valid"
 
 
 @pytest.mark.slow

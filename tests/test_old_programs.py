@@ -18,6 +18,8 @@ from support import HERE, TESTS, VECTORS, need, passed_by, refused, run, succeed
 
 STRICT = ("-std=c99", "-Wall", "-Wextra", "-Werror", "-pedantic")
 OLD = ("0.9.1", "0.13.0")
+# What programs of these releases ask for. tools/version.py leaves it as it is.
+OLD_NAME = f"libslh.so.{0}"
 # The set 128f: its number in C, n, and the six numbers of its record.
 SET, N, SIX = 2, 16, bytes([16, 4, 3, 22, 6, 33])
 LEVELS = (1, 1)
@@ -139,7 +141,7 @@ def program_of(old_release, compiled):
     def compiles(version):
         release = old_release(version)
         return compiled("old_programs", *STRICT, "-I", release / "include", TESTS / "old_programs.c",
-                        release / "x86-64/libslh.so.0")
+                        release / "x86-64" / OLD_NAME)
 
     return compiles
 
@@ -148,8 +150,8 @@ def run_with(library, program, folder, *words):
     """Runs a program of an old release with a shared object under the name that the program asks for."""
     place = folder / f"lib-{library.parent.name}-{library.name}"
     place.mkdir(exist_ok=True)
-    (place / "libslh.so.0").unlink(missing_ok=True)
-    (place / "libslh.so.0").symlink_to(library.resolve())
+    (place / OLD_NAME).unlink(missing_ok=True)
+    (place / OLD_NAME).symlink_to(library.resolve())
     return run("env", f"LD_LIBRARY_PATH={place}", program, folder, *words)
 
 
@@ -164,7 +166,7 @@ def test_program_of_an_old_release_makes_its_calls(request, program_of, work, ve
 @pytest.mark.parametrize("version", OLD)
 def test_jobs_of_an_old_release_mix_with_new_ones(old_release, program_of, shared, work, version):
     """Whichever of the two makes the start, a half of the jobs, or the signature."""
-    program, old = program_of(version), old_release(version) / "x86-64/libslh.so.0"
+    program, old = program_of(version), old_release(version) / "x86-64" / OLD_NAME
     for libraries in ((old, shared, old, shared), (shared, old, shared, old), (old, old, shared, old)):
         commands = (("start",), ("jobs", "0"), ("jobs", "1"), ("join",))
         for library, words in zip(libraries, commands):

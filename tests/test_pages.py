@@ -1,9 +1,9 @@
 """Checks the pages: each link leads to a file or heading that is there, README has at most 100 lines and docs/ few
-pages and lines, lines are at most 120 wide, a page begins with its reader and question, and habits that make pages and
-comments hard to read stay below their limits (sentences.py). Few folders are at the top, and each has a README. Each
-source file begins with its purpose, and each path that a text names is there. Each place with the version has that of
-the file VERSION. PROVED lists the definitions that its clauses rest on (reading_list.py). The page of contracts is
-made, and searched in Chromium.
+pages and lines, lines are at most 120 wide, cells of tables at most 300 long, a page begins with its reader and
+question, and habits that make pages and comments hard to read stay below their limits (sentences.py). Few folders are
+at the top, and each has a README. Each source file begins with its purpose, and each path that a text names is there.
+Each place with the version has that of the file VERSION. PROVED lists the definitions that its clauses rest on
+(reading_list.py). The page of contracts is made, and searched in Chromium.
 
 test_page_commands.py runs the commands of pages.
 """
@@ -21,6 +21,8 @@ WIDTH, WIDTH_OF_CONTRACTS = 120, 160
 README_LINES = 100
 # docs/ has at most so many pages and so many lines, without CONTRACTS, which a script writes.
 DOCS_PAGES, DOCS_LINES = 13, 1790
+# The most characters of a cell of a table.
+CELL = 300
 # The most folders at the top; each has a README.
 TOP_FOLDERS = 9
 # A release writes this folder, and without a README until now.
@@ -82,6 +84,24 @@ def broken_links(name):
         path = (HERE / name).parent / file if file else HERE / name
         if not path.exists() or anchor and path.suffix == ".md" and anchor not in anchors(path):
             yield target
+
+
+def long_cells(text):
+    """The cells of tables that are longer than CELL. Targets of links and code, as lists of names, do not count."""
+    rows = re.findall(r"^\|.*\|$", re.sub(r"\]\([^)]*\)|`[^`]*`", "", text), re.M)
+    return [it.strip() for row in rows for it in re.split(r"(?<!\\)\|", row) if len(it.strip()) > CELL]
+
+
+@pytest.mark.parametrize("page", sorted({*PAGES, "bindings/CALLS.md", "CHANGELOG.md"}))
+def test_cells_are_short(page):
+    assert not long_cells((HERE / page).read_text())
+
+
+@pytest.mark.parametrize("text, found", [
+    (f"| a | {'b' * 300} |\n", 0), (f"| a | {'b' * 301} |\n", 1), (f"| {'b c ' * 80} | d |\n| e |\n", 1),
+    (f"| a | [b]({'c' * 301}) `{'d' * 301}` |\n", 0), (f"{'b' * 301}\n", 0)])
+def test_long_cells_are_found(text, found):
+    assert len(long_cells(text)) == found
 
 
 @pytest.mark.parametrize("page", PAGES)

@@ -1,7 +1,7 @@
 #!/usr/bin/env bash
-# Makes Debian packages of a release into FOLDER, for amd64:
+# Makes Debian packages of a release into FOLDER, for amd64. N is the first number of its version:
 #
-#   libslh0      libslh.so.0, with the code for all levels of processors
+#   libslhN      libslh.so.N, with the code for all levels of processors, and the symbols file of its calls
 #   libslh-dev   the headers, the archives, and the files for pkg-config and CMake
 #   slh          the program, built for all levels, its man page, and completions for bash and zsh
 #   slh-openssl  the provider for OpenSSL, where bindings/openssl/build.sh finds OpenSSL 3.5 and a C compiler, and
@@ -47,6 +47,8 @@ date_of_files() {
 export SOURCE_DATE_EPOCH
 dated=$(LC_ALL=C date -R -u -d "@$SOURCE_DATE_EPOCH")
 upstream=$(sed -n 's/^version //p' "$dist/BUILD")
+number=${upstream%%.*}
+shared=libslh.so.$number
 version=$upstream-1
 maintainer="${DEBFULLNAME:-Pipitscreen maintainers} <${DEBEMAIL:-maintainers@users.noreply.pipitscreen.example}>"
 has_share=$(grep -q '  share/' "$dist/SHA256SUMS" && echo yes || echo no)
@@ -133,19 +135,33 @@ build() {
     [ $# = 0 ] || needs=$(needed "$@")
     size=$(du -k -s --apparent-size "$root/usr" | cut -f 1)
     (cd "$root" && find usr -type f -print0 | LC_ALL=C sort -z | xargs -0 md5sum) | write DEBIAN/md5sums
-    sed "s/@VERSION@/$version/; s/@MAINTAINER@/$escaped/; s/@SIZE@/$size/; s/@SHLIBS@/$needs/" \
-        "$here/bindings/debian/$package.control" | write DEBIAN/control
+    sed "s/@VERSION@/$version/; s/@MAINTAINER@/$escaped/; s/@SIZE@/$size/; s/@SHLIBS@/$needs/; s/@NUMBER@/$number/g" \
+        "$here/bindings/debian/${package/%"$number"/}.control" | write DEBIAN/control
     find "$root" -depth -exec touch -h -d "@$SOURCE_DATE_EPOCH" {} +
     dpkg-deb --root-owner-group -Zxz --build "$root" "$work/made" >&2
 }
 
-make_libslh0() {
-    begin libslh0
-    put 644 x86-64/libslh.so.0 $lib/libslh.so.0
-    (cd "$root" && strip --strip-unneeded $lib/libslh.so.0)
-    echo "libslh 0 libslh0 (>= $upstream)" | write DEBIAN/shlibs
+make_libslh() {
+    begin "libslh$number"
+    put 644 "x86-64/$shared" "$lib/$shared"
+    (cd "$root" && strip --strip-unneeded "$lib/$shared")
+    echo "libslh $number libslh$number (>= $upstream)" | write DEBIAN/shlibs
+    symbols "$root/$lib/$shared" | write DEBIAN/symbols
     echo "activate-noawait ldconfig" | write DEBIAN/triggers
-    build libslh0 $lib/libslh.so.0
+    build "libslh$number" "$lib/$shared"
+}
+
+# The symbols file of a shared object: each call with its symbol version, and the release from which on both are there.
+symbols() {
+    printf '%s\n' "$shared libslh$number #MINVER#" "* Build-Depends-Package: libslh-dev"
+    nm -D --defined-only "$1" | sed -nE 's/.* [TW] (slh_[a-z_]*)(@@)?(.*)$/\1 \3/p' | while read -r call node; do
+        echo " $call@${node:=Base} $(printf '%s\n' "$(since "$call")" "$(since "$node")" | sort -V | tail -n 1)"
+    done
+}
+
+since() {
+    awk -v name="$1" -v found="$upstream" '$1 == name { found = $2 } END { print found }' \
+        "$here/bindings/debian/symbols.since"
 }
 
 make_libslh_dev() {
@@ -159,7 +175,7 @@ make_libslh_dev() {
         put 644 x86-64-$level/libslh.a $lib/libslh-$level.a
     done
     put 644 x86-64-v2/libslh_verify.a $lib/libslh_verify.a
-    ln -s libslh.so.0 "$root/$lib/libslh.so"
+    ln -s "$shared" "$root/$lib/libslh.so"
     make_share
     put_zipped man/man3/slh.3 usr/share/man/man3/slh.3
     for call in $(zcat "$root/usr/share/man/man3/slh.3.gz" | sed -n 's/^\.SH \(slh_\)/\1/p'); do
@@ -188,13 +204,13 @@ make_slh() {
     build slh usr/lib/slh/x86-64-v{2,3,4}/slh
 }
 
-# The provider is compiled here, over the files of libslh0 and libslh-dev. Without OpenSSL 3.5 there is none.
+# The provider is compiled here, over the files of libslhN and libslh-dev. Without OpenSSL 3.5 there is none.
 make_slh_openssl() {
     local prefix=$work/prefix status=0 name
     mkdir -p "$prefix/lib"
     cp -r "$work/libslh-dev/usr/include" "$prefix/"
-    cp "$work/libslh0/$lib/libslh.so.0" "$prefix/lib/"
-    ln -s libslh.so.0 "$prefix/lib/libslh.so"
+    cp "$work/libslh$number/$lib/$shared" "$prefix/lib/"
+    ln -s "$shared" "$prefix/lib/libslh.so"
     SLH_RUNPATH='' "$here/bindings/openssl/build.sh" "$prefix" >&2 || status=$?
     [ $status != 3 ] || return 0
     [ $status = 0 ] || exit 1
@@ -209,7 +225,7 @@ make_slh_openssl() {
 }
 
 mkdir "$work/made"
-make_libslh0
+make_libslh
 make_libslh_dev
 make_slh
 make_slh_openssl
