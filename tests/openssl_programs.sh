@@ -36,7 +36,7 @@ programs=(openssl nginx-light apache2 haproxy lighttpd lighttpd-mod-openssl stun
 make_wrong_libraries() {
     local name
     dpkg -x "$work"/debs/slh-openssl_*.deb "$work/unpacked" &&
-        nm -D --undefined-only "$work"/unpacked/usr/lib/*/ossl-modules/slh.so | awk '$2 ~ /^slh_/ { print $2 }' \
+        nm -D --undefined-only "$work"/unpacked/usr/lib/*/ossl-modules/slh.so | sed -nE 's/.* U (slh_[a-z_]*).*/\1/p' \
             >"$work/calls" || return
     for name in older lesser; do
         mkdir -p "$root/slh/$name" && sed 's/.*/unsigned &(void) { return 9000; }/' "$work/calls" |
