@@ -10,7 +10,10 @@ import subprocess
 
 import pytest
 
-from support import VECTORS, best_level, run
+from support import HERE, VECTORS, best_level, run
+
+# The module path of the package for Go.
+GO_MODULE = re.match(r"module (\S+)\n", (HERE / "bindings/go/go.mod").read_text())[1]
 
 # ---- the level of the code that runs
 

@@ -28,7 +28,7 @@ PACKAGES = {"cc": "gcc", "nm": "binutils", "objdump": "binutils", "readelf": "bi
             "ssss-split": "ssss", "systemd-creds": "systemd", "systemd-analyze": "systemd", "node": "nodejs",
             "tsc": "node-typescript", "go": "golang-go", "gofmt": "golang-go", "ld.lld": "lld", "llvm-nm": "llvm",
             "llvm-objdump": "llvm", "wasm2c-1.0.36": "tools/setup.sh", "dpkg-deb": "dpkg",
-            "dpkg-shlibdeps": "dpkg-dev", "man": "man-db", "musl-gcc": "musl-tools",
+            "dpkg-shlibdeps": "dpkg-dev", "man": "man-db", "musl-gcc": "musl-tools", "ninja": "ninja-build",
             "rustfmt": "rustfmt, or that of rustup", "unshare": "util-linux",
             "x86_64-w64-mingw32-objdump": "binutils-mingw-w64-x86-64"}
 PACKAGES |= {f"{it}-gcc": f"gcc-{it.replace('x86_64-w64-mingw32', 'mingw-w64-x86-64')}" for it in (

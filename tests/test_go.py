@@ -5,19 +5,19 @@ import shutil
 
 import pytest
 
-from packages import check_memory, refuses_to_build, says_best_level
+from packages import GO_MODULE, check_memory, refuses_to_build, says_best_level
 from support import HERE, need, run, succeed
 
 PACKAGE = HERE / "bindings/go"
-LEVEL = """package main
+LEVEL = f"""package main
 
 // #cgo LDFLAGS: -l:libslh.a
 // #include <slh.h>
 import "C"
 import "fmt"
-import _ "pipitscreen/slh"
+import _ "{GO_MODULE}"
 
-func main() { fmt.Println(C.slh_level()) }
+func main() {{ fmt.Println(C.slh_level()) }}
 """
 
 pytestmark = pytest.mark.slow
@@ -58,14 +58,14 @@ def test_package_passes_its_tests(env):
 def page(env, tmp_path_factory):
     """The folder of a module over the package, as a user has it."""
     folder = tmp_path_factory.mktemp("page")
-    (folder / "main.go").write_text('package main\n\nimport _ "pipitscreen/slh"\n\nfunc main() {}\n')
+    (folder / "main.go").write_text(f'package main\n\nimport _ "{GO_MODULE}"\n\nfunc main() {{}}\n')
     for name in "erased", "level":
         (folder / name).mkdir()
     shutil.copy(HERE / "bindings/tests/erased.go", folder / "erased/main.go")
     (folder / "level/main.go").write_text(LEVEL)
     version = (HERE / "VERSION").read_text().strip()
     succeed("go", "mod", "init", "page", cwd=folder, env=env)
-    succeed("go", "mod", "edit", "-require", f"pipitscreen/slh@v{version}", "-replace", f"pipitscreen/slh={PACKAGE}",
+    succeed("go", "mod", "edit", "-require", f"{GO_MODULE}@v{version}", "-replace", f"{GO_MODULE}={PACKAGE}",
             cwd=folder, env=env)
     return folder
 

@@ -18,10 +18,14 @@ const secret = slh.generate(SLH_DSA_SHA2_128F);
 const signature = secret.sign(message);
 console.log(secret.check() && secret.public().verify(message, signature) ? "valid" : "invalid");
 """
-BROWSER = """import { load } from "slh";
+BROWSER = """import { load, type SecretKey } from "slh";
+import { signInWorker } from "slh/worker";
 load(new URL("https://example.com/slh.wasm"));
+export const sign = (it: SecretKey) => signInWorker(it, new Uint8Array(3), { signal: new AbortController().signal });
 export const byModule = (it: WebAssembly.Module) => load(it);
 """
+IN_WORKER = LINES.replace('secret.sign(message)', 'await signInWorker(secret, message)').replace(
+    "\n", '\nimport { signInWorker } from "slh/worker";\n', 1)
 VALID = Outcome(0, b"valid\n")
 
 
@@ -52,6 +56,7 @@ def folder(node, module, tmp_path_factory):
     succeed(node, package / "write_module.js")
     (path / "lines.mjs").write_text(LINES)
     (path / "inline.mjs").write_text(LINES.replace('"slh"', '"slh/inline"'))
+    (path / "in_worker.mjs").write_text(IN_WORKER)
     return path
 
 
@@ -68,6 +73,10 @@ def test_package_passes_its_tests(node, module):
 
 def test_package_finds_its_module(node, folder):
     assert outcome_of(node, folder / "lines.mjs") == VALID
+
+
+def test_worker_finds_its_files(node, folder):
+    assert outcome_of(node, folder / "in_worker.mjs") == VALID
 
 
 def test_inline_needs_no_file(node, folder, tmp_path):
@@ -127,6 +136,22 @@ def test_bundle_of_slh_finds_the_module_beside_it(node, bundles, module):
     assert outcome_of(node, bundle) == VALID
 
 
+@pytest.mark.slow
+@PLATFORMS
+@pytest.mark.parametrize("program", ["in_worker.mjs", "node_modules/slh/sign_in_worker.js"])
+def test_bundle_has_the_workers_of_its_platform(bundles, platform, program):
+    assert ("node:worker_threads" in bundles(platform, program).read_text()) == (platform == "node")
+
+
+@pytest.mark.slow
+def test_bundle_with_a_worker_finds_it_beside_it(node, bundles, module):
+    worker = bundles("node", "node_modules/slh/sign_in_worker.js")
+    worker.rename(worker.parent / "sign_in_worker.js")
+    shutil.copy(module, worker.parent)
+    (worker.parent / "package.json").write_text('{"type": "module"}')
+    assert outcome_of(node, bundles("node", "in_worker.mjs")) == VALID
+
+
 # ---- types
 
 
@@ -155,7 +180,8 @@ def test_tsc_refuses_a_wrong_argument(tsc):
     assert refuses_to_build('"128f"\' is not assignable', *tsc("wrong.mts", "es2022,dom"))
 
 
-@pytest.mark.parametrize("name, file", [("slh", "slh.d.ts"), ("slh/files", "files.d.ts"), ("slh/pkix", "pkix.d.ts")])
+@pytest.mark.parametrize("name, file", [("slh", "slh.d.ts"), ("slh/files", "files.d.ts"), ("slh/pkix", "pkix.d.ts"),
+                                        ("slh/worker", "worker.d.ts")])
 def test_types_name_what_is_exported(node, folder, name, file):
     text = (folder / "node_modules/slh" / file).read_text()
     declared = re.findall(r"^export (?:const|class|function) (\w+)", text, re.MULTILINE)

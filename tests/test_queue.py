@@ -421,9 +421,9 @@ def test_systemd_finds_a_change_of_the_service(unit, line, by):
 
 
 def test_page_shows_lines_of_the_service():
-    """docs/RELEASES.md explains those that matter for the key."""
+    """The page of examples explains those that matter for the key."""
     lines = (EXAMPLES / "sign_queue.service").read_text().splitlines()
-    shown = re.findall(r"^\| (`[A-Z]\w+=.*?`) \|", (HERE / "docs/RELEASES.md").read_text(), re.M)
+    shown = re.findall(r"^\| (`[A-Z]\w+=.*?`) \|", (EXAMPLES / "README.md").read_text(), re.M)
     found = [it for cell in shown for it in re.findall("`(.*?)`", cell)]
     assert len(found) >= 8 and [it for it in found if it not in lines] == []
 

@@ -11,6 +11,7 @@ import pytest
 
 import machines
 from machines import LIBRARY_CALLS, OTHERS, counted, text_of
+from packages import GO_MODULE
 from support import HERE, TESTS, need, run, succeed
 
 pytestmark = [pytest.mark.parametrize("target", [pytest.param("windows-x86-64", marks=OTHERS)])]
@@ -20,25 +21,25 @@ GCC = machines.Machine("windows-x86-64", "x86_64-w64-mingw32-gcc", ("-static", "
 # A processor of tests/processors.h for each level.
 PROCESSORS = {"nehalem": 2, "haswell": 3, "skylake": 4}
 LEVEL = '#include <slh.h>\n#include <stdio.h>\nint main(void) { return printf("%u", (unsigned)slh_level()) < 0; }\n'
-GO = """\
+GO = f"""\
 package main
 
 import (
 	"fmt"
-	"pipitscreen/slh"
+	"{GO_MODULE}"
 )
 
-func main() {
+func main() {{
 	secret, err := slh.Generate(nil, slh.SHA2_128f)
-	if err != nil {
+	if err != nil {{
 		panic(err)
-	}
+	}}
 	signature, err := secret.Sign(nil, []byte("Dear reader,"), nil)
-	if err != nil || secret.PublicKey().Verify([]byte("Dear reader,"), signature, nil) != nil {
+	if err != nil || secret.PublicKey().Verify([]byte("Dear reader,"), signature, nil) != nil {{
 		panic(err)
-	}
+	}}
 	fmt.Print("valid")
-}
+}}
 """
 
 
@@ -187,8 +188,8 @@ def test_program_in_go(emulated, prefix, tmp_path):
            "CGO_CFLAGS": f"-I{prefix}/include", "CGO_LDFLAGS": f"-L{prefix}/lib", "GOCACHE": str(tmp_path / "go"),
            "GOPATH": str(tmp_path / "gopath"), "GOFLAGS": "-mod=readonly", "GOPROXY": "off"}
     for words in (["mod", "init", "page"],
-                  ["mod", "edit", "-require", f"pipitscreen/slh@v{machines.version()}", "-replace",
-                   f"pipitscreen/slh={HERE / 'bindings/go'}"],
+                  ["mod", "edit", "-require", f"{GO_MODULE}@v{machines.version()}", "-replace",
+                   f"{GO_MODULE}={HERE / 'bindings/go'}"],
                   ["build", "-o", tmp_path / "signs.exe", "."]):
         succeed("go", *words, cwd=tmp_path / "page", env=env)
     assert text_of(run(*emulated.runs, tmp_path / "signs.exe")) == (0, "valid")

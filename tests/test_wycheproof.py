@@ -8,6 +8,7 @@ import sys
 
 import pytest
 
+from packages import GO_MODULE
 from support import HERE, VECTORS, need, run, succeed
 
 SCRIPT = VECTORS / "wycheproof.py"
@@ -123,7 +124,7 @@ def in_go(installed_as_is, tmp_path_factory):
            "GOCACHE": str(work / "cache"), "GOPATH": str(work / "path"), "GOFLAGS": "-mod=readonly", "GOPROXY": "off"}
     (work / "program").mkdir()
     shutil.copy(HERE / "bindings/tests/wycheproof.go", work / "program/main.go")
-    words = ["-require", "pipitscreen/slh@v0.0.0", "-replace", f"pipitscreen/slh={HERE / 'bindings/go'}"]
+    words = ["-require", f"{GO_MODULE}@v0.0.0", "-replace", f"{GO_MODULE}={HERE / 'bindings/go'}"]
     succeed("go", "mod", "init", "program", cwd=work / "program", env=env)
     succeed("go", "mod", "edit", *words, cwd=work / "program", env=env)
     succeed("go", "build", "-o", work / "wycheproof", ".", cwd=work / "program", env=env, timeout=1800)

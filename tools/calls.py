@@ -47,6 +47,7 @@ ROWS = [
     ("verify in a boot loader", "slh_verify_hardened slh_hash_verify_digest_hardened", NONE, NONE, NONE, NONE, NONE,
      NONE),
     ("sign by several workers", NONE, NONE, "workers", "Workers", "Signer", NONE, NONE),
+    ("sign in the background, until a signal ends it", NONE, NONE, NONE, NONE, NONE, "signInWorker", NONE),
     ("one signature as jobs", "slh_sign_jobs slh_sign_start slh_hash_sign_start slh_answer_place slh_sign_job"
      " slh_sign_join", NONE, NONE, NONE, "Jobs start answer join", NONE, NONE),
     ("one key as jobs", "slh_keygen_jobs slh_keygen_job slh_keygen_join", NONE, NONE, NONE, NONE, NONE, NONE),

@@ -1,3 +1,3 @@
-module pipitscreen/slh
+module pipitscreen.example/slh
 
 go 1.19

@@ -16,7 +16,7 @@ import (
 	"strings"
 	"testing"
 
-	"pipitscreen/slh"
+	"pipitscreen.example/slh"
 )
 
 func expect(t *testing.T, err error) {

@@ -22,7 +22,7 @@ import (
 	text "text/template"
 	"unsafe"
 
-	"pipitscreen/slh"
+	"pipitscreen.example/slh"
 )
 
 // Structs that hold a key, which is a value or a pointer.

@@ -46,7 +46,7 @@ import (
 	"crypto/sha256"
 	"fmt"
 
-	"pipitscreen/slh"
+	"pipitscreen.example/slh"
 )
 
 func main() {
@@ -81,7 +81,7 @@ func TestVetReportsCopies(t *testing.T) {
 import (
 	"log"
 
-	"pipitscreen/slh"
+	"pipitscreen.example/slh"
 )
 
 type server struct {
@@ -98,7 +98,7 @@ func main() {
 }
 `
 	output, err := asUser(t, "go vet", program)
-	if err == nil || !strings.Contains(output, "literal copies lock value from *key: pipitscreen/slh.SecretKey") {
+	if err == nil || !strings.Contains(output, "literal copies lock value from *key: pipitscreen.example/slh.SecretKey") {
 		t.Errorf("%v: %s", err, output)
 	}
 }

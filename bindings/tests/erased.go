@@ -30,7 +30,7 @@ import (
 	"time"
 	"unsafe"
 
-	"pipitscreen/slh"
+	"pipitscreen.example/slh"
 )
 
 func main() {

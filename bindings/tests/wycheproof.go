@@ -10,7 +10,7 @@ import (
 	"log"
 	"os"
 
-	"pipitscreen/slh"
+	"pipitscreen.example/slh"
 )
 
 type file struct {

@@ -1,6 +1,11 @@
 // A program over the package slh for tsc --strict, without the types of browsers. tests/test_javascript.py compiles it.
 import { Fault, load, Refusal, type SecretKey, SLH_DSA_SHA2_128F, SLH_SHA2_256 } from "slh";
 import { toPem } from "slh/pkix";
+import { signInWorker, type WorkerOptions } from "slh/worker";
+
+export function later(secret: SecretKey, message: Uint8Array, signal: WorkerOptions["signal"]): Promise<Uint8Array> {
+    return signInWorker(secret, message, { signal, once: true });
+}
 
 export async function sign(message: Uint8Array): Promise<Uint8Array | number> {
     const slh = await load();

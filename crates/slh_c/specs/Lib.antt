@@ -3,3 +3,4 @@ pub mod Refusals
 pub mod Cuttings
 pub mod Rules
 pub mod Keys
+pub mod Many

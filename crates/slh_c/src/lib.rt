@@ -16,6 +16,7 @@ mod internal_form;
 mod jobs;
 mod joining;
 mod keys;
+mod many;
 mod names;
 mod numbers;
 mod pre_hash_form;

@@ -31,7 +31,7 @@ import (
 	"syscall"
 	"time"
 
-	"pipitscreen/slh"
+	"pipitscreen.example/slh"
 )
 
 // mostName is the most bytes of a name: Linux takes no longer path.

@@ -1,0 +1,20 @@
+// Workers of Node. package.json puts worker_web.js in its place in bundles for browsers.
+import { parentPort, Worker } from "node:worker_threads";
+
+/** Starts the worker of a file. `heard` gets each message, and `failed` an error that ends the worker. */
+export function start(url, heard, failed) {
+    const worker = new Worker(url);
+    worker.on("message", heard);
+    worker.on("error", failed);
+    return worker;
+}
+
+/** In a worker: has `heard` get each message. */
+export function listen(heard) {
+    parentPort.on("message", heard);
+}
+
+/** In a worker: sends a message, and gives these buffers away. */
+export function send(message, buffers) {
+    parentPort.postMessage(message, buffers);
+}
