@@ -73,6 +73,21 @@ def test_package_says_how_it_was_built(prefix):
     assert said == f"built from source by {succeed('rustc', '--version').decode()}"
 
 
+@pytest.mark.debian
+@pytest.mark.slow
+def test_debian_13(pytestconfig):
+    """In a new Debian 13 the lines of the page build the library and a program that signs."""
+    if not pytestconfig.option.all:
+        pytest.skip("a Debian 13 is made with --all alone")
+    need("bash")
+    outcome = run(HERE / "tests/debian_source.sh", cwd=HERE, timeout=7200)
+    last = text_of(outcome).splitlines()[-1]
+    counts = re.fullmatch(r"(\d+) passed, 0 failed(?:, (\d+) skipped)?", last)
+    assert outcome.status == 0 and counts, text_of(outcome)[-4000:]
+    if counts[1] == "0":
+        pytest.skip(text_of(outcome).splitlines()[0])
+
+
 # ---- what stands in the way
 
 
