@@ -1,5 +1,4 @@
 pub mod Begun
 mod Hashed
 mod Judged
-mod Many
 mod Numbered

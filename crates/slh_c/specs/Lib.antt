@@ -3,4 +3,3 @@ pub mod Refusals
 pub mod Cuttings
 pub mod Rules
 pub mod Keys
-pub mod Many

@@ -16,7 +16,6 @@ mod internal_form;
 mod jobs;
 mod joining;
 mod keys;
-mod many;
 mod names;
 mod numbers;
 mod pre_hash_form;
