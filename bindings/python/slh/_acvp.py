@@ -61,7 +61,7 @@ class _Object:
     def data(self, name: str) -> bytes:
         """The bytes of a member of hexadecimal digits."""
         digits = self.get(name, str)
-        if not re.fullmatch("([0-9A-Fa-f]{2})*", digits):
+        if len(digits) % 2 or not re.fullmatch("[0-9A-Fa-f]*", digits):  # a group, repeated, takes 150 bytes a byte
             raise self.stop(_BAD, name)
         return bytes.fromhex(digits)
 
