@@ -12,7 +12,7 @@ from support import HERE, run
 
 HARNESS = [
     ".ci/run", "pytest.ini", "tools/test.sh", "tools/released.sh", "tests/budgets.toml", "tests/conftest.py",
-    "tests/copies.py", "tests/parts.py", "tests/provider.py", "tests/support.py"]
+    "tests/copies.py", "tests/debian_roots.py", "tests/parts.py", "tests/provider.py", "tests/support.py"]
 OF_KIT = ["wrong_bodies.py", "tested_bodies.py", "fresh_tests.sh"]
 FOUR = 'echo "4 passed, 0 failed"\n'
 STUB = '#!/bin/sh\necho "${0##*/} $*" >>"$HOME/called"\n'
