@@ -57,6 +57,20 @@ test("errors are those of sign", async () => {
     await assert.rejects(signInWorker(erased, message, { module }), Erased);
 });
 
+test("options are those of sign: own ones of a plain object", async () => {
+    class Options {
+        get context() {
+            return new Uint8Array([1, 2]);
+        }
+    }
+    const others = [Object.assign(new Options(), { module }), Object.create({ module }), { module, [Symbol("context")]: 1 }, null];
+    for (const it of others) await assert.rejects(signInWorker(key(), message, it), TypeError);
+    Object.prototype.module = module;
+    const made = signInWorker(key(), message);
+    delete Object.prototype.module;
+    await assert.rejects(made, /slh\.wasm/);
+});
+
 test("a worker without a module says so", async () => {
     await assert.rejects(signInWorker(key(), message, { module: new Uint8Array(3) }), Error);
 });
