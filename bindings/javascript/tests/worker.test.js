@@ -4,6 +4,7 @@ import { test } from "node:test";
 
 import { Erased, load, Refusal } from "../slh.js";
 import { signInWorker } from "../worker.js";
+import { start } from "../worker_threads.js";
 import { module, vectorKey } from "./support.js";
 
 const slh = await load(module);
@@ -73,4 +74,10 @@ test("options are those of sign: own ones of a plain object", async () => {
 
 test("a worker without a module says so", async () => {
     await assert.rejects(signInWorker(key(), message, { module: new Uint8Array(3) }), Error);
+});
+
+test("a worker that ends early fails", async () => {
+    const ends = new URL("data:text/javascript,process.exit(0)");
+    const failure = await new Promise((resolve) => start(ends, assert.fail, resolve));
+    assert.match(failure.message, /ended early/);
 });
