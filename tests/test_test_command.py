@@ -161,6 +161,18 @@ def test_failure_of_a_part_is_named(small, status, line, said):
 
 
 @pytest.mark.slow
+@pytest.mark.parametrize("damage", [lambda it: it.chmod(0o644), lambda it: it.unlink()], ids=["a mode", "no file"])
+def test_part_that_is_not_started_is_named(small, damage):
+    """And all other parts are run."""
+    small.add_kit()
+    damage(small.path / "tests/tested_bodies.py")
+    status, lines = small.run("--no-setup")
+    assert failures(lines)[0] == "tests/tested_bodies.py: it printed no counts, and ended with status 127"
+    assert status == 1 and lines[-1] == "17 passed, 1 failed, 0 skipped"
+    assert small.calls()[-1] == "fresh_tests.sh --few"
+
+
+@pytest.mark.slow
 def test_failure_that_a_part_does_not_note_is_named(small):
     small.add_kit()
     script(small.path / "tests/tested_bodies.py",
