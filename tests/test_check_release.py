@@ -43,6 +43,13 @@ def omit(dist, name):
     (dist / "SHA256SUMS").write_text("".join(kept))
 
 
+def link(path):
+    """Puts a link to a file's bytes elsewhere in its place."""
+    shutil.copy(path, path.parents[2] / "elsewhere")
+    path.unlink()
+    path.symlink_to(path.parents[2] / "elsewhere")
+
+
 def list_again(dist, name):
     """Lists a changed file by its new hash."""
     old = re.search(rf"^(\w+)  {re.escape(name)}$", (dist / "SHA256SUMS").read_text(), re.M)[1]
@@ -61,6 +68,8 @@ DAMAGE = {
     "a changed signature": (lambda dist: append(dist / "SHA256SUMS.sig"), False, {3}),
     "no signature": (lambda dist: (dist / "SHA256SUMS.sig").unlink(), False, {3}),
     "an additional file": (lambda dist: (dist / "x86-64/more.h").touch(), False, {4}),
+    "an additional link": (lambda dist: (dist / "x86-64/more.h").symlink_to("/etc/passwd"), False, {4}),
+    "a link to a file": (lambda dist: link(dist / "include/slh.h"), False, {4}),
     "an omitted file": (lambda dist: omit(dist, "include/slh.h"), True, {4}),
     "a bill of other files": (lambda dist: list_again(dist, "include/slh.h"), True, {4}),
 }
