@@ -206,8 +206,8 @@ def alone(config, report):
 
 
 def note_failures(config):
-    """Notes each failure for the test command, which prints all of them at its end."""
-    if not os.environ.get("SLH_FAILURES"):
+    """Notes each failure for the test command, which prints all of them at its end. Of two processes the first does."""
+    if not os.environ.get("SLH_FAILURES") or hasattr(config, "workerinput"):
         return
     with open(os.environ["SLH_FAILURES"], "a") as file:
         for report in told.failures:

@@ -205,6 +205,17 @@ def test_failure_of_a_test_is_named(small, text, said, alone):
 
 
 @pytest.mark.slow
+def test_failure_of_one_of_two_processes_is_named_once(small):
+    """Beside the proofs two processes run the tests, if pytest can."""
+    small.add_kit()
+    small.write("tests/test_streams.py", "def test_wrong(): assert False\n")
+    status, lines = small.run("--no-setup")
+    named = [it for it in failures(lines) if not it.startswith(" ")]
+    assert named == ["tests/test_streams.py::test_wrong: assert False"]
+    assert status == 1 and lines[-1] == "21 passed, 1 failed, 0 skipped"
+
+
+@pytest.mark.slow
 @pytest.mark.parametrize("text, said", [
     ("import os\ndef test_ends(): os._exit(0)\n", "pytest: it printed no counts, and ended with status 0"),
     ("import pytest\ndef test_ends(): pytest.exit('early', returncode=0)\n",
