@@ -104,7 +104,8 @@ def test_tag_has_the_entry_and_the_hash_of_the_list(release):
     assert hashlib.sha256((release / "SHA256SUMS").read_bytes()).hexdigest() in text
     entries = (HERE / "CHANGELOG.md").read_text().split("\n## ")
     (entry,) = (it for it in entries if it.startswith(f"{version}, "))
-    assert len(text) > 0.7 * len(entry) and "](" not in text and not re.search("^#", text, re.M)
+    plain = re.sub(r"\[([^]]+)\]\([^)]+\)", r"\1", entry.partition("\n")[2]).replace("**", "").split()
+    assert text.split()[-len(plain):] == plain and "](" not in text and not re.search("^#", text, re.M)
 
 
 @pytest.mark.parametrize("old, new, said", [
