@@ -237,6 +237,17 @@ def test_missing_release_is_a_failure(small):
 
 
 @pytest.mark.slow
+def test_release_of_an_earlier_run_is_not_tested(small):
+    """If none is built, there is none."""
+    small.add_kit()
+    script(small.path / "tools/release.sh", '#!/bin/sh\necho "0 passed, 1 failed"\nexit 1\n')
+    for it in ("BUILD", "SHA256SUMS"):
+        small.write(f"out/release/{it}", (small.path / "dist" / it).read_text())
+    status, lines = small.run("--no-setup")
+    assert status == 1 and "pytest: it printed no counts, and ended with status 4" in failures(lines)
+
+
+@pytest.mark.slow
 @pytest.mark.parametrize("rt, said", [
     ('echo "slh_core: no proof"\necho "4 passed, 1 failed"\nexit 1\n', "rt ci: slh_core: no proof"),
     ("exit 0\n", "rt ci: it printed no counts, and ended with status 0"),
