@@ -7,6 +7,7 @@ import shutil
 
 import pytest
 
+from conftest import make_once
 from copies import WITHOUT_KIT, script, skip_beside_kit
 from support import HERE, run
 
@@ -334,6 +335,32 @@ def test_proofs_over_their_budget_are_marked(small):
     lines = small.run("--no-setup")[1]
     over, = {it for it in lines if "OVER ITS BUDGET" in it}
     assert over.startswith("rt ci: ") and any(it.startswith("tools/release.sh: ") for it in lines)
+
+
+# ---- folders that stay
+
+
+@pytest.mark.parametrize("is_second", [False, True], ids=["one run", "a second run"])
+def test_folder_is_made_once(tmp_path, is_second):
+    """Whatever a killed run has left, and if another run has made it meanwhile."""
+    folder, part = tmp_path / "made", tmp_path / "part"
+    (part / "left").mkdir(parents=True)
+
+    def make(path):
+        path.mkdir()
+        (path / "mine").touch()
+        if is_second:
+            (folder / "other").mkdir(parents=True)
+
+    for _ in range(2):
+        make_once(folder, part, make)
+        assert [it.name for it in folder.iterdir()] == ["other" if is_second else "mine"] and not part.exists()
+
+
+def test_folder_that_is_not_made_stays_unmade(tmp_path):
+    with pytest.raises(FileNotFoundError):
+        make_once(tmp_path / "none/made", tmp_path / "part", lambda part: part.mkdir())
+    assert not (tmp_path / "part").exists()
 
 
 # ---- set-up and words
