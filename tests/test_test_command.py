@@ -7,9 +7,9 @@ import shutil
 
 import pytest
 
-from conftest import make_once
+from conftest import content_of, make_once
 from copies import WITHOUT_KIT, script, skip_beside_kit
-from support import HERE, run
+from support import HERE, need, run
 
 HARNESS = [
     ".ci/run", "pytest.ini", "tools/test.sh", "tools/released.sh", "tests/budgets.toml", "tests/conftest.py",
@@ -355,6 +355,21 @@ def test_folder_is_made_once(tmp_path, is_second):
     for _ in range(2):
         make_once(folder, part, make)
         assert [it.name for it in folder.iterdir()] == ["other" if is_second else "mine"] and not part.exists()
+
+
+@pytest.mark.parametrize("changed", ["it.c", "it.h", "it.a", "it.ld", "the option", None])
+def test_program_is_compiled_again_for_what_changed(tmp_path, changed):
+    """A text, a header, a library, a script of the linker, or an option; and else it is taken as it is."""
+    need("cc")
+    for name, text in {"it.c": '#include "it.h"\n', "it.h": "int a;\n", "it.a": "a", "it.ld": "a"}.items():
+        (tmp_path / name).write_text(text)
+    words = [tmp_path / "it.c", tmp_path / "it.a", "-T", tmp_path / "it.ld"]
+    before = content_of("cc", words)
+    if changed == "the option":
+        words.append("-O2")
+    elif changed:
+        (tmp_path / changed).write_text("int b;\n")
+    assert (content_of("cc", words) == before) == (changed is None)
 
 
 def test_folder_that_is_not_made_stays_unmade(tmp_path):
