@@ -89,6 +89,8 @@ def test_damage_is_found(clone, name):
     done = {number: clone.run("bash", "-c", line, path=f"{clone.work}/bin:{WITHOUT_KIT}")
             for number, line in enumerate(lines[1:], 2)}
     assert {number for number, it in done.items() if it.status not in (0, 3 * (number == 4))} == wanted
+    said = "SHA256SUMS lists no other file: no\n" in done[4].output.decode()
+    assert said == (name in ("a missing file", "an additional file", "a link to a file", "an omitted file"))
     last = done[4].output.decode().splitlines()[-1]
     assert (", 0 failed" in last) == (4 not in wanted)
     assert 4 in wanted or "SKIPPED, since rt is not on the path" in done[4].output.decode()
