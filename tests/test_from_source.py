@@ -18,7 +18,7 @@ LEAST_RUSTC = 1, 85
 # The tests of the library that are run over it.
 FILES = ["test_library.py", "test_examples.py"]
 SKIPPED = "the library was built from source (tools/plain_rust/README.md tells what it lacks)"
-# What the scripts take, besides the tools that a test removes or replaces.
+# The commands that the scripts use, besides the tools that a test removes or replaces.
 TOOLS = ["bash", "basename", "cat", "cp", "dirname", "env", "grep", "head", "install", "ld", "ln", "mkdir", "mktemp",
          "python3", "rm", "sed", "sort", "tr", "uname"]
 
@@ -88,7 +88,7 @@ def test_debian_13(pytestconfig):
         pytest.skip(text_of(outcome).splitlines()[0])
 
 
-# ---- what stands in the way
+# ---- missing tools and crates
 
 
 @pytest.fixture
