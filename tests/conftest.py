@@ -1,6 +1,6 @@
-"""The fixtures of the tests, their options, and how pytest tells their end.
+"""The fixtures of the tests, the options of pytest, and the report at its end.
 
-    pytest                          tests the release in dist/
+    pytest                          tests the release in dist/, or what is built of changed sources if rt is there
     pytest -k verify                those tests whose names have this word
     pytest -m "not slow"            a few tests of each kind
     pytest --program=PROGRAM        tests another program `slh`
@@ -144,7 +144,7 @@ def drawn_part(item, mark):
     return item.callspec.params[mark.args[1]]
 
 
-# ---- how their end is told
+# ---- the report at the end
 
 
 def processor_seconds():
@@ -164,7 +164,7 @@ def pytest_runtest_makereport(item, call):
 
 
 class Told:
-    """What is told at the end: processor seconds by file, failures, skipped tests by file and cause, and the number of
+    """The data of the report: processor seconds by file, failures, skipped tests by file and cause, and the number of
     tests that have ended."""
 
     def __init__(self):
@@ -321,7 +321,7 @@ def skip_over_other_sources(config):
 
 @pytest.fixture(scope="session")
 def of_these_sources(pytestconfig):
-    """What is tested is of these sources: an older release lacks what some tests test."""
+    """Skips the test if an older release is tested: it lacks calls that some tests need."""
     if not pytestconfig.option.program:
         skip_over_other_sources(pytestconfig)
 
@@ -361,7 +361,7 @@ def is_from_source(prefix):
 
 @pytest.fixture(scope="session")
 def built_by_the_kit(pytestconfig):
-    """The library is a release's, or built by the kit: one from source lacks what the test tests."""
+    """Skips the test if the library was built from source: it lacks the tested feature."""
     prefix = pytestconfig.option.prefix
     if prefix and is_from_source(pathlib.Path(prefix)):
         pytest.skip("the library was built from source (tools/plain_rust/README.md tells what it lacks)")

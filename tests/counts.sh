@@ -1,6 +1,6 @@
-# Counts what passed, what failed and what was skipped, for the scripts beside this file, those of bindings/cmake/tests
-# and tools/release.sh, which read it with `source`, with the folder `here`; and reads the options that the test scripts
-# have in common.
+# Counts passed, failed and skipped tests, and reads the options that the test scripts have in common. The scripts
+# beside this file, those of bindings/cmake/tests and tools/release.sh read it with `source`, and set `here` to the top
+# folder.
 passed=0 failed=0 skipped=0
 
 # Notes a failure in the file SLH_FAILURES, if the test command has set it: it prints all failures again at its end.
@@ -8,7 +8,7 @@ note_failure() {
     [ -z "${SLH_FAILURES-}" ] || echo "$1" >>"$SLH_FAILURES"
 }
 
-# Counts a run, and tells whether it was as wanted: NAME, then `yes`, or `no` and why.
+# Counts a test, and prints its result: NAME, then `yes`, or `no` and the cause.
 tell() {
     if [ "$2" = yes ]; then
         passed=$((passed + 1))
@@ -19,7 +19,7 @@ tell() {
     echo "$1: $2"
 }
 
-# Counts a part that is not run, and says why: NAME, then what is missing.
+# Counts a part that is not run, and prints the cause: NAME, then the cause.
 skip() {
     skipped=$((skipped + 1))
     echo "$1: SKIPPED, since $2"

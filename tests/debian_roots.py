@@ -12,8 +12,8 @@ from support import need, run, succeed
 CACHE = pathlib.Path(os.environ.get("XDG_CACHE_HOME") or pathlib.Path.home() / ".cache") / "slh"
 PATH = "/usr/local/sbin:/usr/local/bin:/usr/sbin:/usr/bin:/sbin:/bin"
 OF_APT = "^Acquire::(http|https|ftp|Check|Retries)"
-# Mounts the system in the folder $0/root, if there is a base $1 as a layer over it, with the packages $2, and runs a
-# command in its folder /slh.
+# Runs a command in the folder /slh of the system in $0/root. With a base $1 that system is a layer over the base. $2 is
+# the folder of downloaded packages. The remaining words are the environment and the command.
 ENTER = """
 [ -z "$1" ] || mount -t overlay none -o "lowerdir=$1,upperdir=$0/upper,workdir=$0/work" "$0/root"
 mount -t proc proc "$0/root/proc"

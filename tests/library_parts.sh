@@ -1,9 +1,8 @@
-# What scripts over the library for C share: tests/fresh_tests.sh, tests/openssl_programs.sh,
-# tools/depths.sh and bindings/cmake/tests read it with `source`, after tests/counts.sh, with the folders `here` and
-# `work`.
+# Functions for scripts that test the library for C: tests/fresh_tests.sh, tests/openssl_programs.sh, tools/depths.sh
+# and bindings/cmake/tests read it with `source`, after tests/counts.sh, with the folders `here` and `work`.
 strict=(-Wall -Wextra -Werror -pedantic)
 
-# Whether all of these commands are there. Says of a TARGET which is not.
+# Whether all of these commands are installed. If one is missing, TARGET is skipped, and the command named.
 can_run() {
     local target=$1 tool
     shift
@@ -25,8 +24,8 @@ one() {
     fi
 }
 
-# Runs a command whose last line has counts, and adds them up. One that ends otherwise has failed. What it skips is
-# shown, and the end of what it prints if it failed.
+# Runs a command whose last line has counts, and adds them up. A command that ends otherwise has failed. Its skipped
+# tests are printed, and after a failure the end of its output.
 count() {
     local name=$1 status before=$failed noted
     shift
@@ -71,7 +70,7 @@ tools_of() {
     run=$(command -v "$emulator" || command -v "$emulator-static" || echo "$emulator")
 }
 
-# Sets up a folder of wine's own in $work, where wine is there.
+# Makes a folder for wine in $work, if wine is installed.
 begin_wine() {
     export WINEPREFIX=$work/wine WINEDEBUG=-all WINEDLLOVERRIDES=mscoree,mshtml= XDG_RUNTIME_DIR=$work
     wine cmd /c exit >/dev/null 2>&1
@@ -79,9 +78,9 @@ begin_wine() {
     printf '#!/bin/bash\nset -o pipefail\nwine "$@" | tr -d "\\r"\n' >"$work/run_wine" && chmod +x "$work/run_wine"
 }
 
-# Writes an ARCHIVE to OTHER, in which names that nobody else sees are seen, and weak: a program that is linked with it
-# can bring its own. The result is looked at, since objcopy may change nothing and end with 0. An archive for Windows
-# has each such name in an object of its own, which is not linked where a program brings the name.
+# Writes an ARCHIVE to OTHER with its hidden names as global, weak ones: a program that is linked with OTHER can define
+# them itself. The result is checked, since objcopy may change nothing and end with 0. An archive for Windows has each
+# such name in a separate object, which is not linked if the program defines the name.
 with_weak() {
     local archive=$1 other=$2 name
     shift 2

@@ -5,7 +5,7 @@
  *
  *   old_programs FOLDER calls         makes each call; the last line has the counts
  *   old_programs FOLDER start         writes `start`, and `answers` of zeros
- *   old_programs FOLDER jobs 0|1      does every second job of it, and writes its answers into `answers`
+ *   old_programs FOLDER jobs 0|1      does the even or the odd jobs of `start`, and writes their answers into `answers`
  *   old_programs FOLDER join          writes `joined`, the signature
  */
 #include <slh_internal.h>

@@ -22,7 +22,7 @@ import sys
 import tempfile
 
 COUNTS = re.compile(r"(\d+) passed, (\d+) failed(?:, (\d+) skipped)?")
-# What needs rt, or a Debian of its own: the words of a part by the mode of the test command.
+# The parts that need rt, or a new Debian: the command of each part by the mode of the test command.
 WITH_KIT = {
     "rt ci": {"whole": ["rt", "ci"]},
     "tools/release.sh": {"whole": ["tools/release.sh", "--after-ci", "--check", "out/release"]},

@@ -22,7 +22,7 @@ VECTORS = TESTS / "vectors"
 PATIENCE = 600
 SANITIZED = ("-g", "-fsanitize=address,undefined", "-fno-sanitize-recover=all")
 
-# What cures a missing command: the Debian package, if it has another name than the command.
+# The Debian package of a command, if it has another name than the command.
 PACKAGES = {"cc": "gcc", "nm": "binutils", "objdump": "binutils", "readelf": "binutils", "size": "binutils",
             "strip": "binutils", "sha256sum": "coreutils", "rt": "the Rattle kit", "openssl-3.5": "tools/setup.sh",
             "ssss-split": "ssss", "systemd-creds": "systemd", "systemd-analyze": "systemd", "node": "nodejs",

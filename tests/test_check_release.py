@@ -58,7 +58,8 @@ def list_again(dist, name):
     (dist / "SHA256SUMS").write_text((dist / "SHA256SUMS").read_text().replace(old, new))
 
 
-# What is done to dist/, whether the list is signed anew by the maintainer, and the commands that fail: 2, 3 and 4.
+# Each kind of damage: the change to dist/, whether the maintainer signs the list again, and which of the four commands
+# of docs/VERSIONS.md fail.
 DAMAGE = {
     "nothing": (lambda dist: None, False, set()),
     "a changed file": (lambda dist: append(dist / "include/slh.h"), False, {2, 4}),

@@ -22,7 +22,7 @@ int main(void) {
     return slh_lengths(SLH_DSA_SHA2_128S, &pk, &sk, &sig, &n) != SLH_DONE || printf("%zu\\n", sig) < 0;
 }
 """
-# What the scripts take, besides the tools that a test removes or replaces.
+# The commands that the scripts use, besides the tools that a test removes or replaces.
 TOOLS = ["bash", "basename", "cat", "cp", "dirname", "env", "grep", "head", "install", "ld", "ln", "mkdir", "mktemp",
          "python3", "rm", "sed", "sort", "tr", "uname"]
 
@@ -104,7 +104,7 @@ def test_debian_13(pytestconfig):
         pytest.skip(text_of(outcome).splitlines()[0])
 
 
-# ---- what stands in the way
+# ---- missing tools and crates
 
 
 @pytest.fixture

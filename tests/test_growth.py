@@ -74,9 +74,9 @@ def slow(words, threads=0, texts=0, least=50):
     return pytest.param(threads, texts, least, words, id=" ".join(it[:20] for it in words), marks=pytest.mark.slow)
 
 
-# Of each: how many threads it starts, how many texts of `clap` it may omit at most, and how many growths have to refuse
-# it at least. Without a growth for the start of a thread, the work is done on the thread that asked. How often such a
-# growth is met differs: if several threads ask, it may have another number in each run.
+# For each command line: the number of threads that it starts, the most texts of `clap` that it may omit, and the least
+# number of growths that refuse it. If memory for the start of a thread is refused, the calling thread does the work. If
+# several threads ask for memory, such a growth may have another number in each run.
 @pytest.mark.parametrize("threads, texts, least, words", [
     pytest.param(0, 0, 50, [], id="nothing"),
     slow(["params"]),

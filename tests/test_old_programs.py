@@ -18,7 +18,7 @@ from support import HERE, TESTS, VECTORS, need, passed_by, refused, run, succeed
 
 STRICT = ("-std=c99", "-Wall", "-Wextra", "-Werror", "-pedantic")
 OLD = ("0.9.1", "0.13.0")
-# What programs of these releases ask for. tools/version.py leaves it as it is.
+# The shared object that programs of these releases load. tools/version.py does not change this name.
 OLD_NAME = f"libslh.so.{0}"
 # The set 128f: its number in C, n, and the six numbers of its record.
 SET, N, SIX = 2, 16, bytes([16, 4, 3, 22, 6, 33])

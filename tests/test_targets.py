@@ -13,14 +13,14 @@ from conftest import STRICT
 from machines import LIBRARY_CALLS, OF_C, OTHERS, VERIFY_CALLS, counted, of_kind, symbols, text_of
 from support import TESTS, need, run, succeed
 
-# The compiler's triple of each target with Linux, its name for qemu, that of a machine in a wheel's tags, and its name for CMake.
+# For each target with Linux: the triple of its compiler, and its names for qemu, in a wheel's tags, and for CMake.
 LINUX = {
     "aarch64": ("aarch64-linux-gnu", "aarch64", "aarch64", "aarch64"),
     "riscv64": ("riscv64-linux-gnu", "riscv64", "riscv64", "riscv64"),
     "armv7": ("arm-linux-gnueabihf", "arm", "armv7l", "armv7l"),
 }
 MACOS = {"macos-arm64": "ARM64", "macos-x86-64": "X86_64"}
-# Of libslh.a for macOS: what each Mac has beside the calls of C, and which names of its own no other file sees.
+# For libslh.a of macOS: calls of a Mac's C library that are not in the C standard, and its own names, which are hidden.
 OF_MACOS = ["bzero", "__bzero"]
 OWN = r"_slh_\w+_(v[23]|proved)|_slh_clear"
 

@@ -34,7 +34,7 @@ print(count)"""
 
 DIGITS = re.compile("([0-9a-f]{2})*")
 FLAG = re.compile("[A-Z][A-Za-z]+")
-# What each member is: a type, the whole of a text, a list of such, or an object; "*" is any name.
+# The form of each member: a type, a pattern of the whole text, a list of one form, or an object; "*" is any name.
 TEST = {"tcId": int, "comment": str, "msg": DIGITS, "ctx": DIGITS, "sig": DIGITS, "result": re.compile("valid|invalid"),
         "flags": [FLAG]}
 GROUP = {"type": re.compile("SlhDsaVerify"), "source": {"name": str, "version": re.compile(r"\d+\.\d+\.\d+")},

@@ -29,7 +29,7 @@ ROWS = [
     ("sign, computed two times", "slh_sign_twice", "sign", "sign sign_with", "Sign", "sign", "sign",
      "(Signature.sign)"),
     ("sign, computed once", "slh_sign", "once", "once", "Once", "once", "once", "once"),
-    ("the deprecated word for two", NONE, "twice", "twice", "Twice", "twice", "twice", "twice"),
+    ("the deprecated option for two computations", NONE, "twice", "twice", "Twice", "twice", "twice", "twice"),
     ("verify before release", NONE, "verify", "verify", "Verify", "verify", "verify", "verify verified"),
     ("sign without a randomizer", NONE, "deterministic", "Deterministic", "Deterministic", "deterministic",
      "deterministic", "deterministic"),
@@ -87,7 +87,7 @@ ROWS = [
     ("the version", "slh_version", NONE, "version", "Version", "version", "version", NONE),
     ("the level of the processor", "slh_level", NONE, NONE, NONE, NONE, NONE, NONE),
 ]
-# The part that the words of a row share, where it is not the word that most languages have.
+# The part that all words of a row share, for rows in which no single word is the usual one.
 STEMS = {"one signature as jobs": "join", "read DER": "der", "write DER": "der", "read PEM": "pem", "write PEM": "pem",
          "overwrite a key": "erase", "read a key file": "load"}
 X509 = "named as in `crypto/x509`"
@@ -102,16 +102,18 @@ REASONS = {
     ("a secret key of bytes", "Go"): OF_KEY, ("a secret key of bytes", "Python"): OF_KEY,
     ("a secret key of bytes", "JavaScript"): OF_KEY, ("a secret key of bytes", "Java"): OF_KEY,
     ("a public key of bytes", "Rust"): OF_KEY, ("a public key of bytes", "Java"): OF_KEY,
-    ("the bytes of a key", "C++"): "a view of them, not a copy", ("the bytes of a key", "Rust"): "borrowed",
+    ("the bytes of a key", "C++"): "a view of them, not a copy",
+    ("the bytes of a key", "Rust"): "a borrow of them, not a copy",
     ("the bytes of a key", "Go"): "as `crypto/ecdh` names it",
     ("read a key file", "Go"): "as `os.ReadFile`", ("write a key file", "Go"): "as `os.WriteFile`",
-    ("read the text of a key file", "Rust"): "of `io::Read`", ("read the text of a key file", "Python"): IN_TEXT,
+    ("read the text of a key file", "Rust"): "named after `io::Read`",
+    ("read the text of a key file", "Python"): IN_TEXT,
     ("write the text of a key file", "Go"): IN_TEXT, ("write the text of a key file", "Python"): IN_TEXT,
     ("write the text of a key file", "JavaScript"): "the opposite of `parse`",
-    ("read DER", "Go"): X509, ("write DER", "Go"): X509, ("write DER", "Java"): "of `java.security.Key`",
+    ("read DER", "Go"): X509, ("write DER", "Go"): X509, ("write DER", "Java"): "as `java.security.Key` names it",
     ("read PEM", "Java"): "calls of `SlhPem`", ("write PEM", "Java"): "a call of `SlhPem`",
     ("lengths of a set", "Java"): "three calls of `SlhSet`",
-    ("the context", "C"): "`ctx` in FIPS 205",
+    ("the context", "C"): "as FIPS 205 names it",
     ("the type of a refusal", "C++"): "thrown for 38 Fault, too, as Rust's `Error`",
 }
 # Deprecated names: the language, the name, the name to write instead, the file, and its mark in the language's manner.
@@ -253,9 +255,10 @@ def cell_text(cell):
 def page():
     lines = [
         "# The calls in each language", "",
-        "For programmers: what is a call of C named in my language? `tools/calls.py` writes this page out of the",
-        "headers and the packages. A test finds a call that is missing here, or gone.", "",
-        "`its` precedes a call of the language's library. [Packages](README.md) has the rules that all share.", "",
+        "For programmers: what is the name of each call in my language? `tools/calls.py` writes this page from the",
+        "headers and the packages. A test finds a call that is missing here, or no longer there.", "",
+        "`its` marks a call of the language's own library; a dash means that the language has no such call.",
+        "[Packages](README.md) has the rules that all packages share.", "",
         "| subject | " + " | ".join(LANGUAGES) + " |", "|" + (len(LANGUAGES) + 1) * "---|",
     ]
     for subject, *cells in ROWS:
@@ -265,7 +268,7 @@ def page():
 
 def pages_end():
     """The lines of the page behind the table of calls."""
-    lines = ["", "## Other words", "", "These languages have other words than the rest:", "",
+    lines = ["", "## Other words", "", "These languages use another word than most:", "",
              "| subject | language | reason |", "|---|---|---|"]
     of_reason = collections.defaultdict(list)
     for (subject, language), reason in REASONS.items():
@@ -273,9 +276,9 @@ def pages_end():
     lines += [f"| {subject} | {', '.join(languages)} | {reason} |"
               for (subject, reason), languages in of_reason.items()]
     lines += ["", "## Deprecated names", "",
-              "They work as before. Two computations are the default, so `twice` is left out. A test finds a name",
-              "without its mark. C++ marks it in a comment, since compilers would else warn of each `Options`.", "",
-              "| language | name | write |", "|---|---|---|"]
+              "They work as before. Two computations are the default, so omit `twice`. Each language marks the names",
+              "as deprecated, and a test checks that. C++ marks in a comment: compilers would warn of each `Options`.",
+              "", "| language | name | write instead |", "|---|---|---|"]
     lines += [f"| {language} | `{name}` | {f'`{new}`' if new else 'nothing'} |"
               for language, name, new, *_ in DEPRECATED]
     return [*lines, ""]

@@ -11,8 +11,9 @@
 # x86-64 for the level that this processor has. RUSTFLAGS, if it is set, decides in place of the level. CC names the C
 # compiler, which links. Debian's cross compiler is the default for TRIPLE.
 #
-# The crates that the Rust takes are those of Debian's packages, if all four are there. Otherwise cargo finds them as it
-# is set up, on crates.io by default. A missing tool or crate is named, with the status 2.
+# cargo takes the four crates that the Rust uses from Debian's packages, if all are installed. Otherwise it takes them
+# from the source that it is configured for, by default crates.io. If a tool or a crate is missing, the script names it
+# and ends with status 2.
 set -euo pipefail
 here=$(cd "$(dirname "${BASH_SOURCE[0]}")/.." && pwd)
 registry=${SLH_CRATES-/usr/share/cargo/registry}
@@ -85,7 +86,7 @@ build() {
 calls() { (cd "$here/c/include" && sed -nE 's/^(uint32_t |void |const char \*)(slh_[a-z_]+)\(.*/\2/p' "$@"); }
 
 # Joins the objects of an archive that the calls of these headers need, and hides all other names: NAME HEADER.. The
-# bitcode in Rust's own library goes: joined it can't be read any more. So do names that nothing refers to: a program
+# bitcode of Rust's own library is removed, since it can't be read after objects are joined. So do names that nothing refers to: a program
 # could not be linked with a shared object that asks for calls of a later glibc.
 join() {
     local name=$1 archive=$work/target/$triple/release/$1.a

@@ -1,10 +1,10 @@
 #!/usr/bin/env bash
-# Installs the library for C: the one of the release in dist/ where the sources are those that it was built of and each
-# file has the hash that is listed; else one that it builds.
+# Installs the library for C. It takes the release in dist/ if that was built from these sources, and each file has the
+# hash that SHA256SUMS lists. Otherwise it builds the library.
 #
 #   PREFIX/include/slh.h            the header, which includes
 #   PREFIX/include/slh.hpp          types for C++17 over slh.h
-#   PREFIX/include/slh_verify.h     what verifies, the numbers and the lengths
+#   PREFIX/include/slh_verify.h     the calls that verify, the numbers and the lengths
 #   PREFIX/include/slh_internal.h   the calls for test vectors of the internal functions
 #   PREFIX/lib/libslh.a             all calls, with code for the levels x86-64-v2, -v3 and -v4: the best one runs
 #   PREFIX/lib/libslh-v2.a, libslh-v3.a, libslh-v4.a   the same for one level each
@@ -19,8 +19,8 @@
 # usage: tools/library.sh [--after-ci | --dist DIST] [--target TARGET] PREFIX
 #        tools/library.sh --from-source [--target TRIPLE] PREFIX
 #
-# --from-source builds by cargo and stock rustc, without the kit: tools/from_source.sh says for which targets, and of
-# what. It installs libslh.a, libslh.so.0 and libslh_verify.a with one level of code, and all that lies beside them.
+# --from-source builds by cargo and stock rustc, without the kit: tools/from_source.sh lists the targets and the tools.
+# It installs libslh.a, libslh.so.0 and libslh_verify.a with one level of code, and the headers and other files above.
 #
 # TARGET is x86-64, as without it, or one of tools/target.sh. The archives for one level are for x86-64 alone. Of a
 # module for WebAssembly there is PREFIX/lib/slh.wasm alone, of portable the headers, PREFIX/src and what CMake reads.

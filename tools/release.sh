@@ -1,5 +1,5 @@
 #!/usr/bin/env bash
-# Writes the release of this version into dist/, or looks whether dist/ is what the sources give:
+# Writes the release of this version into dist/, or checks that dist/ is what the sources give:
 #
 #   dist/x86-64/                  libslh.a and libslh.so.0, with the code for each level below, and slh, which runs the
 #                                 program of a level where it is installed
@@ -18,10 +18,10 @@
 # usage: tools/release.sh [--after-ci] VERSION     VERSION is that of the file VERSION, and nothing is uncommitted
 #        tools/release.sh [--after-ci] --check [FOLDER]     builds all again and compares, bit for bit
 #
-# `rt check` proves what is not proved yet; under --after-ci nobody looks, since `rt ci` has just proved all. What
-# --check builds is left in FOLDER, where one is given. Its last line is 'N passed, M failed'. Where the sources or the
-# kit are not those of dist/BUILD, or rt is missing, it says so and compares the hashes alone: the status is then 3, and
-# 0 under --after-ci. tools/tag_text.py writes the text of a tag for the release.
+# `rt check` proves each crate that is not proved yet. It does not run with --after-ci: `rt ci` has just proved all.
+# --check leaves its build in FOLDER, if one is named. Its last line is 'N passed, M failed'. If the sources or the kit
+# are not those of dist/BUILD, or rt is missing, it says so and compares only the hashes. The status is then 3, and with
+# --after-ci 0. tools/tag_text.py writes the text of a tag for the release.
 set -euo pipefail
 here=$(cd "$(dirname "${BASH_SOURCE[0]}")/.." && pwd)
 source "$here/tests/counts.sh"

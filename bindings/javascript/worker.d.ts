@@ -10,7 +10,7 @@ export type WorkerOptions = SignOptions & {
         addEventListener(type: "abort", listener: () => void): void;
         removeEventListener(type: "abort", listener: () => void): void;
     };
-    /** What `load` takes, if slh.wasm is not beside the files of the package. */
+    /** The argument for `load`, if slh.wasm is not beside the files of the package. */
     module?: Source;
 };
 

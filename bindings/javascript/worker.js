@@ -10,7 +10,7 @@ import { Fault, Refusal } from "./errors.js";
 import { readOptions, SIGN_OPTIONS } from "./options.js";
 import { start } from "./worker_threads.js";
 
-/** The error that a worker tells of. */
+/** The error that a worker has sent, as an error of its class. */
 function errorOf({ kind, message, number, name }) {
     if (kind === "Refusal") return Object.assign(new Refusal(number, name), { message });
     return kind === "Fault" ? new Fault(message) : new (kind === "TypeError" ? TypeError : Error)(message);

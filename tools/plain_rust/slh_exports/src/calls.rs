@@ -19,9 +19,9 @@ pub unsafe fn output<'a>(at: *mut u8, len: usize) -> &'a mut [u8] {
     if len == 0 { &mut [] } else { unsafe { slice::from_raw_parts_mut(at, len) } }
 }
 
-/// Exports calls of a module of `slh_plain`: `slh_c` or `slh_c_verify`. An argument is a `number`; a `place` of a number
-/// of this type; or an `input` or `output`, a pointer and a length. Each `len` is another name, since each step of the
-/// macro has names of its own.
+/// Exports calls of a module of `slh_plain`: `slh_c` or `slh_c_verify`. An argument is a `number`; a `place`, a pointer
+/// to a number of this type; or an `input` or `output`, a pointer and a length. The parameters named `len` do not
+/// collide, since each step of the macro makes a new name.
 macro_rules! calls {
     (@next [$($call:ident)*] [$($parameter:tt)*] [$($given:expr,)*] $it:ident: number, $($rest:tt)*) => {
         calls! { @next [$($call)*] [$($parameter)* $it: u32,] [$($given,)* $it,] $($rest)* }

@@ -221,7 +221,8 @@ fn pieces<R: Register, A: Copy>(x: A, y: A, operation: impl Fn(R, R) -> R) -> A 
     out
 }
 
-/// Returns the operation on two vectors by the longest registers that fill them. Without such it goes on behind.
+/// Returns the operation on two vectors by the longest registers that fill them. If there are no such registers, the
+/// code after the macro runs.
 macro_rules! by_registers {
     ($x:expr, $y:expr, $operation:expr) => {
         #[cfg(all(target_arch = "x86_64", target_feature = "avx512f"))]
