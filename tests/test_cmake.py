@@ -51,6 +51,7 @@ def test_vectors_over_target(built, name):
     check_script(lines_of(TESTS / "library_vectors.py", "--few", "--through", built / f"calls_{name}"))
 
 
+@pytest.mark.usefixtures("built_by_the_kit")
 @TARGETS
 def test_code_for_the_best_level_runs(configures, tmp_path, name):
     (tmp_path / "level.c").write_text(LEVEL)

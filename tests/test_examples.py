@@ -268,12 +268,14 @@ def keeping(compiled, tmp_path):
 
 
 # A sanitizer's memory is too large to read.
+@pytest.mark.usefixtures("built_by_the_kit")
 @pytest.mark.slow
 @pytest.mark.parametrize("language", [it for it in SIGNING if it != "shared"])
 def test_secret_key_is_erased(signing, lib, letter, keeping, language):
     erases(lib, letter, keeping, *signing(language, "-O2"), letter)
 
 
+@pytest.mark.usefixtures("built_by_the_kit")
 @pytest.mark.slow
 @pytest.mark.parametrize("language", BY_THREADS)
 def test_secret_key_of_threads_is_erased(by_threads, lib, letter, keeping, tmp_path, language):

@@ -70,11 +70,13 @@ def page(env, tmp_path_factory):
     return folder
 
 
+@pytest.mark.usefixtures("built_by_the_kit")
 def test_nothing_erased_is_in_memory(env, page, installed):
     succeed("go", "build", "-o", page / "erased_in_go", "./erased", cwd=page, env=env)
     check_memory(installed / "lib/libslh.so.0", page / "erased_in_go")
 
 
+@pytest.mark.usefixtures("built_by_the_kit")
 def test_code_for_the_best_level_runs(env, page):
     assert says_best_level("go", "run", "./level", cwd=page, env=env)
 

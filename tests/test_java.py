@@ -179,12 +179,14 @@ def test_class_passes_its_tests(own_tests, name):
     check_part(own_tests, f"{name}.")
 
 
+@pytest.mark.usefixtures("built_by_the_kit")
 def test_nothing_erased_is_in_memory(java, env, jar, classes, installed):
     library = installed / "lib/libslh.so.0"
     options = ["-Xmx64m", "-XX:+UseSerialGC"]
     check_memory(library, *java(jar, classes, options=options), "pipitscreen.slh.Erased", env=env)
 
 
+@pytest.mark.usefixtures("built_by_the_kit")
 def test_code_for_the_best_level_runs(java, env, jar, tmp_path):
     (tmp_path / "Level.java").write_text(LEVEL)
     succeed("javac", "-d", tmp_path, "-cp", jar, tmp_path / "Level.java", env=env)

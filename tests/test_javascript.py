@@ -191,6 +191,7 @@ def test_types_name_what_is_exported(node, folder, name, file):
 # ---- secrets
 
 
+@pytest.mark.usefixtures("built_by_the_kit")
 def test_nothing_erased_is_in_memory(node, folder, installed):
     shutil.copy(HERE / "bindings/tests/erased.mjs", folder)
     check_memory(installed / "lib/libslh.so.0", node, "--no-warnings", folder / "erased.mjs")

@@ -347,7 +347,7 @@ def crates(workspace):
 
 @pytest.mark.slow
 def test_clippy_warns_of_nothing(crates):
-    own = [word for it in ("slh_plain", "slh_exports", "slh_library", "slh-sys") for word in ("-p", it)]
+    own = [word for it in ("slh_plain", "slh_exports", "slh_library", "slh_verify_library", "slh-sys") for word in ("-p", it)]
     done = crates.cargo("clippy", *own, "--features", "slh_plain/alloc", "--all-targets", "--", "-D", "warnings")
     assert done.status == 0, done.errors.decode()[-4000:]
 

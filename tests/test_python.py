@@ -116,6 +116,7 @@ def test_wheel_names_its_platforms(wheel):
     assert re.findall("^Tag: (.*)$", text, re.M) == [f"py3-none-{it}" for it in PLATFORMS]
 
 
+@pytest.mark.usefixtures("built_by_the_kit")
 def test_platforms_are_those_of_the_shared_object(installed):
     """It needs no library but that of C, and no symbol of a glibc after the version in the tag. It has three calls."""
     need("readelf")
@@ -232,10 +233,12 @@ def test_commands_of_the_module(python):
     check_script(lines)
 
 
+@pytest.mark.usefixtures("built_by_the_kit")
 def test_nothing_erased_is_in_memory(python, installed):
     check_memory(installed / "lib/libslh.so.0", python, HERE / "bindings/tests/erased.py", env=ENV)
 
 
+@pytest.mark.usefixtures("built_by_the_kit")
 def test_code_for_the_best_level_runs(python):
     assert says_best_level(python, "-c", "import slh; print(slh._library.slh_level())", env=ENV)
 

@@ -86,11 +86,13 @@ def page(tmp_path_factory):
     return ["--manifest-path", folder / "Cargo.toml"]
 
 
+@pytest.mark.usefixtures("built_by_the_kit")
 def test_nothing_erased_is_in_memory(env, built, page, installed):
     succeed("cargo", "build", "-q", "--offline", *page, "--bin", "erased", env=env)
     check_memory(installed / "lib/libslh.so.0", built / "debug/erased")
 
 
+@pytest.mark.usefixtures("built_by_the_kit")
 def test_code_for_the_best_level_runs(env, page):
     assert says_best_level("cargo", "run", "-q", "--offline", *page, "--bin", "level", env=env)
 

@@ -35,24 +35,12 @@ dist=$(cd "$dist" && pwd)
 work=$(mktemp -d)
 trap 'rm -rf "$work"' EXIT
 
-# The second of the last commit, where this is a clone: not of another repository, in which an unpacked tarball may be.
-date_of_files() {
-    if [ -e "$here/.git" ]; then git -C "$here" log -1 --format=%ct; else stat -c %Y "$here/CHANGELOG.md"; fi
-}
-
-[ -n "${SOURCE_DATE_EPOCH-}" ] || SOURCE_DATE_EPOCH=$(date_of_files) || {
-    echo "tools/debian.sh: git does not tell the last commit: set SOURCE_DATE_EPOCH" >&2
-    exit 1
-}
-export SOURCE_DATE_EPOCH
-dated=$(LC_ALL=C date -R -u -d "@$SOURCE_DATE_EPOCH")
+source "$here/tools/debian_parts.sh"
 upstream=$(sed -n 's/^version //p' "$dist/BUILD")
 number=${upstream%%.*}
 shared=libslh.so.$number
 version=$upstream-1
-maintainer="${DEBFULLNAME:-Pipitscreen maintainers} <${DEBEMAIL:-maintainers@users.noreply.pipitscreen.example}>"
 has_share=$(grep -q '  share/' "$dist/SHA256SUMS" && echo yes || echo no)
-escaped=$(sed 's|[\\/&]|\\&|g' <<<"$maintainer") # for sed
 lib=usr/lib/x86_64-linux-gnu
 
 # Begins a package: PACKAGE.
@@ -104,20 +92,10 @@ END
 
 # What each package has in /usr/share/doc: PACKAGE.
 documents() {
-    {
-        echo "slh ($version) unstable; urgency=medium"
-        printf '\n  * Packaged from the files of the release.\n\n'
-        echo " -- $maintainer  $dated"
-    } | gzip -9n | write "usr/share/doc/$1/changelog.Debian.gz"
+    changelog "$version" "Packaged from the files of the release." | gzip -9n |
+        write "usr/share/doc/$1/changelog.Debian.gz"
     gzip -9n <"$here/CHANGELOG.md" | write "usr/share/doc/$1/changelog.gz"
     copyright | write "usr/share/doc/$1/copyright"
-}
-
-# bindings/debian/copyright with the text of LICENSE-MIT, a paragraph of which is ended by a line with a full stop.
-copyright() {
-    sed -n '/^Permission/,$p' "$here/LICENSE-MIT" | sed 's/^$/./; s/^/ /' >"$work/licence"
-    sed -e "s/@COPYRIGHT@/$(sed -n 's/^Copyright (c) //p' "$here/LICENSE-MIT")/" \
-        -e "/^@MIT@\$/{r $work/licence" -e 'd}' "$here/bindings/debian/copyright"
 }
 
 # The packages that these files of a package need: PATH...

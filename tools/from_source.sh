@@ -90,8 +90,8 @@ calls() { (cd "$here/c/include" && sed -nE 's/^(uint32_t |void |const char \*)(s
 join() {
     local name=$1 archive=$work/target/$triple/release/$1.a
     calls "${@:2}" >"$work/calls"
-    "$("$cc" -print-prog-name=ld)" -r --gc-sections $(sed 's/^/-u /' "$work/calls") -o "$work/$name.o" "$archive"
-    "$("$cc" -print-prog-name=objcopy)" --strip-debug --remove-section=.llvmbc --remove-section=.llvmcmd \
+    "$("$cc" -print-prog-name=ld)" -r --gc-sections --force-group-allocation $(sed 's/^/-u /' "$work/calls") -o "$work/$name.o" "$archive"
+    "$("$cc" -print-prog-name=objcopy)" --strip-unneeded --remove-section=.llvmbc --remove-section=.llvmcmd \
         --keep-global-symbols="$work/calls" "$work/$name.o"
 }
 
