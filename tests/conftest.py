@@ -206,8 +206,8 @@ def alone(config, report):
 
 
 def note_failures(config):
-    """Notes each failure for the test command, which prints all of them at its end."""
-    if not os.environ.get("SLH_FAILURES"):
+    """Notes each failure for the test command, which prints all of them at its end. Of two processes the first does."""
+    if not os.environ.get("SLH_FAILURES") or hasattr(config, "workerinput"):
         return
     with open(os.environ["SLH_FAILURES"], "a") as file:
         for report in told.failures:
@@ -513,6 +513,21 @@ def cache_folder(tmp_path_factory):
     return folder if os.access(folder, os.W_OK) else tmp_path_factory.mktemp("compiled")
 
 
+def make_once(folder, part, make):
+    """Makes a folder that stays, as PART at first: a run that is killed leaves it unmade. Of two runs the first one's
+    is taken."""
+    if folder.exists():
+        return
+    shutil.rmtree(part, ignore_errors=True)
+    make(part)
+    try:
+        part.rename(folder)
+    except OSError:
+        shutil.rmtree(part)
+        if not folder.exists():
+            raise
+
+
 def without_folders(words):
     """The words of a compiler without -I and its folder, whose headers are in the text, and without files."""
     words = [str(it) for it in words]
@@ -581,11 +596,7 @@ def debian(pytestconfig, tmp_path_factory):
 
     def makes(name, *packages):
         base = kept / f"debian-{name}-{hashlib.sha256(repr(packages).encode()).hexdigest()[:16]}"
-        if not base.exists():
-            part = kept / f"debian.{os.getpid()}"
-            shutil.rmtree(part, ignore_errors=True)
-            make_base(part, name, packages)
-            part.rename(base)
+        make_once(base, kept / f"debian.{os.getpid()}", lambda part: make_base(part, name, packages))
         made.append(tmp_path_factory.mktemp("debian"))
         return Root(made[-1] / "it", name, base / "root")
 

@@ -90,7 +90,11 @@ class Parts:
         print(f"\n== {shlex.join(words)}", flush=True)
         self.noted.write_text("")
         before = resource.getrusage(resource.RUSAGE_CHILDREN)
-        status, lines = follow(words, float(os.environ.get("SLH_DOTS_AFTER") or 20))
+        try:
+            status, lines = follow(words, float(os.environ.get("SLH_DOTS_AFTER") or 20))
+        except OSError as error:  # it can't be started: all other parts are run
+            status, lines = 127, [str(error)]
+            print(error, flush=True)
         after = resource.getrusage(resource.RUSAGE_CHILDREN)
         with open(self.spent, "a") as file:
             print(after.ru_utime + after.ru_stime - before.ru_utime - before.ru_stime, name, file=file)

@@ -6,6 +6,7 @@ and one kind of randomness."""
 import itertools
 import json
 import os
+import resource
 import sys
 
 import pytest
@@ -226,9 +227,23 @@ def test_group_is_refused(answers, name, value):
 
 @pytest.mark.parametrize("data, line", [
     (b"", "21 NotJson"), (b'{"vsId": 1', "21 NotJson"), (b"\xff{}", "21 NotJson"), (b"{} {}", "21 NotJson"),
-    (100_000 * b"[", "21 NotJson"), (b"7", "24 Bad"), (b"[{}]", "24 Bad"), (b"{}", "23 Missing member algorithm")])
+    (100_000 * b"[", "21 NotJson"), (b'[{"a": NaN}, {}]', "21 NotJson"), (b'{"vsId": -Infinity}', "21 NotJson"),
+    (b"7", "24 Bad"), (b"[{}]", "24 Bad"), (b"[7, {}]", "24 Bad 1"), (b"{}", "23 Missing member algorithm")])
 def test_broken_file_is_refused(answers, data, line):
     assert answers(data) == refused(line)
+
+
+def test_long_message_takes_no_state_for_each_byte(answers):
+    """Python's re stores one for each repetition of a group: 2.5 GB for these 16 MB."""
+    prompt, _, test = small("sigVer", "internal")
+    test["message"] = (32 << 20) * "0"
+    limits = resource.getrlimit(resource.RLIMIT_AS)
+    resource.setrlimit(resource.RLIMIT_AS, (1600 << 20, limits[1]))
+    try:
+        outcome = answers(prompt)
+    finally:
+        resource.setrlimit(resource.RLIMIT_AS, limits)
+    assert not answered(outcome)["testGroups"][0]["tests"][0]["testPassed"]
 
 
 def test_refusal_after_answers_writes_nothing(answers):

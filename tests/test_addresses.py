@@ -53,6 +53,18 @@ def test_module_path_is_written_everywhere(copy):
                                  if (copy / it.relative_to(HERE)).exists()}
 
 
+@pytest.mark.parametrize("path", ["https://other.example/slh", "other.example", "slh/a", "other.example/slh/"])
+def test_path_that_go_refuses_is_named(copy, path):
+    """And nothing is written."""
+    before = texts_of_go(copy)
+    text = (copy / "ADDRESSES").read_text()
+    (copy / "ADDRESSES").write_text(re.sub("^go .*", f"go {path}", text, flags=re.M))
+    for words in ([], ["--check"]):
+        outcome = addresses(copy, *words)
+        assert outcome.status == 1 and f"{path} is no module path of Go" in outcome.errors.decode()
+    assert texts_of_go(copy) == before
+
+
 def test_file_without_the_module_path_is_found(copy):
     path = copy / "bindings/tests/erased.go"
     path.write_text(path.read_text().replace("/slh\"", "/other\""))

@@ -43,6 +43,13 @@ def omit(dist, name):
     (dist / "SHA256SUMS").write_text("".join(kept))
 
 
+def link(path):
+    """Puts a link to a file's bytes elsewhere in its place."""
+    shutil.copy(path, path.parents[2] / "elsewhere")
+    path.unlink()
+    path.symlink_to(path.parents[2] / "elsewhere")
+
+
 def list_again(dist, name):
     """Lists a changed file by its new hash."""
     old = re.search(rf"^(\w+)  {re.escape(name)}$", (dist / "SHA256SUMS").read_text(), re.M)[1]
@@ -62,6 +69,8 @@ DAMAGE = {
     "a changed signature": (lambda dist: append(dist / "SHA256SUMS.sig"), False, {3}),
     "no signature": (lambda dist: (dist / "SHA256SUMS.sig").unlink(), False, {3}),
     "an additional file": (lambda dist: (dist / "x86-64/more.h").touch(), False, {4}),
+    "an additional link": (lambda dist: (dist / "x86-64/more.h").symlink_to("/etc/passwd"), False, {4}),
+    "a link to a file": (lambda dist: link(dist / "include/slh.h"), False, {4}),
     "an omitted file": (lambda dist: omit(dist, "include/slh.h"), True, {4}),
     "a bill of other files": (lambda dist: list_again(dist, "include/slh.h"), True, {4}),
 }
@@ -81,6 +90,8 @@ def test_damage_is_found(clone, name):
     done = {number: clone.run("bash", "-c", line, path=f"{clone.work}/bin:{WITHOUT_KIT}")
             for number, line in enumerate(lines[1:], 2)}
     assert {number for number, it in done.items() if it.status not in (0, 3 * (number == 4))} == wanted
+    said = "SHA256SUMS lists no other file: no\n" in done[4].output.decode()
+    assert said == (name in ("a missing file", "an additional file", "a link to a file", "an omitted file"))
     last = done[4].output.decode().splitlines()[-1]
     assert (", 0 failed" in last) == (4 not in wanted)
     assert 4 in wanted or "SKIPPED, since rt is not on the path" in done[4].output.decode()
@@ -96,7 +107,8 @@ def test_tag_has_the_entry_and_the_hash_of_the_list(release):
     assert hashlib.sha256((release / "SHA256SUMS").read_bytes()).hexdigest() in text
     entries = (HERE / "CHANGELOG.md").read_text().split("\n## ")
     (entry,) = (it for it in entries if it.startswith(f"{version}, "))
-    assert len(text) > 0.7 * len(entry) and "](" not in text and not re.search("^#", text, re.M)
+    plain = re.sub(r"\[([^]]+)\]\([^)]+\)", r"\1", entry.partition("\n")[2]).replace("**", "").split()
+    assert text.split()[-len(plain):] == plain and "](" not in text and not re.search("^#", text, re.M)
 
 
 @pytest.mark.parametrize("old, new, said", [

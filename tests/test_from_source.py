@@ -7,7 +7,6 @@ import os
 import re
 import shutil
 import sys
-import sys
 
 import pytest
 
@@ -16,6 +15,13 @@ from support import HERE, need, run, succeed
 
 LEAST_RUSTC = 1, 85
 SKIPPED = "the library was built from source (tools/plain_rust/README.md tells what it lacks)"
+PROGRAM = """#include <slh.h>
+#include <stdio.h>
+int main(void) {
+    size_t pk, sk, sig, n;
+    return slh_lengths(SLH_DSA_SHA2_128S, &pk, &sk, &sig, &n) != SLH_DONE || printf("%zu\\n", sig) < 0;
+}
+"""
 # The commands that the scripts use, besides the tools that a test removes or replaces.
 TOOLS = ["bash", "basename", "cat", "cp", "dirname", "env", "grep", "head", "install", "ld", "ln", "mkdir", "mktemp",
          "python3", "rm", "sed", "sort", "tr", "uname"]
@@ -63,6 +69,17 @@ def test_library_passes_its_tests(pytestconfig, prefix, file, few):
     assert outcome.status == 0 and counts and int(counts[1]) > 10, text[-4000:]
     skips = re.findall(r"^SKIPPED \[(\d+)\] .*?: (.*)$", text, re.M)
     assert sum(int(it) for it, why in skips if why == SKIPPED) >= 1, skips
+
+
+@pytest.mark.slow
+def test_program_runs_with_the_shared_object(prefix, tmp_path):
+    """It asks for calls with the version of their symbols, as a program that was linked with the kit's."""
+    need("nm")
+    (tmp_path / "it.c").write_text(PROGRAM)
+    succeed("cc", f"-I{prefix}/include", tmp_path / "it.c", f"-L{prefix}/lib", "-lslh", "-o", tmp_path / "it")
+    assert succeed(tmp_path / "it", env={**os.environ, "LD_LIBRARY_PATH": f"{prefix}/lib"}) == b"7856\n"
+    major = (HERE / "VERSION").read_text().split(".")[0]
+    assert f"U slh_lengths@SLH_{major}\n" in succeed("nm", "-D", tmp_path / "it").decode()
 
 
 @pytest.mark.slow

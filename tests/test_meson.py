@@ -1,5 +1,6 @@
 """Builds a program over a clone that is a subproject of Meson: by the archive of the release, by the portable C, and by
 neither if a file of the release is damaged."""
+import re
 import shutil
 
 import pytest
@@ -79,3 +80,20 @@ def test_damaged_file_is_named(project, words, file):
 def test_version_is_that_of_the_repository(project):
     text = build(project).output.decode()
     assert f"slh| Project version: {(HERE / 'VERSION').read_text().strip()}\n" in text
+
+
+# ---- what meson.build names
+
+
+def test_each_header_is_compared():
+    names = re.findall(r"'include/([\w.]+)'", (HERE / "meson.build").read_text())
+    assert sorted(names) == sorted(it.name for it in (HERE / "dist/include").iterdir())
+
+
+@pytest.mark.parametrize("family, number", [("x86_64", 62), ("aarch64", 183), ("riscv64", 243), ("arm", 40)])
+def test_archive_is_of_the_machine(family, number):
+    """By the number in the ELF of its first object."""
+    folder, = re.findall(f"'linux {family} little': '(.*)'", (HERE / "meson.build").read_text())
+    data = (HERE / "dist" / folder / "libslh.a").read_bytes()
+    at = data.index(b"\x7fELF")
+    assert int.from_bytes(data[at + 18:at + 20], "little") == number

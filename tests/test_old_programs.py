@@ -67,8 +67,10 @@ def with_versions(release, tmp_path_factory):
     need("cc")
     folder = tmp_path_factory.mktemp("versions")
     (folder / "symbols").write_bytes(succeed(HERE / "tools/symbols.sh"))
-    succeed("cc", "-shared", f"-Wl,--version-script={folder}/symbols", "-Wl,--whole-archive",
-            release / "x86-64/libslh.a", "-Wl,--no-whole-archive", "-o", folder / "libslh.so")
+    (folder / "other.c").write_text("int slh_other(void) { return 0; }\n")  # no call, so that it is hidden
+    words = ["-shared", "-fPIC", f"-Wl,--version-script={folder}/symbols", folder / "other.c"]
+    succeed("cc", *words, "-Wl,--whole-archive", release / "x86-64/libslh.a", "-Wl,--no-whole-archive", "-o",
+            folder / "libslh.so")
     return folder / "libslh.so"
 
 

@@ -27,7 +27,7 @@ import typing
 import pytest
 
 import library_vectors
-from conftest import cache_folder
+from conftest import cache_folder, make_once
 from packages import count_tests
 from support import HERE, TESTS, best_level, callgrind, need, need_level, run, succeed
 
@@ -205,12 +205,7 @@ def workspace(tmp_path_factory):
     if not folder.exists():
         for old in kept.glob("plain_rust-*"):
             shutil.rmtree(old, ignore_errors=True)
-        part = kept / f"plain_rust.{os.getpid()}"
-        write_workspace(part)
-        try:
-            part.rename(folder)
-        except OSError:  # another process was first
-            shutil.rmtree(part)
+        make_once(folder, kept / f"plain_rust.{os.getpid()}", write_workspace)
     return Workspace(folder, folder / "out/plain_rust", json.loads((folder / "counts.json").read_text()))
 
 

@@ -420,6 +420,12 @@ def test_systemd_finds_a_change_of_the_service(unit, line, by):
     assert unit[1](line, by) != (0, b"", b"")
 
 
+def test_strangers_name_no_files():
+    """Whoever writes into the pipe has files signed: the user and the group of the service alone."""
+    lines = (EXAMPLES / "sign_queue.socket").read_text().splitlines()
+    assert {"SocketUser=sign-queue", "SocketGroup=sign-queue", "SocketMode=0660"} <= set(lines)
+
+
 def test_page_shows_lines_of_the_service():
     """The page of examples explains those that matter for the key."""
     lines = (EXAMPLES / "sign_queue.service").read_text().splitlines()

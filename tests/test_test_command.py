@@ -7,12 +7,13 @@ import shutil
 
 import pytest
 
+from conftest import content_of, make_once
 from copies import WITHOUT_KIT, script, skip_beside_kit
-from support import HERE, run
+from support import HERE, need, run
 
 HARNESS = [
     ".ci/run", "pytest.ini", "tools/test.sh", "tools/released.sh", "tests/budgets.toml", "tests/conftest.py",
-    "tests/copies.py", "tests/parts.py", "tests/provider.py", "tests/support.py"]
+    "tests/copies.py", "tests/debian_roots.py", "tests/parts.py", "tests/provider.py", "tests/support.py"]
 OF_KIT = ["wrong_bodies.py", "tested_bodies.py", "fresh_tests.sh"]
 FOUR = 'echo "4 passed, 0 failed"\n'
 STUB = '#!/bin/sh\necho "${0##*/} $*" >>"$HOME/called"\n'
@@ -161,6 +162,18 @@ def test_failure_of_a_part_is_named(small, status, line, said):
 
 
 @pytest.mark.slow
+@pytest.mark.parametrize("damage", [lambda it: it.chmod(0o644), lambda it: it.unlink()], ids=["a mode", "no file"])
+def test_part_that_is_not_started_is_named(small, damage):
+    """And all other parts are run."""
+    small.add_kit()
+    damage(small.path / "tests/tested_bodies.py")
+    status, lines = small.run("--no-setup")
+    assert failures(lines)[0] == "tests/tested_bodies.py: it printed no counts, and ended with status 127"
+    assert status == 1 and lines[-1] == "17 passed, 1 failed, 0 skipped"
+    assert small.calls()[-1] == "fresh_tests.sh --few"
+
+
+@pytest.mark.slow
 def test_failure_that_a_part_does_not_note_is_named(small):
     small.add_kit()
     script(small.path / "tests/tested_bodies.py",
@@ -193,6 +206,17 @@ def test_failure_of_a_test_is_named(small, text, said, alone):
 
 
 @pytest.mark.slow
+def test_failure_of_one_of_two_processes_is_named_once(small):
+    """Beside the proofs two processes run the tests, if pytest can."""
+    small.add_kit()
+    small.write("tests/test_streams.py", "def test_wrong(): assert False\n")
+    status, lines = small.run("--no-setup")
+    named = [it for it in failures(lines) if not it.startswith(" ")]
+    assert named == ["tests/test_streams.py::test_wrong: assert False"]
+    assert status == 1 and lines[-1] == "21 passed, 1 failed, 0 skipped"
+
+
+@pytest.mark.slow
 @pytest.mark.parametrize("text, said", [
     ("import os\ndef test_ends(): os._exit(0)\n", "pytest: it printed no counts, and ended with status 0"),
     ("import pytest\ndef test_ends(): pytest.exit('early', returncode=0)\n",
@@ -211,6 +235,17 @@ def test_missing_release_is_a_failure(small):
     status, lines = small.run("--no-setup")
     assert status == 1 and failures(lines)[0] == "pytest: it printed no counts, and ended with status 4"
     assert any("--release needs a folder that has a release" in it for it in lines)
+
+
+@pytest.mark.slow
+def test_release_of_an_earlier_run_is_not_tested(small):
+    """If none is built, there is none."""
+    small.add_kit()
+    script(small.path / "tools/release.sh", '#!/bin/sh\necho "0 passed, 1 failed"\nexit 1\n')
+    for it in ("BUILD", "SHA256SUMS"):
+        small.write(f"out/release/{it}", (small.path / "dist" / it).read_text())
+    status, lines = small.run("--no-setup")
+    assert status == 1 and "pytest: it printed no counts, and ended with status 4" in failures(lines)
 
 
 @pytest.mark.slow
@@ -300,6 +335,47 @@ def test_proofs_over_their_budget_are_marked(small):
     lines = small.run("--no-setup")[1]
     over, = {it for it in lines if "OVER ITS BUDGET" in it}
     assert over.startswith("rt ci: ") and any(it.startswith("tools/release.sh: ") for it in lines)
+
+
+# ---- folders that stay
+
+
+@pytest.mark.parametrize("is_second", [False, True], ids=["one run", "a second run"])
+def test_folder_is_made_once(tmp_path, is_second):
+    """Whatever a killed run has left, and if another run has made it meanwhile."""
+    folder, part = tmp_path / "made", tmp_path / "part"
+    (part / "left").mkdir(parents=True)
+
+    def make(path):
+        path.mkdir()
+        (path / "mine").touch()
+        if is_second:
+            (folder / "other").mkdir(parents=True)
+
+    for _ in range(2):
+        make_once(folder, part, make)
+        assert [it.name for it in folder.iterdir()] == ["other" if is_second else "mine"] and not part.exists()
+
+
+@pytest.mark.parametrize("changed", ["it.c", "it.h", "it.a", "it.ld", "the option", None])
+def test_program_is_compiled_again_for_what_changed(tmp_path, changed):
+    """A text, a header, a library, a script of the linker, or an option; and else it is taken as it is."""
+    need("cc")
+    for name, text in {"it.c": '#include "it.h"\n', "it.h": "int a;\n", "it.a": "a", "it.ld": "a"}.items():
+        (tmp_path / name).write_text(text)
+    words = [tmp_path / "it.c", tmp_path / "it.a", "-T", tmp_path / "it.ld"]
+    before = content_of("cc", words)
+    if changed == "the option":
+        words.append("-O2")
+    elif changed:
+        (tmp_path / changed).write_text("int b;\n")
+    assert (content_of("cc", words) == before) == (changed is None)
+
+
+def test_folder_that_is_not_made_stays_unmade(tmp_path):
+    with pytest.raises(FileNotFoundError):
+        make_once(tmp_path / "none/made", tmp_path / "part", lambda part: part.mkdir())
+    assert not (tmp_path / "part").exists()
 
 
 # ---- set-up and words

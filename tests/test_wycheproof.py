@@ -103,6 +103,27 @@ def test_verdicts_are_those_of_the_vectors(files):
                                         for it in all_of(read))
 
 
+def test_flags_name_the_cause(files):
+    """A signature that is valid, a context that is too long, a signature of another length, or none of these."""
+    found = set()
+    for path in files:
+        tests = all_of(json.loads(path.read_text()))
+        length = len(next(it["sig"] for it in tests if it["result"] == "valid"))
+        for it in tests:
+            flag = ("ValidSignature" if it["result"] == "valid" else "BadContext" if len(it["ctx"]) > 510 else
+                    "InvalidSignature" if len(it["sig"]) == length else "BadLength")
+            assert it["flags"] == [flag], (path, it["tcId"])
+            found.add(flag)
+    assert len(found) == 4
+
+
+@pytest.mark.parametrize("count, flag", [(255, "InvalidSignature"), (256, "BadContext")])
+def test_context_is_too_long_from_256_bytes_on(count, flag):
+    said = succeed(sys.executable, "-c", "import sys, wycheproof; print(wycheproof.flag_of({'valid': False, 'signature': "
+                   "'00', 'context': int(sys.argv[1]) * '00'}, 2))", str(count), cwd=VECTORS)
+    assert said.decode().strip() == flag
+
+
 def test_words():
     assert run(SCRIPT).status == 1 and run(SCRIPT, "--help").status == 1
 

@@ -31,6 +31,8 @@ def addresses():
     found = dict(line.split(" ", 1) for line in (ROOT / "ADDRESSES").read_text().splitlines())
     if set(found) != {"report", "repository", "go"} or not all(re.fullmatch(r"\S+", it) for it in found.values()):
         sys.exit("tools/addresses.py: ADDRESSES has the lines `report ADDRESS`, `repository URL` and `go PATH`")
+    if not re.fullmatch(r"[a-z0-9.-]+\.[a-z0-9-]+(/[A-Za-z0-9._~-]+)+", found["go"]):
+        sys.exit(f"tools/addresses.py: {found['go']} is no module path of Go, as example.org/slh")
     return found
 
 

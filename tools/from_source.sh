@@ -4,7 +4,7 @@
 #
 # usage: tools/from_source.sh [--target TRIPLE] FOLDER
 #
-#   FOLDER/libslh.a, FOLDER/libslh.so.0   all calls
+#   FOLDER/libslh.a, FOLDER/libslh.so.N   all calls; N is the first number of the file VERSION
 #   FOLDER/libslh_verify.a                the calls of slh_verify.h alone
 #
 # TRIPLE is a target of rustc for Linux, as aarch64-unknown-linux-gnu. Without it the code is for this machine, and on
@@ -86,7 +86,8 @@ build() {
 calls() { (cd "$here/c/include" && sed -nE 's/^(uint32_t |void |const char \*)(slh_[a-z_]+)\(.*/\2/p' "$@"); }
 
 # Joins the objects of an archive that the calls of these headers need, and hides all other names: NAME HEADER.. The
-# bitcode of Rust's own library is removed, since it can't be read after objects are joined.
+# bitcode of Rust's own library is removed, since it can't be read after objects are joined. So do names that nothing refers to: a program
+# could not be linked with a shared object that asks for calls of a later glibc.
 join() {
     local name=$1 archive=$work/target/$triple/release/$1.a
     calls "${@:2}" >"$work/calls"
@@ -124,7 +125,9 @@ build rustc --release -p slh_library --crate-type staticlib
 build build --release -p slh_verify_library
 join libslh slh.h slh_verify.h slh_internal.h
 archive libslh
-"$cc" -shared -Wl,-soname,libslh.so.0,-z,defs,-z,now -o "$folder/libslh.so.0" "$work/libslh.o"
+"$here/tools/symbols.sh" >"$work/symbols"
+shared=libslh.so.$(cut -d . -f 1 "$here/VERSION")
+"$cc" -shared -Wl,-soname,"$shared",--version-script="$work/symbols",-z,defs,-z,now -o "$folder/$shared" "$work/libslh.o"
 join libslh_verify slh_verify.h
 "$("$cc" -print-prog-name=objcopy)" --weaken "$work/libslh_verify.o"
 archive libslh_verify

@@ -89,7 +89,7 @@ elif [ "$after_ci" = source ]; then
     "$here/tools/from_source.sh" ${target:+--target "$target"} "$work/source"
     "$here/tools/share.sh" "$work"
     cp -r "$here/c/include" "$work/"
-    beside=(share) files=(source/{libslh.a,libslh.so.0,libslh_verify.a})
+    beside=(share) files=(source/{libslh.a,"libslh.so.$(cut -d . -f 1 "$here/VERSION")",libslh_verify.a})
     made=$work version=$(cat "$here/VERSION") how="built from source by $(rustc --version)"
     build=$how
 else

@@ -143,6 +143,8 @@ check() {
     done
     tell "SHA256SUMS lists no other file" "$(diff <(printf '%s\n' "${files[@]}") \
         <(awk '{ print $2 }' "$here/dist/SHA256SUMS") >&2 && echo yes || echo no)"
+    tell "dist/ has files and folders alone" \
+        "$([ -z "$(find "$here/dist" ! -type f ! -type d | tee /dev/stderr)" ] && echo yes || echo no)"
     [ ! -f "$here/dist/SBOM.spdx.json" ] ||
         tell "the bill of materials lists what is in dist/" \
             "$("$here/tools/sbom.py" --check "$here/dist" >&2 && echo yes || echo no)"

@@ -24,6 +24,7 @@ import { byteLength, copyOf, NONE, zeros } from "./bytes.js";
 import { Calls, Scratch } from "./calls.js";
 import { Erased, Fault, Refusal } from "./errors.js";
 import { formatKey, parseKey } from "./key_files.js";
+import { readOptions, SIGN_OPTIONS } from "./options.js";
 import { DIGEST_LENGTHS, NAMES } from "./sets.js";
 
 export { Erased, Fault, Refusal, Trap } from "./errors.js";
@@ -39,7 +40,6 @@ const UNKNOWN_SET = 12;
 const BAD_DIGEST_LENGTH = 16;
 const BAD_RANDOMIZER_LENGTH = 17;
 
-const SIGN_OPTIONS = ["context", "randomizer", "deterministic", "once", "twice", "verify"];
 const VERIFY_OPTIONS = ["context"];
 const INSPECT = Symbol.for("nodejs.util.inspect.custom");
 
@@ -70,28 +70,6 @@ function checkedSet(it) {
 
 function checkedFunction(it) {
     return checkedNumber(it, "a pre-hash function", "SLH_SHA2_256");
-}
-
-/** Whether the prototype is null or an Object.prototype, also of another realm: other ones may have options. */
-function isPlain(it) {
-    if (typeof it !== "object" || it === null) return false;
-    const prototype = Object.getPrototypeOf(it);
-    if (prototype === null) return true;
-    return Object.getPrototypeOf(prototype) === null && Object.hasOwn(prototype, "isPrototypeOf");
-}
-
-/**
- * The options of these names, each read once. A misspelt name is refused. Only own properties are read, so that a
- * changed Object.prototype changes no signature. An object of a class is refused: its getters are inherited.
- */
-function readOptions(it, names) {
-    if (!isPlain(it)) throw new TypeError("options are needed as a plain object, as { context }");
-    const options = { __proto__: null };
-    for (const name of Reflect.ownKeys(it)) {
-        if (!names.includes(name)) throw new TypeError(`there is no option ${String(name)}`);
-        options[name] = it[name];
-    }
-    return options;
 }
 
 function checkedFlags(flags) {

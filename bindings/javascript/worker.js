@@ -7,6 +7,7 @@
  * If a signal ends it, the engine frees its memory, and nobody overwrites that.
  */
 import { Fault, Refusal } from "./errors.js";
+import { readOptions, SIGN_OPTIONS } from "./options.js";
 import { start } from "./worker_threads.js";
 
 /** The error that a worker has sent, as an error of its class. */
@@ -15,7 +16,8 @@ function errorOf({ kind, message, number, name }) {
     return kind === "Fault" ? new Fault(message) : new (kind === "TypeError" ? TypeError : Error)(message);
 }
 
-export async function signInWorker(secret, message, { signal, module, ...options } = {}) {
+export async function signInWorker(secret, message, given = {}) {
+    const { signal, module, ...options } = readOptions(given, [...SIGN_OPTIONS, "signal", "module"]);
     signal?.throwIfAborted();
     const bytes = secret.toBytes();
     let worker;

@@ -1,11 +1,15 @@
 // Workers of Node. package.json puts worker_web.js in its place in bundles for browsers.
 import { parentPort, Worker } from "node:worker_threads";
 
-/** Starts the worker of a file. `heard` gets each message, and `failed` an error that ends the worker. */
+/**
+ * Starts the worker of a file. `heard` gets each message, and `failed` an error that ends the worker, or that it ended: a
+ * promise that has its signature by then ignores that.
+ */
 export function start(url, heard, failed) {
     const worker = new Worker(url);
     worker.on("message", heard);
     worker.on("error", failed);
+    worker.on("exit", () => failed(new Error("the worker of slh ended early")));
     return worker;
 }
 

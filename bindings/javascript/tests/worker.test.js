@@ -1,10 +1,12 @@
 // Signing in a worker: its signature, its errors, and what a signal does.
 import assert from "node:assert/strict";
 import { test } from "node:test";
+import { Worker } from "node:worker_threads";
 
 import { Erased, load, Refusal } from "../slh.js";
 import { signInWorker } from "../worker.js";
-import { module, vectorKey } from "./support.js";
+import { start } from "../worker_threads.js";
+import { isZeros, module, vectorKey } from "./support.js";
 
 const slh = await load(module);
 const message = new TextEncoder().encode("Dear reader,");
@@ -57,6 +59,79 @@ test("errors are those of sign", async () => {
     await assert.rejects(signInWorker(erased, message, { module }), Erased);
 });
 
+test("options are those of sign: own ones of a plain object", async () => {
+    class Options {
+        get context() {
+            return new Uint8Array([1, 2]);
+        }
+    }
+    const ofClass = Object.assign(new Options(), { module });
+    for (const it of [ofClass, Object.create({ module }), { module, [Symbol("context")]: 1 }, null]) {
+        await assert.rejects(signInWorker(key(), message, it), TypeError);
+    }
+    Object.prototype.module = module;
+    const made = signInWorker(key(), message);
+    delete Object.prototype.module;
+    await assert.rejects(made, /slh\.wasm/);
+});
+
 test("a worker without a module says so", async () => {
     await assert.rejects(signInWorker(key(), message, { module: new Uint8Array(3) }), Error);
+});
+
+test("a worker that ends early fails", async () => {
+    const ends = new URL("data:text/javascript,process.exit(0)");
+    const failure = await new Promise((resolve) => start(ends, assert.fail, resolve));
+    assert.match(failure.message, /ended early/);
+});
+
+test("no copy of the key is left by the one that asks", async () => {
+    for (const context of [new Uint8Array(3), new Uint8Array(256), () => 1]) {
+        const bytes = key().toBytes();
+        const made = signInWorker({ set: "SLH-DSA-SHA2-128f", toBytes: () => bytes }, message, { module, context });
+        await made.catch(() => {});
+        assert.ok(bytes.length === 0 || isZeros(bytes)); // given to the worker, or overwritten
+    }
+});
+
+// Runs the worker, and tells whether any of its ArrayBuffers has the start of the key when it sends its answer.
+const WATCHED = `
+const { parentPort } = require("node:worker_threads");
+const First = ArrayBuffer;
+const made = [];
+globalThis.ArrayBuffer = function (length) {
+    made.push(new First(length));
+    return made.at(-1);
+};
+let start;
+parentPort.on("message", ({ bytes }) => {
+    start = Buffer.from(bytes.subarray(0, 16));
+    made.push(bytes.buffer);
+});
+const send = parentPort.postMessage.bind(parentPort);
+parentPort.postMessage = ({ error }) => {
+    send({ name: error?.name, count: made.length, left: made.some((it) => Buffer.from(it).includes(start)) });
+};
+import(${JSON.stringify(new URL("../sign_in_worker.js", import.meta.url).href)}).then(() => send("ready"));
+`;
+
+/** What the worker tells that signs with a context. */
+async function watched(context) {
+    const worker = new Worker(WATCHED, { eval: true });
+    try {
+        return await new Promise((resolve, reject) => {
+            const asked = { set: "SLH-DSA-SHA2-128f", bytes: vectorKey(), message, options: { context }, module };
+            worker.on("error", reject);
+            worker.on("message", (it) => (it === "ready" ? worker.postMessage(asked) : resolve(it)));
+        });
+    } finally {
+        worker.terminate();
+    }
+}
+
+test("no copy of the key is left in the worker", async () => {
+    for (const [length, wanted] of [[3, undefined], [256, "ContextTooLong"]]) {
+        const { name, count, left } = await watched(new Uint8Array(length));
+        assert.deepEqual([name, count > 1, left], [wanted, true, false]);
+    }
 });

@@ -61,7 +61,7 @@ class _Object:
     def data(self, name: str) -> bytes:
         """The bytes of a member of hexadecimal digits."""
         digits = self.get(name, str)
-        if not re.fullmatch("([0-9A-Fa-f]{2})*", digits):
+        if len(digits) % 2 or not re.fullmatch("[0-9A-Fa-f]*", digits):  # a group, repeated, takes 150 bytes a byte
             raise self.stop(_BAD, name)
         return bytes.fromhex(digits)
 
@@ -153,9 +153,14 @@ def _group_answer(mode: str, number: int, group: _Object) -> dict[str, object]:
     return {"tgId": number, "tests": answers}
 
 
+def _no_number(word: str) -> None:
+    """Refuses NaN and Infinity, which are no JSON."""
+    raise ValueError(word)
+
+
 def _parsed(text: bytes) -> object:
     try:
-        return json.loads(text.decode("utf-8"))
+        return json.loads(text.decode("utf-8"), parse_constant=_no_number)
     except (ValueError, RecursionError):
         raise Stop(_NOT_JSON) from None
 
@@ -164,7 +169,8 @@ def response(text: bytes) -> bytes:
     """The response to a prompt. Raises Stop, and Fault as `SecretKey.sign`."""
     value = _parsed(text)
     is_array = isinstance(value, list)
-    head, body = value if isinstance(value, list) and len(value) == 2 else (None, value)
+    head, body = value if isinstance(value, list) and len(value) == 2 else ({}, value)
+    _Object(head, "1")
     prompt = _Object(body, "")
     prompt.word("algorithm", "SLH-DSA")
     prompt.word("revision", "FIPS205")
