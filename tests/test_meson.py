@@ -38,14 +38,16 @@ pytestmark = pytest.mark.slow
 
 @pytest.fixture
 def project(pytestconfig, tmp_path):
-    """A project that has a clone as a subproject, and the file other.ini."""
+    """A project that has a clone as a subproject, and files for other machines."""
     need("meson", "ninja", "cc")
     clone = tmp_path / "subprojects/slh"
     clone.mkdir(parents=True)
     for it in ("meson.build", "VERSION"):
         shutil.copy(HERE / it, clone)
     shutil.copytree(chosen_release(pytestconfig) or HERE / "dist", clone / "dist")
-    for name, text in [("meson.build", PROJECT), ("program.c", PROGRAM), ("other.ini", OTHER_MACHINE)]:
+    armv6 = OTHER_MACHINE.replace("cpu_family = 'loongarch64'", "cpu_family = 'arm'").replace("loongarch64", "armv6l")
+    for name, text in [("meson.build", PROJECT), ("program.c", PROGRAM), ("other.ini", OTHER_MACHINE),
+                       ("armv6.ini", armv6)]:
         (tmp_path / name).write_text(text)
     return tmp_path
 
@@ -54,7 +56,8 @@ def build(project, *words):
     return run("meson", "setup", *words, "built", cwd=project)
 
 
-@pytest.mark.parametrize("words, file", [([], "libslh.a"), (["--cross-file", "other.ini"], "slh.c")])
+@pytest.mark.parametrize("words, file", [
+    ([], "libslh.a"), (["--cross-file", "other.ini"], "slh.c"), (["--cross-file", "armv6.ini"], "slh.c")])
 def test_program_runs(project, words, file):
     """By the archive alone, or by the portable C alone."""
     for it in (project / "subprojects/slh/dist").rglob("*"):
