@@ -56,8 +56,7 @@ def build(project, *words):
     return run("meson", "setup", *words, "built", cwd=project)
 
 
-@pytest.mark.parametrize("words, file", [
-    ([], "libslh.a"), (["--cross-file", "other.ini"], "slh.c"), (["--cross-file", "armv6.ini"], "slh.c")])
+@pytest.mark.parametrize("words, file", [([], "libslh.a"), (["--cross-file", "other.ini"], "slh.c")])
 def test_program_runs(project, words, file):
     """By the archive alone, or by the portable C alone."""
     for it in (project / "subprojects/slh/dist").rglob("*"):
@@ -68,6 +67,12 @@ def test_program_runs(project, words, file):
     succeed("meson", "compile", "-C", "built", cwd=project)
     for name in ("by_subproject", "by_name"):
         assert succeed(project / "built" / name) == b"7856\n"
+
+
+def test_arm_before_version_7_takes_the_c(project):
+    """The archive takes NEON."""
+    (project / "subprojects/slh/dist/armv7/libslh.a").unlink()
+    assert build(project, "--cross-file", "armv6.ini").status == 0
 
 
 @pytest.mark.parametrize("words, file", [
