@@ -38,14 +38,16 @@ pytestmark = pytest.mark.slow
 
 @pytest.fixture
 def project(pytestconfig, tmp_path):
-    """A project that has a clone as a subproject, and the file other.ini."""
+    """A project that has a clone as a subproject, and files for other machines."""
     need("meson", "ninja", "cc")
     clone = tmp_path / "subprojects/slh"
     clone.mkdir(parents=True)
     for it in ("meson.build", "VERSION"):
         shutil.copy(HERE / it, clone)
     shutil.copytree(chosen_release(pytestconfig) or HERE / "dist", clone / "dist")
-    for name, text in [("meson.build", PROJECT), ("program.c", PROGRAM), ("other.ini", OTHER_MACHINE)]:
+    armv6 = OTHER_MACHINE.replace("cpu_family = 'loongarch64'", "cpu_family = 'arm'").replace("loongarch64", "armv6l")
+    for name, text in [("meson.build", PROJECT), ("program.c", PROGRAM), ("other.ini", OTHER_MACHINE),
+                       ("armv6.ini", armv6)]:
         (tmp_path / name).write_text(text)
     return tmp_path
 
@@ -65,6 +67,12 @@ def test_program_runs(project, words, file):
     succeed("meson", "compile", "-C", "built", cwd=project)
     for name in ("by_subproject", "by_name"):
         assert succeed(project / "built" / name) == b"7856\n"
+
+
+def test_arm_before_version_7_takes_the_c(project):
+    """The archive takes NEON."""
+    (project / "subprojects/slh/dist/armv7/libslh.a").unlink()
+    assert build(project, "--cross-file", "armv6.ini").status == 0
 
 
 @pytest.mark.parametrize("words, file", [
