@@ -405,6 +405,25 @@ def lib(installed):
     return installed / "lib"
 
 
+@pytest.fixture
+def file_system(tmp_path):
+    """Mounts a small file system: file_system(SIZE) is its folder."""
+    mounted = []
+
+    def mount(size):
+        need("mount")
+        path = tmp_path / "disk"
+        path.mkdir()
+        if run("mount", "-t", "tmpfs", "-o", f"size={size}", "none", path).status:
+            pytest.skip("a tmpfs can't be mounted (run it as root)")
+        mounted.append(path)
+        return path
+
+    yield mount
+    for it in mounted:
+        succeed("umount", it)
+
+
 @pytest.fixture(scope="session")
 def checked(pytestconfig, kit):
     """The work of `rt ci` or of checks. Beside a release tools/test.sh alone tests it, which has run `rt ci`."""

@@ -15,7 +15,7 @@ import time
 import pytest
 
 from archives import PROGRAM, Manifests, Runs, flip, lines_of, with_times
-from support import PYTHON, run, succeed
+from support import PYTHON, succeed
 
 pytestmark = pytest.mark.slow
 
@@ -415,14 +415,9 @@ def test_full_outputs(them):
 
 
 @pytest.fixture
-def disk(tmp_path):
+def disk(file_system):
     """A small file system."""
-    path = tmp_path / "disk"
-    path.mkdir()
-    if run("mount", "-t", "tmpfs", "-o", "size=128k", "none", path).status:
-        pytest.skip("a tmpfs can't be mounted (run it as root)")
-    yield path
-    succeed("umount", path)
+    return file_system("128k")
 
 
 @pytest.mark.parametrize("rows", ["now and then", "at the end"])

@@ -21,10 +21,10 @@ BY_SET = pytest.mark.parametrize("of_set", ["128s", "128f", "192s", "192f", "256
 # The packages: for Python a folder, for C a program, for Java a jar, with a program that also makes keys of Bouncy
 # Castle.
 BUILD = """
-mkdir -p work/site && cp -r bindings/python/slh work/site/ && cp prefix/lib/libslh.so.0 work/site/slh/
-cc -std=c99 -O1 examples/convert_key.c -I prefix/include prefix/lib/libslh.a -o work/convert_key
-bindings/java/build.sh work/slh.jar
-javac -d work -cp work/slh.jar:$bcprov work/Keys.java
+mkdir -p made/site && cp -r bindings/python/slh made/site/ && cp prefix/lib/libslh.so.0 made/site/slh/
+cc -std=c99 -O1 examples/convert_key.c -I prefix/include prefix/lib/libslh.a -o made/convert_key
+bindings/java/build.sh made/slh.jar
+javac -d made -cp made/slh.jar:$bcprov made/Keys.java
 """
 KEYS = r"""
 import java.nio.file.*;
@@ -90,19 +90,19 @@ ours.write_bytes(base64.b64encode(key.sign(letter)))
 # What the cases have in common. They run with `bash -e`, each in a folder of its own.
 SHARED = """
 bcprov=/usr/share/java/bcprov.jar
-export PYTHONPATH=/slh/work/site
+export PYTHONPATH=/slh/made/site
 by_java() {
     SLH_PREFIX=/slh/prefix java -Xmx256m -XX:TieredStopAtLevel=1 --enable-native-access=ALL-UNNAMED \\
-        -cp "/slh/work/slh.jar:/slh/work:$bcprov" Keys "$@"
+        -cp "/slh/made/slh.jar:/slh/made:$bcprov" Keys "$@"
 }
 # Reads secret.pem and public.pem by each package, and has it write the same bytes.
 is_read_by_all() {
     for kind in secret public; do
-        /slh/work/convert_key $kind.pem >$kind.key
-        /slh/work/convert_key --pem $kind.key | cmp - $kind.pem
+        /slh/made/convert_key $kind.pem >$kind.key
+        /slh/made/convert_key --pem $kind.key | cmp - $kind.pem
         by_java $kind $kind.pem | cmp - $kind.pem
     done
-    python3 /slh/work/read.py
+    python3 /slh/made/read.py
 }
 # What Botan says of a signature of ours. Its status is 0 in any case.
 botan_says() { botan verify --hash= public.pem letter.txt ours.sig | grep -x "Signature is $1"; }
@@ -112,23 +112,23 @@ botan keygen --algo=SLH-DSA "--params=SLH-DSA-SHA2-$1" >secret.pem
 botan pkcs8 --pub-out secret.pem >public.pem
 is_read_by_all
 botan sign --hash= secret.pem letter.txt >botan.sig
-python3 /slh/work/sign.py botan.sig ours.sig
+python3 /slh/made/sign.py botan.sig ours.sig
 botan_says valid
 echo "Dear writer," >letter.txt
 botan_says invalid
 """
 FOR_BOTAN = """
-python3 /slh/work/make.py "$1"
+python3 /slh/made/make.py "$1"
 botan pkcs8 secret.pem | cmp - secret.pem
 botan pkcs8 --pub-out secret.pem | cmp - public.pem
 botan sign --hash= secret.pem letter.txt >botan.sig
-python3 /slh/work/sign.py botan.sig ours.sig
+python3 /slh/made/sign.py botan.sig ours.sig
 botan_says valid
 """
 # Its public key is read as it is. Its private one is refused, and read after the command that the refusal names.
 OF_BOUNCY_CASTLE = """
 by_java bouncy "$1"
-! /slh/work/convert_key bouncy.pem 2>said || exit 1
+! /slh/made/convert_key bouncy.pem 2>said || exit 1
 grep -q 'openssl pkey -in FILE -out NEW' said
 openssl pkey -in bouncy.pem -out secret.pem
 is_read_by_all
@@ -143,7 +143,7 @@ def root(debian, installed):
         copies = shutil.copytree if (HERE / it).is_dir() else shutil.copy
         copies(HERE / it, made.top / "slh" / it)
     shutil.copytree(installed, made.top / "slh/prefix", symlinks=True)
-    work = made.top / "slh/work"
+    work = made.top / "slh/made"
     work.mkdir()
     for name, text in {"Keys.java": KEYS, "read.py": READ, "make.py": MAKE, "sign.py": SIGN}.items():
         (work / name).write_text(text)

@@ -364,15 +364,9 @@ def test_key_of_another_kind_is_refused(example, tmp_path, kind):
 
 
 @pytest.fixture
-def small_disk(tmp_path):
+def small_disk(file_system):
     """A file system without room for a signature."""
-    need("mount")
-    path = tmp_path / "disk"
-    path.mkdir()
-    if run("mount", "-t", "tmpfs", "-o", "size=12k", "none", path).status:
-        pytest.skip("a tmpfs can't be mounted (run it as root)")
-    yield path
-    succeed("umount", path)
+    return file_system("12k")
 
 
 def test_no_part_is_left_on_a_full_disk(example, small_disk):

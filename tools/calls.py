@@ -257,7 +257,7 @@ def page():
         "# The calls in each language", "",
         "For programmers: what is the name of each call in my language? `tools/calls.py` writes this page from the",
         "headers and the packages. A test finds a call that is missing here, or no longer there.", "",
-        "`its` marks a call of the language's own library; a dash means that the language has no such call.",
+        "`its` marks a call of the language's own library. A dash means that the language has no such call.",
         "[Packages](README.md) has the rules that all packages share.", "",
         "| subject | " + " | ".join(LANGUAGES) + " |", "|" + (len(LANGUAGES) + 1) * "---|",
     ]
