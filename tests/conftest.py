@@ -14,6 +14,7 @@ import os
 import pathlib
 import platform
 import random
+import re
 import shlex
 import shutil
 import sys
@@ -104,14 +105,15 @@ def is_chosen_by_name(config):
     return bool(config.option.keyword or config.getoption("lf", False)) or any("::" in it for it in config.args)
 
 
-# Which marker a test has because it takes a fixture.
-MARKER_OF_FIXTURE = {"program": "program", "kit": "kit", "emulated": "emulator"}
+# Which markers a test has because it takes a fixture.
+MARKERS_OF_FIXTURE = {"program": ["program"], "kit": ["kit"], "emulated": ["emulator"], "oracle": ["oracle"],
+                      "debian": ["debian", "release", "slow"]}
 
 
 @pytest.hookimpl(tryfirst=True)
 def pytest_itemcollected(item):
-    for fixture, marker in MARKER_OF_FIXTURE.items():
-        if fixture in item.fixturenames:
+    for fixture, markers in MARKERS_OF_FIXTURE.items():
+        for marker in markers if fixture in item.fixturenames else ():
             item.add_marker(marker)
 
 
@@ -124,10 +126,22 @@ def leave(config, items, left):
 @pytest.hookimpl(trylast=True)
 def pytest_collection_modifyitems(config, items):
     """Leaves out what is not drawn. It is the last one, so that --one takes a test that no other option leaves out."""
+    leave(config, items, [it for it in items if all(is_asked_for(config, it, m) for m in it.iter_markers("asked"))])
     if os.environ["SLH_SEED"] != "all" and not is_chosen_by_name(config):
         leave_what_is_drawn(config, items)
     if config.option.one:
         leave(config, items, list({it.path: it for it in reversed(items)}.values())[::-1])
+
+
+def is_asked_for(config, item, mark):
+    """Whether -k has the whole name of this case, or its file or node id is given, or it failed before and --lf is
+    given."""
+    name, words = item.callspec.params[mark.args[0]], re.findall(r"[\w/]+", config.option.keyword)
+    if {name, name.rpartition("/")[2]} & {*words}:
+        return True
+    if config.getoption("lf", False):
+        return item.nodeid in config.cache.get("cache/lastfailed", {})
+    return any(pathlib.Path(it.split("::")[0]).resolve() == item.path for it in config.args)
 
 
 def leave_what_is_drawn(config, items):
@@ -606,10 +620,9 @@ def skip_unless_asked(config):
 
 
 @pytest.fixture(scope="session")
-def debian(pytestconfig, tmp_path_factory):
-    """Makes a Debian with some packages: debian(NAME, PACKAGE..) is its Root. What it is made of stays in out/tests, by
-    the list of packages, and what a test changes is removed."""
-    skip_unless_asked(pytestconfig)
+def debians(tmp_path_factory):
+    """Makes a Debian with some packages: debians(NAME, PACKAGE..) is its Root. What it is made of stays in out/tests,
+    by the list of packages, and what a test changes is removed."""
     need_roots()
     kept, made = cache_folder(tmp_path_factory), []
 
@@ -622,3 +635,14 @@ def debian(pytestconfig, tmp_path_factory):
     yield makes
     for it in made:
         shutil.rmtree(it)
+
+
+@pytest.fixture(scope="session")
+def asked_for_debian(pytestconfig):
+    skip_unless_asked(pytestconfig)
+
+
+@pytest.fixture(scope="session")
+def debian(asked_for_debian, debians):
+    """The same for tests that are run before a release alone."""
+    return debians

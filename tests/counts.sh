@@ -1,6 +1,5 @@
-# Counts passed, failed and skipped tests, and reads the options that the test scripts have in common. The scripts
-# beside this file, those of bindings/cmake/tests and tools/release.sh read it with `source`, and set `here` to the top
-# folder.
+# Counts passed, failed and skipped tests. The scripts of bindings/cmake/tests and tools/release.sh read it with
+# `source`, and set `here` to the top folder.
 passed=0 failed=0 skipped=0
 
 # Notes a failure in the file SLH_FAILURES, if the test command has set it: it prints all failures again at its end.
@@ -61,23 +60,4 @@ end_counts() {
 nothing_to_test() {
     echo "${0##*/}: $1" >&2
     exit 2
-}
-
-# Reads the options that stand before the other words of a test script, and leaves these in `words`.
-#
-#   --dist DIST   tests a release, a folder as tools/release.sh writes it: `release`, else empty
-#   --few         runs a few tests of each kind: `few` is yes
-take_options() {
-    release= few=no
-    while [[ ${1-} == --dist || ${1-} == --few ]]; do
-        if [ "$1" = --few ]; then
-            few=yes
-        else
-            [ -f "${2-}/BUILD" ] && [ -f "$2/SHA256SUMS" ] || nothing_to_test "--dist needs a folder that has a release"
-            release=$(cd "$2" && pwd)
-            shift
-        fi
-        shift
-    done
-    words=("$@")
 }

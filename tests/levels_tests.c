@@ -92,7 +92,8 @@ static void test_lacking(void) {
  */
 static uint8_t painted[KEY], outputs[KEY];
 static size_t numbers[3];
-static uint32_t jobs_of[1];
+static uint32_t jobs_of[1], verdicts_of[3] = {5, 5, 5};
+static const slh_signed items_of[2];
 
 static void refused(const char *name, uint32_t result) {
     tell(name, result == SLH_OLD_PROCESSOR && memcmp(outputs, painted, KEY) == 0);
@@ -103,6 +104,10 @@ static void refused(const char *name, uint32_t result) {
 #define SIZES(name, parameters, arguments)
 #define HARDENED(name, parameters, arguments) tell("slh_" #name, slh_##name arguments == SLH_HARDENED_INVALID);
 #define VERSION(name, parameters, arguments) tell("slh_" #name, slh_##name arguments == SLH_VERSION_NUMBER);
+/* The refusal is in each verdict, too. */
+#define MANY(name, parameters, arguments)                                                                              \
+    refused("slh_" #name, slh_##name arguments);                                                                       \
+    tell("verdicts", verdicts[0] == SLH_OLD_PROCESSOR && verdicts[1] == SLH_OLD_PROCESSOR && verdicts[2] == 5);
 
 static void test_calls_below_v2(void) {
     const uint32_t set = SET, function = SLH_SHA2_256, xmss_levels = 1, fors_levels = 1, job = 0, refusal = SLH_INVALID;
@@ -112,6 +117,9 @@ static void test_calls_below_v2(void) {
     uint8_t *const sk = outputs, *const pk = outputs, *const start = outputs, *const answer = outputs;
     uint8_t *const sig = outputs, *const scratch = outputs, *const front = outputs;
     char *const name = (char *)outputs;
+    const slh_signed *const items = items_of;
+    uint32_t *const verdicts = verdicts_of;
+    const size_t items_len = 2, verdicts_len = 2;
     const size_t a_len = KEY, b_len = KEY, c_len = KEY, msg_len = KEY, ctx_len = KEY, random_len = KEY;
     const size_t digest_len = KEY, hash_len = KEY, answers_len = KEY, sk_len = KEY, pk_len = KEY, start_len = KEY;
     const size_t answer_len = KEY, sig_len = KEY, scratch_len = KEY, front_len = KEY, name_len = KEY;
@@ -122,6 +130,7 @@ static void test_calls_below_v2(void) {
 #undef OPEN
 #undef SIZES
 #undef HARDENED
+#undef MANY
 #undef VERSION
 #define SECRET(name, parameters, arguments)
 #define OPEN SECRET

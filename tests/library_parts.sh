@@ -1,5 +1,5 @@
-# Functions for scripts that test the library for C: tests/fresh_tests.sh, tests/openssl_programs.sh, tools/depths.sh
-# and bindings/cmake/tests read it with `source`, after tests/counts.sh, with the folders `here` and `work`.
+# Functions for scripts that test the library for C: tools/depths.sh and bindings/cmake/tests read it with `source`, the
+# latter after tests/counts.sh, with the folders `here` and `work`.
 strict=(-Wall -Wextra -Werror -pedantic)
 
 # Whether all of these commands are installed. If one is missing, TARGET is skipped, and the command named.
@@ -57,14 +57,14 @@ of_binutils() {
 tools_of() {
     local triple emulator
     case "$1" in
-    aarch64) triple=aarch64-linux-gnu emulator=qemu-aarch64 ;;
+    aarch64*) triple=aarch64-linux-gnu emulator=qemu-aarch64 ;;
     riscv64) triple=riscv64-linux-gnu emulator=qemu-riscv64 ;;
     armv7) triple=arm-linux-gnueabihf emulator=qemu-arm ;;
     windows-*) triple=x86_64-w64-mingw32 emulator=wine ;;
     *) cc=${CC:-cc} nm=nm linked=(-static) run= && return ;;
     esac
     cc=$triple-gcc nm=$triple-nm linked=(-static)
-    [ "$1" != aarch64 ] || cc=${AARCH64_CC:-$cc} nm=${AARCH64_NM:-$nm}
+    [[ $1 != aarch64* ]] || cc=${AARCH64_CC:-$cc} nm=${AARCH64_NM:-$nm}
     # MinGW's C library prints sizes only if it is told to.
     [ "$emulator" != wine ] || linked+=(-D__USE_MINGW_ANSI_STDIO=1)
     run=$(command -v "$emulator" || command -v "$emulator-static" || echo "$emulator")
@@ -133,15 +133,6 @@ judges_images() {
         says "" 2 "$@" "$work/image" "$work/long.sig" && says "" 2 "$@" "$work/none" "$work/image.sig" &&
         says "" 2 "$@" "$work/image" "$work/none" && says "" 2 "$@" &&
         "$@" "$work/image" "$work/none" 2>&1 | grep -qF "$work/none"
-}
-
-# The Nth block of lines under a heading of a page: PAGE HEADING N.
-lines_of() {
-    awk -v heading="## $2" -v wanted="$3" '
-        /^## / { is_here = $0 == heading; block = 0 }
-        is_here && /^    / && !was_block { block++ }
-        is_here && /^    / && block == wanted { print substr($0, 5) }
-        { was_block = /^    / || (was_block && /^$/) }' "$1"
 }
 
 # Whether a command prints just a LINE and ends with a STATUS.

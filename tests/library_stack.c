@@ -1,8 +1,8 @@
 /*
- * Measures the most bytes of stack that slh_keygen, slh_sign, slh_verify, slh_hash_verify_digest, slh_sign_job and
- * slh_sign_join of each set take: each runs in a thread whose stack was filled with one byte value, and what no longer
- * has it was used. What a thread takes that does nothing is taken off. The last line tells whether all are below the
- * limits, 64 KB, and 32 KB for the two that verify.
+ * Measures the most bytes of stack that slh_keygen, slh_sign, slh_verify, slh_hash_verify_digest, slh_sign_job,
+ * slh_sign_join and slh_verify_many of each set take: each runs in a thread whose stack was filled with one byte value,
+ * and what no longer has it was used. What a thread takes that does nothing is taken off. The last line tells whether
+ * all are below the limits, 64 KB, 32 KB for the two that verify one signature, and 80 KB for slh_verify_many.
  */
 #define _GNU_SOURCE
 #include <slh.h>
@@ -13,7 +13,7 @@
 #include <string.h>
 #include <sys/mman.h>
 
-enum { STACK = 1 << 20, PAINT = 0x5c, SETS = 6 };
+enum { STACK = 1 << 20, PAINT = 0x5c, SETS = 6, EIGHT = 8 };
 
 static uint8_t seeds[3 * SLH_MAX_N], sk[SLH_MAX_SECRET_KEY], sig[SLH_MAX_SIGNATURE], msg[1000], ctx[255];
 static size_t pk_len, sk_len, sig_len, n;
@@ -62,6 +62,16 @@ static void *join(void *it) {
     return it;
 }
 
+/* Eight are hashed side by side. */
+static void *verify_many(void *it) {
+    static slh_signed items[EIGHT];
+    static uint32_t verdicts[EIGHT];
+    for (size_t i = 0; i < EIGHT; i++)
+        items[i] = (slh_signed){sk + 2 * n, pk_len, msg, sizeof msg, ctx, sizeof ctx, sig, sig_len};
+    result = slh_verify_many(set, items, EIGHT, verdicts, EIGHT);
+    return it;
+}
+
 static void begin(void) {
     if (slh_sign_jobs(set, 1, 1, &jobs, &start_len, &answers_len) != SLH_DONE ||
         slh_sign_start(set, sk, sk_len, msg, sizeof msg, ctx, sizeof ctx, seeds, n, start, start_len) != SLH_DONE ||
@@ -91,18 +101,18 @@ int main(void) {
     int is_within = 1;
     size_t thread = used(nothing);
     for (size_t i = 0; i < sizeof seeds; i++) seeds[i] = (uint8_t)i;
-    puts("set   keygen   sign   verify   verify_digest   sign_job   sign_join   bytes");
+    puts("set   keygen   sign   verify   verify_digest   sign_job   sign_join   verify_many   bytes");
     for (set = 1; set <= SETS; set++) {
         if (slh_lengths(set, &pk_len, &sk_len, &sig_len, &n) != SLH_DONE) return 2;
         size_t made = used(keygen) - thread, signed_ = used(sign) - thread, verified = used(verify) - thread;
         size_t by_digest = used(verify_digest) - thread;
         begin();
-        size_t worked = used(job) - thread, joined = used(join) - thread;
+        size_t worked = used(job) - thread, joined = used(join) - thread, many = used(verify_many) - thread;
         free(answers);
-        printf("%s  %6zu %6zu   %6zu          %6zu     %6zu      %6zu\n", names[set - 1], made, signed_, verified,
-               by_digest, worked, joined);
+        printf("%s  %6zu %6zu   %6zu          %6zu     %6zu      %6zu        %6zu\n", names[set - 1], made, signed_,
+               verified, by_digest, worked, joined, many);
         is_within &= made < 65536 && signed_ < 65536 && verified < 32768 && by_digest < 32768;
-        is_within &= worked < 65536 && joined < 65536;
+        is_within &= worked < 65536 && joined < 65536 && many < 81920;
     }
     puts(is_within ? "below the limits" : "over a limit");
     return !is_within;

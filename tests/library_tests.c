@@ -546,6 +546,7 @@ static void names(void) {
         {SLH_BAD_ANSWERS_LENGTH, "BadAnswersLength"},       {SLH_ANSWERS_DISAGREE, "AnswersDisagree"},
         {SLH_NO_SUCH_JOB, "NoSuchJob"},                     {SLH_BAD_START_LENGTH, "BadStartLength"},
         {SLH_BAD_START, "BadStart"},                        {SLH_FAULT, "Fault"},
+        {SLH_SELF_TEST_FAILED, "SelfTestFailed"},
 #ifdef SLH_PORTABLE
         {SLH_NO_MEMORY, "NoMemory"},
 #endif
@@ -585,7 +586,7 @@ static void texts(void) {
         SLH_DONE, SLH_CONTEXT_TOO_LONG, SLH_BAD_LENGTH, SLH_BAD_CUTTING, SLH_NO_SUCH_SET, SLH_NO_SUCH_FUNCTION,
         SLH_BAD_SEED_LENGTH, SLH_BAD_DIGEST_LENGTH, SLH_BAD_RANDOMIZER_LENGTH, SLH_BAD_OUTPUT_LENGTH,
         SLH_NO_SUCH_REFUSAL, SLH_BAD_ANSWERS_LENGTH, SLH_ANSWERS_DISAGREE, SLH_NO_SUCH_JOB, SLH_BAD_START_LENGTH,
-        SLH_BAD_START, SLH_INVALID, SLH_NO_MEMORY, SLH_FAULT, SLH_OLD_PROCESSOR,
+        SLH_BAD_START, SLH_INVALID, SLH_NO_MEMORY, SLH_FAULT, SLH_OLD_PROCESSOR, SLH_SELF_TEST_FAILED,
     };
     const char *none = slh_refusal_text(0xffffffffu);
     size_t found = 0;

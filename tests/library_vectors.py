@@ -23,7 +23,8 @@ Of each test the calls must do what the file states:
 - verify: the call of the test's form is done where `valid` is true, and else invalid. With a pre-hash function both. In
   the pure form, and by the digest, the hardened call has the same verdict; through a program under the s sets alone. In
   the pure form slh_verify_front writes the bytes that FIPS 205 hashes before the message, and slh_verify_hashed has the
-  same verdict by Python's hash of these and the message;
+  same verdict by Python's hash of these and the message. slh_verify_many has it on each of eight such items (through a
+  program, under the f sets, of one), and on one before another message;
 - a row of more.tsv: the key has the row's PK.root. The signature, where there is one, has the row's SHA-256. It is
   valid, and with the row's bit flipped invalid.
 
@@ -41,6 +42,7 @@ import hmac
 import json
 import pathlib
 import shlex
+import struct
 import subprocess
 import sys
 import threading
@@ -137,6 +139,25 @@ def call(name, *arguments):
     function = getattr(library, name)
     function.restype = ctypes.c_uint32
     return function(*words)
+
+
+class Signed(ctypes.Structure):
+    """An item of slh_verify_many."""
+
+    _fields_ = [it for name in ("pk", "msg", "ctx", "sig")
+                for it in ((name, ctypes.c_char_p), (f"{name}_len", ctypes.c_uint64))]
+
+
+def verify_many(number, items):
+    """What slh_verify_many returns for items of four bytes-like parts, and its verdicts."""
+    verdicts = painted(4 * len(items))
+    if is_through:
+        return call("slh_verify_many", number, *sum(items, ()), verdicts), struct.unpack(f"<{len(items)}I", verdicts)
+    given = (Signed * len(items))(*[sum(((it, len(it)) for it in item), ()) for item in items])
+    count = ctypes.c_size_t(len(items))
+    library.slh_verify_many.restype = ctypes.c_uint32
+    result = library.slh_verify_many(ctypes.c_uint32(number), given, count, verdicts, count)
+    return result, struct.unpack(f"={len(items)}I", verdicts)
 
 
 def lengths(number):
@@ -316,6 +337,16 @@ def by_own_hash(test, key, signature):
     return begun if begun != DONE else call("slh_verify_hashed", number, key, state.digest(), signature)
 
 
+def by_many(test, key, signature, wanted):
+    """Whether slh_verify_many has the verdict on each of several such items, and on one before another message."""
+    number = SETS.index(test["set"]) + 1
+    message, context = bytes.fromhex(test["message"]), bytes.fromhex(test["context"])
+    item, count = (key, message, context, signature), 1 if is_through and test["set"].endswith("f") else 8
+    other = key, message + b"x", context, signature
+    well = verify_many(number, [item] * count) == (wanted, (wanted,) * count)
+    return well and verify_many(number, [item, other]) == (INVALID, (wanted, INVALID))
+
+
 def verify_passes(test):
     wanted = DONE if test["valid"] else INVALID
     signature = bytes.fromhex(test["signature"])
@@ -324,6 +355,7 @@ def verify_passes(test):
     name, *arguments = made[-1]
     if test["form"] == "pure" and not verify_only:
         well &= by_own_hash(test, bytes.fromhex(test["pk"]), signature) == wanted
+        well &= by_many(test, bytes.fromhex(test["pk"]), signature, wanted)
     if test["form"] == "internal" or (is_through and not test["set"].endswith("s")):
         return well
     return well and call(f"{name}_hardened", *arguments) == HARDENED[test["valid"]]

@@ -19,8 +19,8 @@ COUNTS = re.compile(r"(\d+) passed, (\d+) failed(?:, \d+ skipped)?")
 CALLS = [f"slh_{it}" for it in """
     answer_place check hash_sign hash_sign_digest hash_sign_digest_twice hash_sign_start hash_sign_twice hash_verify
     hash_verify_digest hash_verify_digest_hardened keygen keygen_job keygen_jobs keygen_join lengths public refusal_name
-    sign sign_internal sign_job sign_jobs sign_join sign_start sign_twice verify verify_front verify_hardened
-    verify_hashed verify_internal version""".split()]
+    self_test sign sign_internal sign_job sign_jobs sign_join sign_start sign_twice verify verify_front verify_hardened
+    verify_hashed verify_internal verify_many version""".split()]
 LIBRARY_CALLS = sorted([*CALLS, "slh_erase", "slh_level", "slh_refusal_text"])
 VERIFY_CALLS = [f"slh_{it}" for it in
                 "hash_verify hash_verify_digest hash_verify_digest_hardened verify verify_hardened version".split()]

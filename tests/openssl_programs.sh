@@ -1,81 +1,24 @@
 #!/usr/bin/env bash
-# Tries the packages libslh0 and slh-openssl with programs that nobody here wrote, in a new Debian 13. The CA of two
-# levels of docs/OPENSSL.md issues the certificates. Each row of that page's table of programs is tried, and the page
-# has to have the table that this makes. nginx, Apache, HAProxy, lighttpd, stunnel, Python, Node and `openssl s_server`
-# speak TLS 1.3 with curl, Python, Node and `openssl s_client`. Installations are broken under nginx, `openssl ca` and
-# Python.
+# Cases of test_openssl_programs.py, which runs each in a new Debian 13. They are shell since they are commands, and
+# that Debian has no pytest.
 #
-# usage: tests/openssl_programs.sh [--few] [--dist DIST]
-#        tests/openssl_programs.sh --table [--dist DIST]      prints the table for the page, and compares nothing
-#        tests/openssl_programs.sh --inside [--table]         in that Debian: what the other two run there
+# usage: tests/openssl_programs.sh FUNCTION [WORD..]     calls one of the functions below, in the folder work/
 #
-# It is run before a release: it takes 1.3 GB of the folder for temporary files and some minutes, and downloads 220 MB
-# the first time (~/.cache/slh has them for the next). --few leaves out all but the table. It needs root on Debian,
-# debootstrap and a mirror of Debian 13, a C compiler and OpenSSL 3.5: otherwise all is skipped. The last line has the
-# counts, and the status is 0 if nothing failed.
+# Servers listen at PORT and the ports above it. The status is that of the function.
 set -u
 here=$(cd "$(dirname "${BASH_SOURCE[0]}")/.." && pwd)
-source "$here/tests/counts.sh"
-inside=no table=no
-if [ "${1-}" = --inside ]; then inside=yes && shift; fi
-if [ "${1-}" = --table ]; then table=yes && shift; fi
-take_options "$@"
-[ ${#words[@]} = 0 ] || nothing_to_test "unknown word: ${words[0]}"
-work=$(mktemp -d)
-chmod 755 "$work"
-source "$here/tests/library_parts.sh"
 export LC_ALL=C.UTF-8
 
-# ---- a Debian 13 with these programs ----
+# ---- certificates ----
 
-programs=(openssl nginx-light apache2 haproxy lighttpd lighttpd-mod-openssl stunnel4 curl wget python3
-    python3-cryptography nodejs php-cli ruby osslsigncode sbsigntool systemd-boot-efi ima-evm-utils valgrind tshark
-    xxd procps)
-
-# A libslh.so.0 of an earlier version, and one in which a call is missing.
-make_wrong_libraries() {
-    local name
-    dpkg -x "$work"/debs/slh-openssl_*.deb "$work/unpacked" &&
-        nm -D --undefined-only "$work"/unpacked/usr/lib/*/ossl-modules/slh.so | sed -nE 's/.* U (slh_[a-z_]*).*/\1/p' \
-            >"$work/calls" || return
-    for name in older lesser; do
-        mkdir -p "$root/slh/$name" && sed 's/.*/unsigned &(void) { return 9000; }/' "$work/calls" |
-            cc -shared -fPIC -Wl,-soname,libslh.so.0 -x c - -o "$root/slh/$name/libslh.so.0" || return
-        sed -i '/slh_sign_join/d' "$work/calls"
-    done
+# The block of lines with a number under a heading of the page: HEADING NUMBER.
+block_of() {
+    awk -v heading="## $1" -v wanted="$2" '
+        /^## / { is_here = $0 == heading; block = 0 }
+        is_here && /^    / && !was_block { block++ }
+        is_here && /^    / && block == wanted { print substr($0, 5) }
+        { was_block = /^    / || (was_block && /^$/) }' "$here/docs/OPENSSL.md"
 }
-
-installs_programs() {
-    local kbuild
-    in_root apt-get -q update &&
-        kbuild=$(in_root apt-cache search --names-only '^linux-kbuild-6' | awk '{ print $1 }' | sort -V | tail -n 1) &&
-        installs_in_root "${programs[@]}" "$kbuild" \
-            $(cd "$root/slh" && printf '/slh/%s ' debs/libslh0_*.deb debs/slh-openssl_*.deb)
-}
-
-outside() {
-    local options=() name="programs of Debian 13"
-    source "$here/tests/debian_roots.sh"
-    trap 'rm -rf --one-file-system "$work"' EXIT
-    has_trixie "$name" && one "packages are made" "$here/tools/debian.sh" ${release:+"$release"} "$work/debs" ||
-        { end_counts; return; }
-    if ! ls "$work"/debs/slh-openssl_*.deb >"$work/said" 2>&1; then
-        skip "$name" "there is no OpenSSL 3.5 here"
-    elif one "a Debian 13 is made" makes_trixie tests examples docs VERSION "$work/debs" &&
-        one "it has the programs" installs_programs && one "wrong libraries are made" make_wrong_libraries; then
-        [ $few = no ] || options=(--few)
-        if [ $table = yes ]; then
-            in_root tests/openssl_programs.sh --inside --table
-        else
-            runs_inside "$name" ${options[@]+"${options[@]}"}
-        fi
-    fi
-    end_counts
-}
-
-# ---- in it: certificates ----
-
-block_of() { lines_of "$here/docs/OPENSSL.md" "$@"; }
 
 # The page's CA, with all that it issues, in the folder of this test. slh.cnf is as it is installed; tls.cnf has the
 # word for TLS, open.cnf activates the provider and requires nothing, and by mute.cnf the provider signs nothing.
@@ -95,7 +38,7 @@ make_self_signed() {
         -subj "/CN=$1" -addext subjectAltName=DNS:localhost -out "$1.pem"
 }
 
-# ---- in it: the table ----
+# ---- the table ----
 
 unchanged() (unset OPENSSL_CONF && "$@")
 
@@ -166,85 +109,36 @@ by_osslsigncode() { osslsigncode sign -certs self.pem -key self.key -in "$efi" -
 by_sbsign() { sbsign --key self.key --cert self.pem --output made "$efi"; }
 efi=/usr/lib/systemd/boot/efi/systemd-bootx64.efi
 
-# A row: PROGRAM, whether it signs under a CONFIGURATION, why not, what to do instead, COMMAND. It is `no` if the
-# command fails, or if the signature that it says it wrote is none; and the default provider then fails, too. A `yes`
-# has to become `no` if the provider signs nothing: so it is this provider that signs.
-row() {
-    local program=$1 wanted=$2 config=$3 why=$4 instead=$5 seen=no
-    shift 5
+# A program signs under a configuration. It signs nothing if the provider signs nothing: so it is this provider that
+# signs. Some commands take what the CA has made: CONFIGURATION COMMAND..
+signs() {
+    local config=$PWD/$1
+    shift
     rm -f made
-    OPENSSL_CONF=$config "$@" >said 2>&1 && seen=yes
-    printf '%s\t%s\t%s\t%s\n' "$program" $seen "$why" "$instead" >>rows
-    [ $seen = "$wanted" ] || { tail -n 5 said && return 1; }
-    if [ $seen = no ]; then
-        ! unchanged "$@"
-    elif [[ " by_ca by_ocsp by_pkcs12 " != *" $1 "* ]]; then
-        rm -f made
-        ! OPENSSL_CONF=$PWD/mute.cnf "$@"
-    fi
+    OPENSSL_CONF=$config "$@" || return
+    [[ " by_ca by_ocsp by_pkcs12 " != *" $1 "* ]] || return 0
+    rm -f made
+    ! OPENSSL_CONF=$PWD/mute.cnf "$@"
 }
 
-# The rows; each is one test, by its group and its program's name.
-try_rows() {
-    local name config=$PWD/slh.cnf whole="SLH-DSA hashes the message itself" pkcs7="PKCS #7 has no SLH-DSA"
-    local use_cms='`openssl cms -sign -md sha256`' package='[our package](../bindings/README.md)'
-    yes_row() { one "$1" row "$1" yes "$config" "" "" "${@:2}"; }
-    no_row() { one "$1" row "$1" no "$config" "${@:2}"; }
-    name_row() { yes_row "TLS 1.3 $1: $2" "$3" "$(echo "${2##* }" | tr A-Z a-z | tr -d '`')"; }
-    : >rows
-    yes_row '`openssl`: `genpkey`, `req`, `x509`, `ca`, `crl`, `verify`' by_ca
-    yes_row '`openssl`: `ocsp`' by_ocsp
-    yes_row '`openssl`: `pkcs12 -export`' by_pkcs12
-    yes_row '`openssl`: `pkeyutl -sign -rawin`' by_openssl pkeyutl -rawin
-    yes_row '`openssl`: `dgst -sign`' by_dgst
-    yes_row '`openssl`: `cms -sign -md sha256`' by_cms -md sha256
-    no_row '`openssl`: `dgst -sha256 -sign`' "$whole" "leave out \`-sha256\`" by_dgst -sha256
-    no_row '`openssl`: `dgst -sign` of over 16 MiB' "\`dgst\` reads no more" '`pkeyutl -sign -rawin`' by_dgst_of_more
-    no_row '`openssl`: `cms -sign` without `-md`' "it finds no digest for the key" "\`-md sha256\`" by_cms
-    no_row '`openssl`: `cms -sign -noattr`' "it would sign a digest" "leave out \`-noattr\`" by_cms -noattr -md sha256
-    no_row '`openssl`: `smime -sign`' "$pkcs7" "$use_cms" by_smime
-    no_row '`openssl`: `ts -reply` with an SLH-DSA key' "$pkcs7; status 0" "an ECDSA key" by_ts
-    yes_row 'languages: Node `crypto.sign(null, ..)`' by_node
-    yes_row 'languages: Ruby `OpenSSL::PKey#sign(nil, ..)`' by_ruby
-    yes_row 'languages: PHP `openssl_sign` with algorithm 0' by_php 0
-    no_row 'languages: Node `crypto.sign` of more than `max_message`' "it says \`invalid data\`" \
-        "raise \`max_message\`" by_long_node
-    one "Node's words for it" node_says_invalid_data
-    no_row 'languages: PHP `openssl_sign` with a digest' "$whole" "algorithm 0" by_php sha256
-    no_row 'languages: Python `cryptography` 43' "it has no SLH-DSA keys" "$package" by_cryptography
-    no_row '`sign-file` of Linux 6.12' "it signs CMS without attributes" "an ECDSA key" by_sign_file
-    no_row '`evmctl ima_sign`' "its format has room for 1 KB; status 0" "an ECDSA key" by_evmctl
-    no_row 'PE files: `osslsigncode`' "$pkcs7" "$use_cms, a separate file" by_osslsigncode
-    no_row 'PE files: `sbsign`' "$pkcs7" "$use_cms, a separate file" by_sbsign
-    config=$PWD/tls.cnf
-    for name in nginx Apache HAProxy lighttpd stunnel Python Node '`openssl s_server`'; do
-        name_row servers "$name" by_server
-    done
-    for name in curl Python Node '`openssl s_client`'; do name_row clients "$name" by_client; done
-    no_row 'TLS 1.3 clients: wget' "it has GnuTLS" "curl" by_client wget
+# The command fails, or the signature that it says it wrote is none. So it does over the default provider.
+signs_not() {
+    local config=$PWD/$1
+    shift
+    rm -f made
+    ! OPENSSL_CONF=$config "$@" && ! unchanged "$@"
 }
 
-# Programs of a group that differ in nothing else share a row.
-print_table() {
-    printf '| program | signs by `slh` | why not | instead |\n|---|---|---|---|\n'
-    awk -F '\t' '{
-        at = index($1, ": ")
-        rest = $2 " | " $3 " | " $4
-        row = substr($1, 1, at) (at ? "" : NR) rest
-        if (row in programs) { programs[row] = programs[row] ", " substr($1, at + 2); next }
-        order[++count] = row; programs[row] = $1; rests[row] = rest
-    } END { for (at = 1; at <= count; at++) print "| " programs[order[at]] " | " rests[order[at]] " |" }' rows
-}
+# ---- TLS ----
 
-# The page has this table.
-page_has_the_table() {
-    diff <(awk '/^## / { here = $0 == "## Programs" } here && /^\|/' "$here/docs/OPENSSL.md") <(print_table)
-}
-
-# ---- in it: TLS ----
-
-ports=8443
 folder_of() { echo "$PWD/servers/$1"; }
+
+# Sets `port` to the next one at which nothing listens.
+next_port() {
+    port=$((ports += 1))
+    while listens; do port=$((ports += 1)); done
+}
+listens() { (: <>"/dev/tcp/127.0.0.1/$port") 2>/dev/null; }
 
 # Each of these writes a server's configuration and starts it, in the background: NAME CERTIFICATE KEY.
 write_nginx() {
@@ -331,10 +225,11 @@ start_s_server() {
 # Starts a server by NAME with CERTIFICATE and KEY, at a port of its own, and waits until it listens.
 start() {
     local turn
-    folder=$(folder_of "$1") port=$((ports += 1))
+    folder=$(folder_of "$1")
+    next_port
     rm -rf "$folder" && mkdir -p "$folder" && chmod 777 "$folder" && "start_$1" "$@" || return
     for turn in {1..100}; do
-        ! (: <>"/dev/tcp/127.0.0.1/$port") 2>/dev/null || return 0
+        ! listens || return 0
         [ ! -s "$folder/pid" ] || kill -0 "$(cat "$folder/pid")" || break
         sleep 0.1
     done
@@ -345,7 +240,7 @@ start() {
 stop() {
     local turn
     [ ! -s "$folder/pid" ] || kill "$(cat "$folder/pid")" 2>/dev/null
-    for turn in {1..50}; do (: <>"/dev/tcp/127.0.0.1/$port") 2>/dev/null || return 0; sleep 0.1; done
+    for turn in {1..50}; do listens || return 0; sleep 0.1; done
 }
 
 # Asks the server for its page, as NAME, trusting a CA; with a client certificate where one is given.
@@ -498,7 +393,7 @@ valgrind_sees_nothing() {
         grep -aq '^Peer signature type: slhdsa_sha2_128f' client.out && ! grep -a '^==' server.out client.out
 }
 
-# ---- in it: broken installations ----
+# ---- broken installations ----
 
 module=/usr/lib/x86_64-linux-gnu/ossl-modules/slh.so library=/usr/lib/x86_64-linux-gnu/libslh.so.0
 
@@ -517,7 +412,8 @@ restore() {
 as_user() { setpriv --reuid=65534 --regid=65534 --clear-groups "$@"; }
 
 runs_nginx() {
-    folder=$(folder_of broken) port=$((ports += 1))
+    folder=$(folder_of broken)
+    next_port
     rm -rf "$folder" && mkdir -p "$folder" && chmod 777 "$folder" || return
     write_nginx nginx "$PWD/ec.pem" "$PWD/ec.key"
     as_user nginx -c "$folder/conf" && { stop || true; }
@@ -575,48 +471,7 @@ stops_by_openssl_cnf() {
     return $status
 }
 
-# ---- all of it ----
-
-inside() {
-    local way program
-    cd "$work" || return
-    umask 022
-    one "the page's CA issues" makes_certificates || { end_counts; return 1; }
-    if [ $table = yes ]; then
-        try_rows >"$work/rows.log" 2>&1
-        print_table
-        return
-    fi
-    try_rows
-    one "the page has the table of programs" page_has_the_table
-    if [ $few = no ]; then
-        one "the code points are Wireshark's" code_points_are_wiresharks
-        one "nginx serves each set" each_set_serves
-        one "a chain of 256f is of two certificates" chains_of_256f
-        one "nginx reloads other certificates" nginx_reloads
-        one "nginx has two certificates" two_certificates
-        one "clients without the provider are refused" others_are_refused
-        one "valgrind sees no error in a handshake" valgrind_sees_nothing
-        for way in at_a_wrong_path without_the_library with_an_older_library with_a_lesser_library \
-            with_an_unreadable_module with_lost_settings; do
-            for program in nginx ca python; do one "$program ${way//_/ } stops" stops $way runs_$program; done
-        done
-        for way in without_the_library with_lost_settings; do
-            for program in apache haproxy lighttpd stunnel node s_server; do
-                one "$program ${way//_/ } stops" stops $way runs_server $program
-            done
-            one "curl ${way//_/ } stops" stops $way runs_curl
-            one "PHP signs nothing ${way//_/ }" stops $way by_php 0
-            one "Ruby signs nothing ${way//_/ }" stops $way by_ruby
-        done
-        for program in nginx ca python; do one "$program by openssl.cnf stops" stops_by_openssl_cnf $program; done
-    fi
-    end_counts
-}
-
-if [ $inside = yes ]; then
-    trap 'rm -rf "$work"' EXIT
-    inside
-else
-    outside
-fi
+umask 022
+mkdir -p "$here/work" && cd "$here/work" || exit
+ports=$((${PORT:-8443} - 1))
+"$@"

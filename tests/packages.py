@@ -1,10 +1,11 @@
-"""What the tests of packages share: the level of this processor, an image to verify, the counts of other runners, and
-the search for secrets in the memory of a program."""
+"""What the tests of packages share: the level of this processor, an image to verify, the counts of other runners,
+the search for secrets in the memory of a program, and a library with another known answer."""
 import contextlib
 import ctypes
 import json
 import os
 import re
+import shutil
 import signal
 import subprocess
 
@@ -193,6 +194,31 @@ def check_memory(library, *command, env=None):
     assert (said, child.returncode) == ("erased\n", 0)
     assert before, "the key is not in memory while it is used"
     assert not after, after
+
+
+# ---- a library with another known answer
+
+
+def with_another_root(data):
+    """The bytes of a library or a program, in which the self-test of the set 128f expects another PK.root."""
+    tests = json.loads((VECTORS / "slh-dsa-sha2-128f.json").read_text())
+    seeds = bytes(range(3 * N)).hex()
+    roots = [bytes.fromhex(it["pk"])[N:] for it in tests if it["kind"] == "keygen" and it["sk"].startswith(seeds)]
+    assert len(roots) == 1
+    parts = [it for it in (roots[0][:8], roots[0][8:]) if it in data]
+    assert parts, "the known root is not there"
+    for it in parts:
+        data = data.replace(it, bytes([it[0] ^ 1]) + it[1:])
+    return data
+
+
+def write_another_library(installed, folder):
+    """A copy of an installed library, whose archive and shared object have another known answer: its prefix."""
+    shutil.copytree(installed, folder / "another", symlinks=True)
+    for name in "libslh.a", "libslh.so.0":
+        path = folder / "another/lib" / name
+        path.write_bytes(with_another_root(path.read_bytes()))
+    return folder / "another"
 
 
 # ---- keys

@@ -1,6 +1,6 @@
 #!/usr/bin/env python3
 """Runs the parts of the test command, which is tools/test.sh, and adds up their counts: pytest and, where rt is, `rt
-ci`, a release, wrong bodies and new machines.
+ci`, a release and wrong bodies.
 
 usage: tests/parts.py whole | quick | release | few
 
@@ -22,14 +22,13 @@ import sys
 import tempfile
 
 COUNTS = re.compile(r"(\d+) passed, (\d+) failed(?:, (\d+) skipped)?")
-# The parts that need rt, or a new Debian: the command of each part by the mode of the test command.
+# The parts that need rt: the command of each part by the mode of the test command.
 WITH_KIT = {
     "rt ci": {"whole": ["rt", "ci"]},
     "tools/release.sh": {"whole": ["tools/release.sh", "--after-ci", "--check", "out/release"]},
     "tests/wrong_bodies.py": {"whole": ["tests/wrong_bodies.py", "--gate"],
                               "quick": ["tests/wrong_bodies.py", "--changed"]},
     "tests/tested_bodies.py": {"whole": ["tests/tested_bodies.py", "--few"]},
-    "tests/fresh_tests.sh": {"whole": ["tests/fresh_tests.sh", "--few"]},
 }
 OF_PYTEST = {"whole": ["--release=out/release"], "release": ["--release=dist"],
              "quick": ["-m", "program or quick", "--program=crates/slh/out/slh"],

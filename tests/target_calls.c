@@ -5,6 +5,7 @@
  * A line is a call: its name, and its arguments between spaces. `nNUMBER` is a number; `bHEX` a pointer to a block of
  * just these bytes, and their number; `pHEX` such a pointer alone, to a number that is written with its lowest byte
  * first. For each line it writes one: the number that is returned, and what the bytes of each b and p are then.
+ * slh_verify_many has four b for each item, and one for the verdicts, four bytes each, the lowest first.
  * tests/target_calls.mjs does the same over WebAssembly. It takes C99 alone, 32 bits or 64, in any order of bytes.
  * With -DVERIFY_ONLY it has the calls of slh_verify.h alone, and with -DBARE it takes no C library (bare.h). With
  * -DHOOKED, too, `hooked` tells how often slh_between_layers was called.
@@ -23,7 +24,11 @@
 #include <string.h>
 #endif
 
+#ifdef VERIFY_ONLY
 enum { MOST = 16 };
+#else
+enum { MOST = 40 };
+#endif
 
 static struct {
     uint32_t number;
@@ -75,17 +80,33 @@ static uint32_t hooked(void) {
 }
 #endif
 
+#ifndef VERIFY_ONLY
+/* The call whose arguments are a number, four of bytes for each item, and those for the verdicts. */
+static uint32_t verify_many(int count) {
+    slh_signed items[MOST / 4];
+    uint32_t verdicts[MOST / 4], result;
+    size_t items_len = 0, verdicts_len = given[count - 1].len / 4;
+    for (int i = 1; i + 4 < count; i += 4)
+        items[items_len++] = (slh_signed){given[i].at,     given[i].len,     given[i + 1].at, given[i + 1].len,
+                                          given[i + 2].at, given[i + 2].len, given[i + 3].at, given[i + 3].len};
+    result = slh_verify_many(N(0), items, items_len, verdicts, verdicts_len);
+    for (size_t at = 0; at < 4 * verdicts_len; at++)
+        given[count - 1].at[at] = (uint8_t)(verdicts[at / 4] >> 8 * (at % 4));
+    return result;
+}
+#endif
+
 #define CALL(name, ...)                                                                                                \
     if (strcmp(call, #name) == 0) return name(__VA_ARGS__)
 
-static uint32_t run(const char *call) {
+static uint32_t run(const char *call, int count) {
     CALL(slh_verify, N(0), B(1), B(2), B(3), B(4));
     CALL(slh_hash_verify, N(0), N(1), B(2), B(3), B(4), B(5));
     CALL(slh_hash_verify_digest, N(0), N(1), B(2), B(3), B(4), B(5));
     CALL(slh_verify_hardened, N(0), B(1), B(2), B(3), B(4));
     CALL(slh_hash_verify_digest_hardened, N(0), N(1), B(2), B(3), B(4), B(5));
 #ifdef VERIFY_ONLY
-    (void)take;
+    (void)take, (void)count;
 #ifdef HOOKED
     if (strcmp(call, "hooked") == 0) return hooked();
 #endif
@@ -94,6 +115,7 @@ static uint32_t run(const char *call) {
     CALL(slh_keygen, N(0), B(1), B(2), B(3), B(4));
     CALL(slh_public, N(0), B(1), B(2));
     CALL(slh_check, N(0), B(1));
+    CALL(slh_self_test, N(0), B(1));
     CALL(slh_sign, N(0), B(1), B(2), B(3), B(4), B(5));
     CALL(slh_hash_sign, N(0), N(1), B(2), B(3), B(4), B(5), B(6));
     CALL(slh_hash_sign_digest, N(0), N(1), B(2), B(3), B(4), B(5), B(6));
@@ -101,6 +123,7 @@ static uint32_t run(const char *call) {
     CALL(slh_hash_sign_twice, N(0), N(1), B(2), B(3), B(4), B(5), B(6), B(7));
     CALL(slh_hash_sign_digest_twice, N(0), N(1), B(2), B(3), B(4), B(5), B(6), B(7));
     CALL(slh_verify_front, N(0), B(1), B(2), B(3), B(4));
+    if (strcmp(call, "slh_verify_many") == 0) return verify_many(count);
     CALL(slh_verify_hashed, N(0), B(1), B(2), B(3));
     CALL(slh_sign_internal, N(0), B(1), B(2), B(3), B(4));
     CALL(slh_verify_internal, N(0), B(1), B(2), B(3));
@@ -177,7 +200,7 @@ int main(void) {
     char call[64];
     int count;
     while ((count = read_line(call, sizeof call)) >= 0) {
-        printf("%u", (unsigned)run(call));
+        printf("%u", (unsigned)run(call, count));
         for (int i = 0; i < count; i++) {
             if (given[i].kind == 'n') continue;
             put_back(i);

@@ -24,6 +24,18 @@ function reserve(end) {
     }
 }
 
+// slh_verify_many of items of four placed arguments each, with the verdicts in the last. An item has 64 bytes: each
+// pointer takes eight, as each length does.
+function verifyMany(set, placed, at) {
+    const parts = placed.slice(0, -1);
+    const [verdicts, verdictsLen] = placed[placed.length - 1];
+    reserve(at + 16 * parts.length);
+    const items = new BigUint64Array(wasm.memory.buffer, at, 2 * parts.length);
+    parts.forEach(([from, len], i) => items.set([BigInt(len === 0 ? 0 : from), BigInt(len)], 2 * i));
+    return wasm.slh_verify_many(
+        set, pointer(at), BigInt(parts.length / 4), pointer(verdicts), BigInt(verdictsLen / 4));
+}
+
 for await (const line of readline.createInterface({ input: process.stdin })) {
     const [call, ...words] = line.split(" ");
     const placed = [];
@@ -42,7 +54,7 @@ for await (const line of readline.createInterface({ input: process.stdin })) {
         if (word[0] === "b") given.push(BigInt(bytes.length));
         at = Math.ceil((at + bytes.length) / 16) * 16;
     }
-    const result = wasm[call](...given) >>> 0;
+    const result = (call === "slh_verify_many" ? verifyMany(given[0], placed, at) : wasm[call](...given)) >>> 0;
     const left = placed.map(([from, len]) => "b" + Buffer.from(wasm.memory.buffer, from, len).toString("hex"));
     console.log([result, ...left].join(" "));
 }

@@ -2,6 +2,7 @@
 added is not. The sources of today are compared with the release in dist/, too. The shared objects here have the version
 script of tools/symbols.sh for the calls of their headers."""
 import pathlib
+import re
 import shutil
 import subprocess
 import sys
@@ -71,6 +72,13 @@ def compared(old, new):
     return done.returncode, done.stdout
 
 
+def as_they_were():
+    """What is said if each call of the release in dist/ is as it was."""
+    words = ["nm", "-D", "--defined-only", HERE / "dist/x86-64" / SHARED]
+    listed = subprocess.run(words, stdout=subprocess.PIPE, text=True, check=True).stdout
+    return f"{len(re.findall(r' T slh_', listed))} calls are as they were\n"
+
+
 @pytest.mark.parametrize("file, old, changed, said", BROKEN.values(), ids=BROKEN)
 def test_what_breaks_programs_is_found(new, file, old, changed, said):
     change(new, file, old, changed)
@@ -83,7 +91,7 @@ def test_what_breaks_programs_is_found(new, file, old, changed, said):
 @pytest.mark.parametrize("file, old, changed", ADDED.values(), ids=ADDED)
 def test_what_is_added_is_no_difference(new, file, old, changed):
     change(new, file, old, changed)
-    assert compare(new) == (0, "33 calls are as they were\n")
+    assert compare(new) == (0, as_they_were())
 
 
 def test_a_release_is_as_it_was(new):
@@ -113,7 +121,7 @@ def old(new, tmp_path_factory):
 
 
 def test_a_release_with_versions_of_symbols_is_as_it_was(old, new):
-    assert compare(new, old) == (0, "33 calls are as they were\n")
+    assert compare(new, old) == (0, as_they_were())
 
 
 @pytest.mark.parametrize("version, said", [("SLH_9", "SLH_9"), ("", "none")])

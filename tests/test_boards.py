@@ -229,7 +229,7 @@ def noise(pytestconfig, kit, tmp_path):
     lacking = run(HERE / "tools/kit.py", "build", "slh_c_verify")
     if lacking.status:
         pytest.skip(lacking.errors.decode().strip())
-    succeed(HERE / "tools/target.sh", "riscv32imac", tmp_path, "--noise", timeout=7200)
+    succeed(HERE / "tools/targets.py", "riscv32imac", tmp_path, "--noise", timeout=7200)
     return tmp_path / "riscv32imac/libslh_verify.a"
 
 

@@ -12,8 +12,6 @@ import pytest
 
 from support import HERE, passed_by
 
-pytestmark = [pytest.mark.debian, pytest.mark.release, pytest.mark.slow]
-
 PROGRAMS = ["openssl", "openjdk-25-jdk-headless", "libbcprov-java", "botan", "python3-pytest", "gcc", "libc6-dev"]
 COPIED = ["tests", "tools", "pytest.ini", "examples", "bindings", "docs", "VERSION", "LICENSE-APACHE", "LICENSE-MIT"]
 BY_SET = pytest.mark.parametrize("of_set", ["128s", "128f", "192s", "192f", "256s", "256f"])

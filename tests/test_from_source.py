@@ -1,7 +1,8 @@
 """Builds the library for C from source, by cargo and stock rustc without the kit (tools/library.sh --from-source), and
 tests it as it is installed: by the tests of the library that need nothing of the kit. What stands in the way is named.
 
-The crates are Debian's, and no network is used.
+The crates are Debian's, and no network is used. `pytest --all` also does so in a new Debian 13, by the lines of the
+page: this takes 2 GB of the folder for temporary files, and downloads 200 MB the first time.
 """
 import os
 import re
@@ -11,9 +12,12 @@ import sys
 import pytest
 
 from packages import text_of
-from support import HERE, need, run, succeed
+from support import HERE, block_of, need, passed_by, run, succeed
 
 LEAST_RUSTC = 1, 85
+PAGE = "tools/plain_rust/README.md"
+SOURCES = ["bindings", "c", "crates", "crates.txt", "docs", "examples", "tests", "tools", "CHANGELOG.md",
+           "CMakeLists.txt", "LICENSE-APACHE", "LICENSE-MIT", "README.md", "SECURITY.md", "VERSION"]
 SKIPPED = "the library was built from source (tools/plain_rust/README.md tells what it lacks)"
 PROGRAM = """#include <slh.h>
 #include <stdio.h>
@@ -89,19 +93,47 @@ def test_package_says_how_it_was_built(prefix):
     assert said == f"built from source by {succeed('rustc', '--version').decode()}"
 
 
-@pytest.mark.debian
-@pytest.mark.slow
-def test_debian_13(pytestconfig):
-    """In a new Debian 13 the lines of the page build the library and a program that signs."""
-    if not pytestconfig.option.all:
-        pytest.skip("a Debian 13 is made with --all alone")
-    need("bash")
-    outcome = run(HERE / "tests/debian_source.sh", cwd=HERE, timeout=7200)
-    last = text_of(outcome).splitlines()[-1]
-    counts = re.fullmatch(r"(\d+) passed, 0 failed(?:, (\d+) skipped)?", last)
-    assert outcome.status == 0 and counts, text_of(outcome)[-4000:]
-    if counts[1] == "0":
-        pytest.skip(text_of(outcome).splitlines()[0])
+# ---- a new Debian 13
+
+
+@pytest.fixture(scope="module")
+def debian_13(debian):
+    """A Debian 13 with the sources, without dist/ and work of the kit, and with the packages that the page names."""
+    made = debian("trixie", "openssl")
+    copied = succeed("tar", "-C", HERE, "-c", "--exclude=out", "--exclude=target", *SOURCES)
+    succeed("tar", "-C", made.top / "slh", "-x", stdin=copied)
+    (made.top / "slh/apt.conf").write_text('APT::Get::Assume-Yes "true";\nAPT::Install-Recommends "false";\n')
+    made.succeed("apt-get", "-q", "update")
+    runs_block(made, 1)
+    return made
+
+
+def runs_block(root, number):
+    """What a block of lines of the page prints there."""
+    return root.succeed("env", "DEBIAN_FRONTEND=noninteractive", "APT_CONFIG=/slh/apt.conf", "bash", "-e", "-c",
+                        block_of(PAGE, "On Debian 13, without a network", number))
+
+
+def test_debian_13_has_neither_the_kit_nor_a_release(debian_13):
+    debian_13.succeed("sh", "-c", "! command -v rt && [ ! -e dist ]")
+
+
+def test_debian_13_builds_a_library_with_the_values_of_the_vectors(debian_13):
+    debian_13.succeed("tools/library.sh", "--from-source", "/slh/made")
+    assert passed_by(debian_13.run("python3", "tests/library_vectors.py", "made/lib/libslh.so", "tests/vectors"))
+
+
+def test_debian_13_runs_the_program_of_the_page(debian_13):
+    """It signs."""
+    assert runs_block(debian_13, 2).splitlines()[-1] == b"17088 bytes, valid"
+
+
+def test_debian_13_builds_the_source_package(debian_13):
+    """And lintian finds no error in its packages."""
+    debian_13.install("build-essential", "debhelper", "lintian")
+    debian_13.succeed("tools/source_package.sh", "/slh/package")
+    debian_13.succeed("bash", "-e", "-c", "cd package/slh-*/ && dpkg-buildpackage -us -uc -b")
+    debian_13.succeed("bash", "-e", "-c", "cd package && lintian --allow-root --fail-on error -- *.changes")
 
 
 # ---- missing tools and crates

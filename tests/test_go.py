@@ -1,11 +1,11 @@
 """Builds and uses the package for Go, over the library as it is installed: its own tests by `go test`, a program of a
-user, and what it leaves in memory. No network is used."""
+user, what it leaves in memory, and a library that fails its self-test. No network is used."""
 import os
 import shutil
 
 import pytest
 
-from packages import GO_MODULE, check_memory, refuses_to_build, says_best_level
+from packages import GO_MODULE, check_memory, refuses_to_build, says_best_level, write_another_library
 from support import HERE, need, run, succeed
 
 PACKAGE = HERE / "bindings/go"
@@ -18,6 +18,21 @@ import "fmt"
 import _ "{GO_MODULE}"
 
 func main() {{ fmt.Println(C.slh_level()) }}
+"""
+SELF_TEST = f"""package main
+
+import (
+	"fmt"
+
+	"{GO_MODULE}"
+)
+
+func main() {{
+	for _, set := range []slh.Set{{slh.SHA2_192f, slh.SHA2_128f}} {{
+		err := set.SelfTest()
+		fmt.Println(err, err == slh.ErrSelfTestFailed)
+	}}
+}}
 """
 
 pytestmark = pytest.mark.slow
@@ -59,10 +74,11 @@ def page(env, tmp_path_factory):
     """The folder of a module over the package, as a user has it."""
     folder = tmp_path_factory.mktemp("page")
     (folder / "main.go").write_text(f'package main\n\nimport _ "{GO_MODULE}"\n\nfunc main() {{}}\n')
-    for name in "erased", "level":
+    for name in "erased", "level", "self_test":
         (folder / name).mkdir()
     shutil.copy(HERE / "bindings/tests/erased.go", folder / "erased/main.go")
     (folder / "level/main.go").write_text(LEVEL)
+    (folder / "self_test/main.go").write_text(SELF_TEST)
     version = (HERE / "VERSION").read_text().strip()
     succeed("go", "mod", "init", "page", cwd=folder, env=env)
     succeed("go", "mod", "edit", "-require", f"{GO_MODULE}@v{version}", "-replace", f"{GO_MODULE}={PACKAGE}",
@@ -79,6 +95,13 @@ def test_nothing_erased_is_in_memory(env, page, installed):
 @pytest.mark.usefixtures("built_by_the_kit")
 def test_code_for_the_best_level_runs(env, page):
     assert says_best_level("go", "run", "./level", cwd=page, env=env)
+
+
+def test_another_answer_of_the_library_is_told(env, page, installed, tmp_path):
+    """By the self-test of its set. That of another set passes."""
+    another = {**env, "CGO_LDFLAGS": f"-L{write_another_library(installed, tmp_path)}/lib"}
+    said = succeed("go", "run", "./self_test", cwd=page, env=another)
+    assert said == b"<nil> false\nslh: 40 SelfTestFailed: an answer of the self-test is not the known one true\n"
 
 
 def test_build_without_the_library_names_what_to_set(env, page):

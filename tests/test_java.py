@@ -1,5 +1,5 @@
 """Builds and uses the package for Java, over the library as it is installed: the jar, its own tests, the lines of its
-README, keytool, and what it leaves in memory.
+README, keytool, what it leaves in memory, and a library that fails its self-test.
 
 It takes a JDK of version 22 or later: that of JAVA_HOME, of the path or below /usr/lib/jvm. The tests of the package
 over Bouncy Castle take BCPROV, or Debian's libbcprov-java."""
@@ -10,7 +10,7 @@ import shutil
 
 import pytest
 
-from packages import check_memory, check_part, lines_of, text_of
+from packages import check_memory, check_part, lines_of, text_of, write_another_library
 from support import HERE, best_level, need, run, succeed
 
 PACKAGE = HERE / "bindings/java"
@@ -84,6 +84,21 @@ class Flips {
             KeyPairGenerator.getInstance("SLH-DSA", new SlhProvider()).generateKeyPair();
         } catch (Refusal fault) {
             System.out.println(fault.name());
+        }
+    }
+}
+"""
+SELF_TEST = """import pipitscreen.slh.*;
+
+class SelfTest {
+    public static void main(String[] words) {
+        for (SlhSet set : new SlhSet[] {SlhSet.SHA2_192F, SlhSet.SHA2_128F}) {
+            try {
+                set.selfTest();
+                System.out.println("passed");
+            } catch (Refusal fault) {
+                System.out.println(fault.number() + " " + fault.name());
+            }
         }
     }
 }
@@ -215,7 +230,7 @@ def test_program_of_the_page_runs(env, jar, installed, tmp_path):
     commands = [re.sub("^bindings", f"{HERE}/bindings", it) for it in blocks("sh") if "tools/library.sh" not in it]
     assert len(commands) == 3
     said = succeed("bash", "-e", "-c", "\n".join(commands), cwd=folder, env={**env, "HOME": str(home)}).decode()
-    wanted = r"true\nSLH-DSA-SHA2-128F private key, SLH-DSA-SHA2-128F, SHA256:[A-Za-z0-9+/]{43}\n"
+    wanted = r"true\ntrue\nSLH-DSA-SHA2-128F private key, SLH-DSA-SHA2-128F, SHA256:[A-Za-z0-9+/]{43}\n"
     assert re.fullmatch(wanted, said), said
 
 
@@ -297,6 +312,14 @@ def test_new_key_with_a_wrong_bit_is_told(java, env, jar, shared, over_the_libra
     (tmp_path / "Flips.java").write_text(FLIPS)
     outcome = run(*java(jar, library=library), tmp_path / "Flips.java", env=env)
     assert outcome[:2] == (0, b"Fault\nFault\n"), text_of(outcome)
+
+
+def test_another_answer_of_the_library_is_told(java, env, jar, installed, tmp_path):
+    """By the self-test of its set. That of another set passes."""
+    (tmp_path / "SelfTest.java").write_text(SELF_TEST)
+    another = write_another_library(installed, tmp_path)
+    said = succeed(*java(jar, library=another / "lib/libslh.so.0"), tmp_path / "SelfTest.java", env=env)
+    assert said == b"passed\n40 SelfTestFailed\n"
 
 
 # ---- programs of the JDK

@@ -167,6 +167,14 @@ def test_valid_and_invalid(compiled, include, lib, source, monkeypatch):
 
 
 @pytest.mark.slow
+def test_many_as_one_by_one(pytestconfig, compiled, include, lib):
+    """slh_verify_many and slh_verify give the same verdicts. Two sets are tried, and all with --all."""
+    program = compiled("many", "-std=c99", *STRICT, *SANITIZED, "-I", include, TESTS / "library_many.c",
+                       lib / "libslh.a")
+    counted(program, *([] if pytestconfig.option.all else ["26"]))
+
+
+@pytest.mark.slow
 def test_answers_that_change_during_a_call(compiled, include, lib):
     counted(compiled("late", "-std=c11", "-O1", *STRICT, "-I", include, TESTS / "library_late.c", lib / "libslh.a",
                      "-pthread"), "1500")

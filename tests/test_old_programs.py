@@ -9,6 +9,7 @@ import hashlib
 import hmac
 import json
 import re
+import sys
 
 import pytest
 
@@ -112,14 +113,14 @@ def test_the_version_of_symbols_follows_the_file(tmp_path, version):
     """And so does the name of the shared object in the table of targets."""
     (tmp_path / "tools").mkdir()
     (tmp_path / "c/exports").mkdir(parents=True)
-    for file in ("tools/symbols.sh", "tools/kit.py", "c/exports/calls.h", "crates.txt"):
+    for file in ("tools/symbols.sh", "tools/kit.py", "tools/targets.py", "c/exports/calls.h", "crates.txt"):
         (tmp_path / file).write_bytes((HERE / file).read_bytes())
         (tmp_path / file).chmod(0o755)
     (tmp_path / "VERSION").write_text(f"{version}\n")
     major = version.split(".")[0]
     assert succeed(tmp_path / "tools/symbols.sh").decode().startswith(f"SLH_{major} {{\n")
-    need("rt")
-    assert f"shared=libslh.so.{major}\n" in succeed(tmp_path / "tools/kit.py", "targets").decode()
+    shared = "import targets; print(targets.TARGETS['aarch64'].shared)"
+    assert succeed(sys.executable, "-c", shared, cwd=tmp_path / "tools").decode() == f"libslh.so.{major}\n"
 
 
 # ---- programs

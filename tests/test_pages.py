@@ -46,7 +46,7 @@ def pages():
     """The pages and headers of the repository, by their paths."""
     found = [*(HERE / it for it in ("README.md", "SECURITY.md", "tests/benches/PROFILES.md"))]
     found += [*HERE.glob("docs/*.md"), *HERE.glob("c/include/*.h*")]
-    found += [it for it in HERE.rglob("README.md") if "out" not in it.parts and it.parent != HERE]
+    found += [it for it in HERE.rglob("README.md") if not {"out", "dist"} & {*it.parts} and it.parent != HERE]
     return sorted({str(it.relative_to(HERE)) for it in found})
 
 

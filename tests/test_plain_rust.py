@@ -102,6 +102,7 @@ BECOMES = [
     ("chains", "fn f() { if a < b && let Some(x) = self.y() { z } else { w } }\n",
      "fn f() { if let (true, Some(x)) = (a < b, self.y()) { z } else { w } }\n"),
     ("exports", "#[unsafe(no_mangle)]\npub extern \"C\" fn f() {}\n", "pub fn f() {}\n"),
+    ("a layout for C", "#[repr(C)]\nstruct S;\n", "#[repr(C)]\nstruct S;\n"),
     ("characters, lifetimes and strings", "fn f<'a>(x: &'a u8) { ('{', b'\\'', \"ghost { // \\\"\", b\"}\") }\n",
      "fn f<'a>(x: &'a u8) { ('{', b'\\'', \"ghost { // \\\"\", b\"}\") }\n"),
 ]
@@ -113,7 +114,7 @@ REFUSED = [
     ("a clause of a closure", "fn f() { let g = |x| requires { x } { x }; }\n"),
     ("a starred clause", "fn f() ensures* a { b } { }\n"),
     ("a macro of the prover", "fn f() { prove!(a); }\n"),
-    ("an attribute", "#[repr(C)]\nstruct S;\n"),
+    ("an attribute", "#[repr(packed)]\nstruct S;\n"),
     ("an import of std", "use std::alloc::Allocator;\n"),
     ("a crate that is not there", "use serde_json::Value;\n"),
     ("unsafe code", "fn f() { unsafe { g() } }\n"),
@@ -220,6 +221,13 @@ def test_folder_with_files_of_others_stays(tmp_path):
 def test_result_is_the_sources_without_ghosts(workspace):
     compared, found = check.differences(workspace.out, workspace.counts, HERE)
     assert compared and not found
+
+
+def test_links_of_the_page_lead_somewhere(workspace):
+    """They lead on from a folder three below the top, as dist/rust/slh and out/plain_rust/slh are."""
+    links = re.findall(r"\]\((\.\./[^)#]+)", (workspace.out / "slh/README.md").read_text())
+    lost = [it for it in links if not pathlib.Path(os.path.normpath(HERE / "dist/rust/slh" / it)).is_file()]
+    assert links and not lost
 
 
 # ---- wrong generators

@@ -3,7 +3,7 @@ and all refusals (provider_tests.c), junk for each parameter (provider_junk.c), 
 (provider_pieces.c), also under sanitizers; many loads under valgrind; and what the module has.
 
 Keys, certificates and CMS are in test_provider_certificates.py, configurations and broken installations in
-test_provider_settings.py, TLS in test_provider_tls.py, and other programs in openssl_programs.sh.
+test_provider_settings.py, TLS in test_provider_tls.py, and other programs in test_openssl_programs.py.
 """
 import hashlib
 import json

@@ -3,12 +3,13 @@
 Each example signs files that a pipe names, while its counters are read by the parser of Debian's
 python3-prometheus-client. Then the package slh verifies the signatures. A process that is ended by force has to be
 told. After SIGTERM each name is signed, named as a failure, or still in the queue. Folders are synced, which strace
-shows. systemd-analyze looks at the units."""
+shows. systemd-analyze looks at the units. The service does not start by a program that fails its self-test."""
 import contextlib
 import fcntl
 import os
 import pathlib
 import re
+import shlex
 import shutil
 import signal
 import socket
@@ -21,6 +22,7 @@ import urllib.request
 import pytest
 
 from conftest import STRICT
+from packages import with_another_root
 from support import HERE, PATIENCE, PYTHON, free_port, need, run, succeed
 
 EXAMPLES = HERE / "examples"
@@ -139,9 +141,9 @@ def in_c(compiled, installed_as_is):
 
 
 @pytest.fixture(scope="module")
-def in_go(installed_as_is, tmp_path_factory):
+def in_go(installed, tmp_path_factory):
     need("go", "gcc")
-    prefix, work = installed_as_is, tmp_path_factory.mktemp("go")
+    prefix, work = installed, tmp_path_factory.mktemp("go")
     settings = {"CGO_ENABLED": "1", "CGO_CFLAGS": f"-I{prefix}/include", "CGO_LDFLAGS": f"-L{prefix}/lib",
                 "GOCACHE": str(work / "cache"), "GOPATH": str(work / "path"), "GOFLAGS": "-mod=readonly",
                 "GOPROXY": "off"}
@@ -379,6 +381,9 @@ def test_no_part_is_left_on_a_full_disk(example, small_disk):
 
 # ---- the units of systemd
 
+# The command of the service that runs the self-test.
+SELF_TEST = "/usr/local/bin/sign_queue --self-test ${CREDENTIALS_DIRECTORY}/key"
+
 
 @pytest.fixture
 def unit(tmp_path):
@@ -388,11 +393,11 @@ def unit(tmp_path):
     for name in "slh", "sign_queue":
         (tmp_path / name).symlink_to("/bin/true")
     file, text = tmp_path / "sign_queue.service", (EXAMPLES / "sign_queue.service").read_text()
-    text = text.replace("/usr/local/bin/", f"{tmp_path}/")
 
     def outcome_of(line="", by=""):
         assert not line or f"\n{line}\n" in text
-        file.write_text(text.replace(f"\n{line}\n", f"\n{by}\n") if line else text)
+        changed = text.replace(f"\n{line}\n", f"\n{by}\n") if line else text
+        file.write_text(changed.replace("/usr/local/bin/", f"{tmp_path}/"))
         return run("systemd-analyze", "verify", file)
 
     return file, outcome_of
@@ -409,9 +414,42 @@ def test_systemd_takes_the_service(unit):
     ("LimitCORE=0", "LimitCore=0"),
     ("Requires=sign_queue.socket", "Requires=none.socket"),
     ("ProtectSystem=strict", "ProtectSystem=stricter"),
-], ids=["another word", "no socket", "another value"])
+    (f"ExecStartPre={SELF_TEST}", f"ExecStartPre={SELF_TEST.replace('/sign_queue', '/none')}"),
+], ids=["another word", "no socket", "another value", "no self-test"])
 def test_systemd_finds_a_change_of_the_service(unit, line, by):
     assert unit[1](line, by) != (0, b"", b"")
+
+
+def commands_of(kind):
+    """The commands of the service's lines of this kind."""
+    lines = (EXAMPLES / "sign_queue.service").read_text().splitlines()
+    return [it.partition("=")[2] for it in lines if it.startswith(f"{kind}=")]
+
+
+def test_service_runs_the_self_test_first():
+    """By the program that signs then, with its key. A failure is not ignored, as it would be after a minus."""
+    assert commands_of("ExecStartPre")[0] == SELF_TEST
+    (signs,) = commands_of("ExecStart")
+    program, option, key = shlex.split(SELF_TEST)
+    assert (shlex.split(signs)[:2], option) == ([program, key], "--self-test")
+
+
+@pytest.mark.slow
+def test_damaged_program_fails_the_self_test_of_the_service(in_go, keys, tmp_path):
+    """So the service does not start. Nor does it with a key that can't be read."""
+    (program,), key = in_go
+    another = tmp_path / "another"
+    another.write_bytes(with_another_root(program.read_bytes()))
+    another.chmod(0o755)
+
+    def said_by(path, key):
+        words = {"/usr/local/bin/sign_queue": path, "${CREDENTIALS_DIRECTORY}/key": key}
+        return run(*(words.get(it, it) for it in shlex.split(SELF_TEST)))
+
+    assert said_by(program, keys / key) == (0, b"", b"")
+    status, output, errors = said_by(another, keys / key)
+    assert (status, output) == (2, b"") and errors.startswith(b"slh: 40 SelfTestFailed")
+    assert said_by(program, tmp_path / "none").status == 2
 
 
 def test_strangers_name_no_files():

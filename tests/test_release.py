@@ -235,7 +235,7 @@ def test_strange_path_is_refused(changed, path):
     assert not (changed.path / "prefix").exists()
 
 
-@pytest.mark.parametrize("name", ["include", "share", "mips"])
+@pytest.mark.parametrize("name", ["include", "rust", "share", "mips"])
 def test_no_other_folder_is_a_target(changed, name):
     changed.refuses(f"library.sh: no target {name}", "tools/library.sh", "--target", name, "prefix")
 
@@ -405,7 +405,7 @@ def test_each_source_is_one_that_a_note_depends_on(copy):
 
 @slow
 @pytest.mark.parametrize("file", [
-    "HANDLES", "VERSION", "crates.txt", "c/include/slh.h", "tools/kit.py", "tools/program.sh", "tools/target.sh",
+    "HANDLES", "VERSION", "crates.txt", "c/include/slh.h", "tools/kit.py", "tools/program.sh", "tools/targets.py",
     "tools/symbols.sh", "crates/slh/src/main.rt", "crates/slh_params/specs/Lib.antt",
     "crates/slh_params/proofs/Bounds.antt"])
 def test_changed_source_is_seen_over_a_note(copy_of_module, file):

@@ -1,12 +1,12 @@
 """Builds and uses the crates for Rust, over the library as it is installed: their own tests by cargo, an example, a
-program of a user, and what it leaves in memory. No network is used."""
+program of a user, what it leaves in memory, and a library that fails its self-test. No network is used."""
 import os
 import pathlib
 import shutil
 
 import pytest
 
-from packages import check_memory, count_tests, is_key_file, refuses_to_build, says_best_level
+from packages import check_memory, count_tests, is_key_file, refuses_to_build, says_best_level, write_another_library
 from support import HERE, Outcome, need, run, succeed
 
 CRATES = HERE / "bindings/rust"
@@ -17,6 +17,17 @@ OF_CARGO = r"^test result: ok\. (\d+) passed; 0 failed;"
 LEVEL = """use slh as _;
 extern "C" { fn slh_level() -> u32; }
 fn main() { println!("{}", unsafe { slh_level() }) }
+"""
+SELF_TEST = """use slh::{Error, ParameterSet, SlhDsaSha2_128f, SlhDsaSha2_192f};
+fn main() {
+    for result in [SlhDsaSha2_192f::self_test(), SlhDsaSha2_128f::self_test()] {
+        match result {
+            Ok(()) => println!("passed"),
+            Err(error @ Error::SelfTestFailed) => println!("{error}"),
+            Err(error) => panic!("another error: {error}"),
+        }
+    }
+}
 """
 
 pytestmark = pytest.mark.slow
@@ -81,6 +92,7 @@ def page(tmp_path_factory):
     (folder / "src/bin").mkdir(parents=True)
     (folder / "src/bin/erased.rs").write_bytes((HERE / "bindings/tests/erased.rs").read_bytes())
     (folder / "src/bin/level.rs").write_text(LEVEL)
+    (folder / "src/bin/self_test.rs").write_text(SELF_TEST)
     (folder / "Cargo.toml").write_text(f'[package]\nname = "page"\nedition = "2021"\n[dependencies]\n'
                                        f'slh = {{ path = "{CRATES}/slh" }}\n')
     return ["--manifest-path", folder / "Cargo.toml"]
@@ -95,6 +107,13 @@ def test_nothing_erased_is_in_memory(env, built, page, installed):
 @pytest.mark.usefixtures("built_by_the_kit")
 def test_code_for_the_best_level_runs(env, page):
     assert says_best_level("cargo", "run", "-q", "--offline", *page, "--bin", "level", env=env)
+
+
+def test_another_answer_of_the_library_is_told(env, page, installed, tmp_path):
+    """By the self-test of its set. That of another set passes."""
+    another = {**env, "SLH_PREFIX": str(write_another_library(installed, tmp_path))}
+    said = succeed("cargo", "run", "-q", "--offline", *page, "--bin", "self_test", env=another)
+    assert said == b"passed\n40 SelfTestFailed: an answer of the self-test is not the known one\n"
 
 
 # ---- without a library

@@ -1,6 +1,6 @@
 """Tests the library for Linux on ARM and 64-bit RISC-V, and for macOS, as tools/library.sh installs it: its symbols,
-tests/vectors/ through the calls, the stack, the example that verifies, and the packages that take it. Programs run by
-qemu. Nothing here runs the code for macOS: its symbols are looked at.
+tests/vectors/ through the calls, the stack, instructions for several secrets, the example that verifies, and the
+packages that take it. Programs run by qemu. Nothing here runs the code for macOS: its symbols are looked at.
 
 Of keys and of signing some tests are run, and with --all all: tests/library_vectors.py says which.
 """
@@ -19,6 +19,11 @@ LINUX = {
     "riscv64": ("riscv64-linux-gnu", "riscv64", "riscv64", "riscv64"),
     "armv7": ("arm-linux-gnueabihf", "arm", "armv7l", "armv7l"),
 }
+# The lower levels of 64-bit ARM: the words for the compiler, and those for qemu. A Cortex-A57 has SHA-256's instructions
+# and not SHA-512's. Each processor that qemu knows has the former: for NEON the program answers in the system's place.
+NEON, SHA256 = "aarch64-neon", "aarch64-sha256"
+LOWER = {NEON: (("-DHWCAP=0", str(TESTS / "forced_hwcap.c")), ()), SHA256: ((), ("-cpu", "cortex-a57"))}
+LINUX |= {it: LINUX["aarch64"] for it in LOWER}
 MACOS = {"macos-arm64": "ARM64", "macos-x86-64": "X86_64"}
 # For libslh.a of macOS: calls of a Mac's C library that are not in the C standard, and its own names, which are hidden.
 OF_MACOS = ["bzero", "__bzero"]
@@ -29,7 +34,8 @@ def params(names, always=()):
     return [pytest.param(it, marks=() if it in always else OTHERS) for it in names]
 
 
-ON_LINUX = pytest.mark.parametrize("target", params(LINUX, ["aarch64"]), indirect=True)
+ON_LINUX = pytest.mark.parametrize("target", params([it for it in LINUX if it not in LOWER], ["aarch64"]), indirect=True)
+ON_LINUX_BY_LEVEL = pytest.mark.parametrize("target", params(LINUX, ["aarch64"]), indirect=True)
 ON_AARCH64 = pytest.mark.parametrize("target", ["aarch64"], indirect=True)
 ON_MACOS = pytest.mark.parametrize("target", params(MACOS), indirect=True)
 
@@ -42,20 +48,20 @@ def target(request):
 @pytest.fixture
 def machine(target):
     """The compiler for a target with Linux."""
-    cc = machines.cross_compiler(target, LINUX[target][0])
+    cc = machines.cross_compiler(target.partition("-")[0], LINUX[target][0])
     need(cc)
-    return machines.Machine(target, cc, ("-static",))
+    return machines.Machine(target, cc, ("-static", *LOWER.get(target, ((), ()))[0]))
 
 
 @pytest.fixture
 def emulated(machine):
     """The same, with the emulator that runs its programs."""
-    return machine._replace(runs=(machines.qemu(LINUX[machine.name][1]),))
+    return machine._replace(runs=(machines.qemu(LINUX[machine.name][1]), *LOWER.get(machine.name, ((), ()))[1]))
 
 
 @pytest.fixture
 def prefix(pytestconfig, install, target):
-    return machines.for_target(pytestconfig, install, target)
+    return machines.for_target(pytestconfig, install, target if target in MACOS else target.partition("-")[0])
 
 
 @pytest.fixture
@@ -124,8 +130,36 @@ def test_program_takes_the_calls(emulated, prefix, archive, compiled):
     machines.says_invalid(*emulated.runs, program)
 
 
+LEVEL = "#include <slh.h>\nint main(void) { return (int)slh_level(); }\n"
+
+
+@pytest.mark.parametrize("target, level", [("aarch64", 4), (SHA256, 3), (NEON, 2)], indirect=["target"])
+def test_level_is_that_of_the_processor(emulated, prefix, archive, compiled, tmp_path, level):
+    """The emulated processor has the instructions for both."""
+    (tmp_path / "level.c").write_text(LEVEL)
+    program = compiled("level", *emulated.words, "-I", prefix / "include", tmp_path / "level.c", archive, cc=emulated.cc)
+    assert run(*emulated.runs, program).status == level
+
+
+@ON_AARCH64
+def test_program_without_getauxval_takes_level_2(emulated, prefix, archive, compiled, tmp_path):
+    (tmp_path / "level.c").write_text(LEVEL)
+    program = compiled("level", *emulated.words, "-Wl,--defsym=getauxval=0", "-I", prefix / "include",
+                       tmp_path / "level.c", archive, cc=emulated.cc)
+    assert run(*emulated.runs, program).status == 2
+
+
+@ON_AARCH64
+def test_shared_object_runs_the_same_level(emulated, prefix, compiled, tmp_path):
+    (tmp_path / "level.c").write_text(LEVEL)
+    shared = prefix / "lib/libslh.so.0"
+    program = compiled("level", "-I", prefix / "include", tmp_path / "level.c", shared, f"-Wl,-rpath,{shared.parent}",
+                       cc=emulated.cc)
+    assert run(*emulated.runs, "-L", f"/usr/{LINUX['aarch64'][0]}", program).status == 4
+
+
 @pytest.mark.slow
-@ON_LINUX
+@ON_LINUX_BY_LEVEL
 def test_vectors(pytestconfig, emulated, prefix, archive, compiled):
     program = machines.calls_program(compiled, emulated, prefix / "include", archive)
     machines.vectors_through(pytestconfig, *emulated.runs, program)
@@ -174,14 +208,14 @@ def test_numbers_of_the_documents(machine, target, prefix):
 
 
 @pytest.mark.slow
-@ON_LINUX
+@ON_LINUX_BY_LEVEL
 def test_each_call_clears_as_deep_as_it_goes(emulated, prefix, archive, compiled, tmp_path):
     program = machines.depths_program(compiled, emulated, prefix / "include", archive, tmp_path)
     counted(*emulated.runs, program, "1", "few")
 
 
 @pytest.mark.slow
-@ON_LINUX
+@ON_LINUX_BY_LEVEL
 def test_calls_leave_no_secrets(pytestconfig, emulated, prefix, archive, compiled):
     program = machines.search_program(compiled, emulated, prefix / "include", archive)
     counted(*emulated.runs, program, *([] if pytestconfig.option.all else ["2", "4", "6"]))
@@ -204,6 +238,52 @@ def test_objcopy_that_changes_nothing_is_noticed(machine, archive, tmp_path):
     with pytest.raises(AssertionError, match="slh_clear is not weak"):
         machines.with_weak(machine._replace(cc=str(other)), archive, tmp_path / "same.a", "slh_clear")
     assert (tmp_path / "same.a").read_bytes() == archive.read_bytes()
+
+
+# ---- instructions
+
+# Makes a key of the set in the first word. The bytes of SK.seed and SK.prf are the second word, and PK.seed is zero. A
+# loop runs as often as the secret's bits in the mask of the third word say.
+KEYGEN = """\
+#include <slh.h>
+#include <stdlib.h>
+
+int main(int count, char **words) {
+    static uint8_t seeds[2 * SLH_MAX_N], public_seed[SLH_MAX_N], sk[SLH_MAX_SECRET_KEY];
+    uint32_t set = (uint32_t)atoi(words[1]);
+    size_t pk_len, sk_len, sig_len, n;
+    volatile int turns = 0;
+    if (count != 4 || slh_lengths(set, &pk_len, &sk_len, &sig_len, &n) != SLH_DONE) return 2;
+    for (size_t i = 0; i < sizeof seeds; i++) seeds[i] = (uint8_t)atoi(words[2]);
+    for (int i = 0; i < (seeds[0] & atoi(words[3])); i++) turns++;
+    return slh_keygen(set, seeds, n, seeds + n, n, public_seed, n, sk, sk_len) != SLH_DONE;
+}
+"""
+
+
+@pytest.fixture
+def instructions(emulated, prefix, archive, compiled, tmp_path):
+    """Counts the instructions of KEYGEN: instructions(WORD..)."""
+    (tmp_path / "keygen.c").write_text(KEYGEN)
+    plugin = compiled("count.so", "-shared", "-fPIC", TESTS / "benches/count_instructions.c")
+    program = compiled("keygen", "-std=c11", *STRICT, "-O1", *emulated.words, "-I", prefix / "include",
+                       tmp_path / "keygen.c", archive, cc=emulated.cc)
+
+    def instructions(*words):
+        done = run(*emulated.runs, "-plugin", plugin, "-d", "plugin", program, *map(str, words))
+        assert done.status == 0, done
+        return int(re.fullmatch(rb"(\d+) instructions\n", done.errors)[1])
+
+    return instructions
+
+
+@pytest.mark.slow
+@ON_LINUX_BY_LEVEL
+def test_each_secret_takes_as_many_instructions(instructions):
+    """memcheck, which marks secrets, does not run here. One turn of a loop that depends on a secret is counted."""
+    for of_set in 2, 4, 6:
+        assert len({instructions(of_set, byte, 0) for byte in (100, 155, 254)}) == 1
+    assert instructions(2, 100, 1) != instructions(2, 155, 1)
 
 
 # ---- packages

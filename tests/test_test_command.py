@@ -14,7 +14,7 @@ from support import HERE, need, run
 HARNESS = [
     ".ci/run", "pytest.ini", "tools/test.sh", "tools/released.sh", "tests/budgets.toml", "tests/conftest.py",
     "tests/copies.py", "tests/debian_roots.py", "tests/parts.py", "tests/provider.py", "tests/support.py"]
-OF_KIT = ["wrong_bodies.py", "tested_bodies.py", "fresh_tests.sh"]
+OF_KIT = ["wrong_bodies.py", "tested_bodies.py"]
 FOUR = 'echo "4 passed, 0 failed"\n'
 STUB = '#!/bin/sh\necho "${0##*/} $*" >>"$HOME/called"\n'
 TESTS_OF_PYTEST = "import pytest\ndef test_right(): pass\n"
@@ -78,7 +78,7 @@ def test_release_is_tested_without_rt(small):
     """Over dist/. The parts that need rt are skipped by name."""
     status, lines = small.run("--no-setup")
     assert small.calls() == [] and "== pytest --release=dist" in lines
-    assert (status, lines[-1]) == (0, "1 passed, 0 failed, 4 skipped")
+    assert (status, lines[-1]) == (0, "1 passed, 0 failed, 3 skipped")
     names = ["rt ci", *(f"tests/{it}" for it in OF_KIT)]
     assert skips(lines) == sorted(f"{it}: SKIPPED, since there is no rt" for it in names)
 
@@ -87,7 +87,7 @@ def test_release_is_tested_without_rt(small):
 def test_release_is_tested_beside_rt(small):
     small.add_kit()
     status, lines = small.run("--no-setup", "--release")
-    assert small.calls() == [] and (status, lines[-1]) == (0, "1 passed, 0 failed, 4 skipped")
+    assert small.calls() == [] and (status, lines[-1]) == (0, "1 passed, 0 failed, 3 skipped")
 
 
 @pytest.mark.slow
@@ -95,7 +95,7 @@ def test_few_tests_of_each_kind(small):
     small.write("tests/test_vectors.py", TESTS_OF_PYTEST + "@pytest.mark.slow\ndef test_wrong(): assert False\n")
     status, lines = small.run("--no-setup", "--few")
     assert "== pytest -m 'not slow' --release=dist" in lines
-    assert (status, lines[-1]) == (0, "1 passed, 0 failed, 4 skipped")
+    assert (status, lines[-1]) == (0, "1 passed, 0 failed, 3 skipped")
 
 
 @pytest.mark.slow
@@ -103,7 +103,7 @@ def test_one_test_of_each_file(small):
     """For a new machine, which shows what only it can show."""
     small.write("tests/test_vectors.py", TESTS_OF_PYTEST + "def test_wrong(): assert False\n")
     status, lines = small.run("--no-setup", "--few", PYTEST_ADDOPTS="--one")
-    assert (status, lines[-1]) == (0, "1 passed, 0 failed, 4 skipped")
+    assert (status, lines[-1]) == (0, "1 passed, 0 failed, 3 skipped")
 
 
 def test_release_of_rt_ci_is_tested_once(small):
@@ -111,10 +111,9 @@ def test_release_of_rt_ci_is_tested_once(small):
     small.add_kit()
     status, lines = small.run("--no-setup")
     assert small.calls() == [
-        "rt ci", "release.sh --after-ci --check out/release", "wrong_bodies.py --gate", "tested_bodies.py --few",
-        "fresh_tests.sh --few"]
+        "rt ci", "release.sh --after-ci --check out/release", "wrong_bodies.py --gate", "tested_bodies.py --few"]
     assert len([it for it in lines if re.match("== pytest .*--release=out/release$", it)]) == 1
-    assert (status, lines[-1]) == (0, "21 passed, 0 failed, 0 skipped")
+    assert (status, lines[-1]) == (0, "17 passed, 0 failed, 0 skipped")
 
 
 @pytest.mark.slow
@@ -154,11 +153,11 @@ def test_failure_of_a_part_is_named(small, status, line, said):
     """And all other parts are run."""
     small.add_kit()
     note = 'echo "it is right: no, it is not" >>"$SLH_FAILURES"\n' if "1 failed" in line else ""
-    script(small.path / "tests/tested_bodies.py", f'#!/bin/sh\n{note}echo "{line}"\nexit {status}\n')
+    script(small.path / "tests/wrong_bodies.py", f'#!/bin/sh\n{note}echo "{line}"\nexit {status}\n')
     ended, lines = small.run("--no-setup")
-    assert failures(lines) == [f"tests/tested_bodies.py: {said}", "    alone: tests/tested_bodies.py --few"]
+    assert failures(lines) == [f"tests/wrong_bodies.py: {said}", "    alone: tests/wrong_bodies.py --gate"]
     assert ended == 1 and re.fullmatch(r"\d+ passed, 1 failed, 0 skipped", lines[-1])
-    assert small.calls()[-1] == "fresh_tests.sh --few"
+    assert small.calls()[-1] == "tested_bodies.py --few"
 
 
 @pytest.mark.slow
@@ -166,20 +165,20 @@ def test_failure_of_a_part_is_named(small, status, line, said):
 def test_part_that_is_not_started_is_named(small, damage):
     """And all other parts are run."""
     small.add_kit()
-    damage(small.path / "tests/tested_bodies.py")
+    damage(small.path / "tests/wrong_bodies.py")
     status, lines = small.run("--no-setup")
-    assert failures(lines)[0] == "tests/tested_bodies.py: it printed no counts, and ended with status 127"
-    assert status == 1 and lines[-1] == "17 passed, 1 failed, 0 skipped"
-    assert small.calls()[-1] == "fresh_tests.sh --few"
+    assert failures(lines)[0] == "tests/wrong_bodies.py: it printed no counts, and ended with status 127"
+    assert status == 1 and lines[-1] == "13 passed, 1 failed, 0 skipped"
+    assert small.calls()[-1] == "tested_bodies.py --few"
 
 
 @pytest.mark.slow
 def test_failure_that_a_part_does_not_note_is_named(small):
     small.add_kit()
-    script(small.path / "tests/tested_bodies.py",
+    script(small.path / "tests/wrong_bodies.py",
            '#!/bin/sh\necho "one: yes"\necho "two: no"\necho "1 passed, 2 failed"\nexit 1\n')
     status, lines = small.run("--no-setup")
-    named = [f"tests/tested_bodies.py: {it}" for it in ("two: no", "1 failed that it names above")]
+    named = [f"tests/wrong_bodies.py: {it}" for it in ("two: no", "1 failed that it names above")]
     assert failures(lines)[:2] == named
     assert status == 1 and " passed, 2 failed, " in lines[-1]
 
@@ -213,7 +212,7 @@ def test_failure_of_one_of_two_processes_is_named_once(small):
     status, lines = small.run("--no-setup")
     named = [it for it in failures(lines) if not it.startswith(" ")]
     assert named == ["tests/test_streams.py::test_wrong: assert False"]
-    assert status == 1 and lines[-1] == "21 passed, 1 failed, 0 skipped"
+    assert status == 1 and lines[-1] == "17 passed, 1 failed, 0 skipped"
 
 
 @pytest.mark.slow
@@ -260,7 +259,7 @@ def test_failure_of_the_proofs_is_named(small, rt, said):
     status, lines = small.run("--no-setup")
     assert failures(lines) == [said, "    alone: rt ci"]
     assert status == 1 and " passed, 1 failed, 0 skipped" in lines[-1]
-    assert small.calls()[-1] == "fresh_tests.sh --few"
+    assert small.calls()[-1] == "tested_bodies.py --few"
     assert any(re.match("== pytest .*--release=out/release$", it) for it in lines)
 
 
@@ -273,13 +272,7 @@ def test_difference_from_dist_is_named(small):
     assert status == 1
 
 
-@pytest.mark.slow
-def test_wrong_body_is_named(copy):
-    """Of two wrong bodies the prover refuses one: the other one is named. A stand-in for the prover says of the first
-    that there is no proof."""
-    refused, other = "slh_board/claim_never_looks", "slh_board/stop_stores_next"
-    script(copy.work / "kit/bin/rt", "#!/bin/sh\necho logic 0\n")
-    script(copy.work / "kit/bin/rattle", """#!/bin/sh
+PROVER = """#!/bin/sh
 case "$PWD $*" in
 */crates/slh_board\\ *) exit 0 ;;
 *Board::claim*) ;;
@@ -287,12 +280,51 @@ case "$PWD $*" in
 esac
 echo './proofs/board/Board/claim/Answers.antt:1:1: error: `claim`: there is no proof'
 printf '%s\\n' "fn slh_board::board::Board::claim: no proof" "only=1 proved=0" && exit 1
-""")
-    done = copy.run("tests/wrong_bodies.py", "--write", refused, other,
-                    path=f"{copy.work / 'kit/bin'}:{WITHOUT_KIT}", SLH_FAILURES=str(copy.work / "noted"))
+"""
+
+
+@pytest.fixture
+def prover(copy):
+    """Variables for a run beside a stand-in for the prover. It refuses edits of Board::claim, and accepts others."""
+    script(copy.work / "kit/bin/rt", "#!/bin/sh\necho logic 0\n")
+    script(copy.work / "kit/bin/rattle", PROVER)
+    return {"path": f"{copy.work / 'kit/bin'}:{WITHOUT_KIT}"}
+
+
+@pytest.mark.slow
+def test_wrong_body_is_named(copy, prover):
+    """Of two wrong bodies the prover refuses one: the other one is named."""
+    refused, other = "slh_board/claim_never_looks", "slh_board/stop_stores_next"
+    done = copy.run("tests/wrong_bodies.py", "--write", refused, other, **prover,
+                    SLH_FAILURES=str(copy.work / "noted"))
     assert done.status == 1 and re.search(f"^{refused}.edit: refused in .*no proof", done.output.decode(), re.M)
     assert (copy.work / "noted").read_text() == f"{other}: NOT REFUSED: the function is still proved\n"
     assert done.output.decode().splitlines()[-1] == "1 passed, 1 failed, 0 skipped"
+
+
+@pytest.mark.slow
+def test_wrong_bodies_are_cases_by_their_names(copy, prover):
+    done = copy.run("pytest", "tests/test_wrong_bodies.py", "-k", "claim_never_looks or stop_stores_next", **prover)
+    text = done.output.decode()
+    assert text.splitlines()[-1] == "1 passed, 1 failed, 0 skipped", text
+    assert "slh_board/stop_stores_next" in text and "NOT REFUSED: the function is still proved" in text
+
+
+BODIES = """import pytest
+@pytest.mark.asked("edit")
+@pytest.mark.parametrize("edit", ["a/looks", "a/looks_away", "b/looks_away"])
+def test_refuses(edit): pass
+def test_that_looks(): pass
+"""
+
+
+@pytest.mark.parametrize("words, passed", [
+    ("-k looks", 2), ("-k a/looks", 1), ("-k look", 1), ("--all", 1), ("tests/test_vectors.py", 4),
+    ("tests/test_vectors.py::test_refuses", 3)])
+def test_case_that_has_to_be_asked_for_runs_by_its_whole_name(small, words, passed):
+    """Or by its file. A part of its name chooses the other tests alone."""
+    small.write("tests/test_vectors.py", BODIES)
+    assert small.run(*words.split(), command="pytest")[1][-1] == f"{passed} passed, 0 failed, 0 skipped"
 
 
 @pytest.mark.slow
@@ -302,7 +334,7 @@ def test_skipped_parts_of_a_part_are_shown_and_counted(small):
            '#!/bin/sh\necho "it: SKIPPED, since not"\necho "other: yes"\necho "1 passed, 0 failed, 1 skipped"\n')
     status, lines = small.run("--no-setup")
     assert "it: SKIPPED, since not" in lines
-    assert (status, lines[-1]) == (0, "18 passed, 0 failed, 1 skipped")
+    assert (status, lines[-1]) == (0, "14 passed, 0 failed, 1 skipped")
 
 
 # ---- what a watcher sees
@@ -404,7 +436,7 @@ def test_missing_tools_are_named_without_setup(small):
     assert lines[0].startswith("missing: it and more. ") and "setup.sh " not in small.calls()
 
 
-@pytest.mark.parametrize("more, skipped", [([], 2), (["python3"], 5)], ids=["nor Python", "but Python"])
+@pytest.mark.parametrize("more, skipped", [([], 2), (["python3"], 4)], ids=["nor Python", "but Python"])
 @pytest.mark.parametrize("content, counts", [
     ("version 0\nsources x\n", "1 passed, 0 failed"), ("damaged\n", "0 passed, 1 failed")], ids=["whole", "damaged"])
 def test_without_pytest_dist_is_checked(small, content, counts, more, skipped):

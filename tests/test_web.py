@@ -42,7 +42,7 @@ const answers = await answersOf().catch((error) => [String(error)]);
 
 
 @pytest.fixture(scope="module")
-def module(release):
+def module(release, of_these_sources):
     path = release / "wasm32/slh.wasm"
     if not path.is_file():
         pytest.skip("the release has no module with a 32-bit memory (tools/release.sh builds it)")

@@ -1,4 +1,4 @@
-"""The code for vectors of each number of lanes. The builds of a release have 1, 4, 8 or 16 (tools/kit.py), and `rt ci`
+"""The code for vectors of each number of lanes. The builds of a release have 1, 4, 8 or 16 (tools/targets.py), and `rt ci`
 tests 8. tools/clang.sh has to write into a proved module, word for word, what rattle writes for a crate slh_width that
 is proved with these numbers, to change nothing else, and to refuse a module that it does not know. By `--all` the
 tables of known values run as code for any x86-64-v2, by a slh_conformance that is proved once more to be built.
@@ -62,7 +62,7 @@ class Widths:
     def noting(self, name, lanes):
         """A toolchain for lanes that notes modules."""
         folder = self.folder / name
-        succeed(HERE / "tools/kit.py", "toolchain", folder, "x86-64-v2", str(lanes))
+        succeed(HERE / "tools/targets.py", "toolchain", folder, "x86-64-v2", str(lanes))
         (folder / "bin/clang").rename(folder / "bin/writes")
         (folder / "bin/clang").write_text(NOTES.format(folder=folder))
         (folder / "bin/clang").chmod(0o755)
@@ -81,7 +81,7 @@ class Widths:
         """A folder with a slh_width that is proved to answer these lanes."""
         folder = self.folder / f"width-{lanes}"
         if not folder.exists():
-            succeed(HERE / "tools/kit.py", "width", str(lanes), folder, timeout=3600)
+            succeed(HERE / "tools/targets.py", "width", str(lanes), folder, timeout=3600)
         return folder
 
 
@@ -112,7 +112,7 @@ def test_nothing_else_is_written(widths, lanes):
 @OF_LANES
 def test_module_with_other_answers_is_refused(widths, lanes):
     folder = widths.folder / f"refusing-{lanes}"
-    succeed(HERE / "tools/kit.py", "toolchain", folder, "x86-64-v2", "4")
+    succeed(HERE / "tools/targets.py", "toolchain", folder, "x86-64-v2", "4")
     done, made = widths.asks(widths.proved(lanes), folder)
     assert done.status != 0 and not made.exists()
 

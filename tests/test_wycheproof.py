@@ -138,9 +138,9 @@ def in_python(python_package):
 
 
 @pytest.fixture(scope="module")
-def in_go(installed_as_is, tmp_path_factory):
+def in_go(installed, tmp_path_factory):
     need("go", "gcc")
-    prefix, work = installed_as_is, tmp_path_factory.mktemp("go")
+    prefix, work = installed, tmp_path_factory.mktemp("go")
     env = {**os.environ, "CGO_ENABLED": "1", "CGO_CFLAGS": f"-I{prefix}/include", "CGO_LDFLAGS": f"-L{prefix}/lib",
            "GOCACHE": str(work / "cache"), "GOPATH": str(work / "path"), "GOFLAGS": "-mod=readonly", "GOPROXY": "off"}
     (work / "program").mkdir()

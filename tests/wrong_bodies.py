@@ -343,6 +343,7 @@ def edits_of(words):
 
 def main():
     asked, old = arguments(), listed()
+    kit.need_kit()
     if not reads_answers():
         sys.exit("tests/wrong_bodies.py: it takes an edit for refused of which nothing is known, "
                  "or the other way round")

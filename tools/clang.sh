@@ -1,10 +1,12 @@
 #!/bin/sh
 # Stands in for the kit's clang where `rattle build` compiles a proved module for a target: it changes two numbers of
-# the module and a word of the command line or a few, and runs the kit's clang. `tools/kit.py toolchain` makes the
+# the module and a word of the command line or a few, and runs the kit's clang. `tools/targets.py toolchain` makes the
 # folder for --toolchain, in which this is bin/clang, kit/clang is the kit's, and the files lanes, word and size have:
 #
 #   lanes   what crates/slh_width answers: two numbers of its enum Width, in place of Eight. No contract tells them
 #   word    -march=x86-64-v4 in place of -march=x86-64: AVX-512 F, BW, CD, DQ and VL
+#           -march=armv8-a+sha2 in place of -march=armv8-a: ARM's instructions for SHA-256; with +sha3 also those for
+#           SHA-512 and SHA-3
 #           -msimd128 behind -mcpu=lime1: WebAssembly's vectors of 128 bits, and with them a higher limit for inlining,
 #           by which the rounds of a compression stand in it, as they do in code for the other targets
 #           module: nothing is compiled, and an empty object written; the module is left there as it came, too, so
@@ -12,6 +14,9 @@
 #           or nothing
 #   size    small: for_size.sed gives the functions attributes
 #           or fast
+#   rules   for_sha256_arm.sed, for_sha512_arm.sed: functions of slh_lanes::instructions get bodies of the processor's
+#           SHA instructions
+#           or nothing
 #
 # The module as it is compiled is left there as module.ll, for the targets that rattle does not build for.
 #
@@ -23,6 +28,7 @@ PATH=/usr/bin:/bin
 here=${0%/*}/..
 read -r word <"$here/word"
 read -r size <"$here/size"
+read -r rules <"$here/rules"
 refuse() {
     echo "tools/clang.sh: $1" >&2
     exit 2
@@ -35,7 +41,7 @@ for it in "$@"; do
     [ "$before" != -o ] || output=$it
     before=$it
     case $word$it in
-    -march=x86-64-v4-march=x86-64) set -- "$@" "$word" && found=yes ;;
+    -march=x86-64-v4-march=x86-64 | -march=armv8-a+sha2*-march=armv8-a) set -- "$@" "$word" && found=yes ;;
     -msimd128-mcpu=lime1) set -- "$@" "$it" "$word" -mllvm -inline-threshold=500 && found=yes ;;
     *module.bc) module=$it && set -- "$@" "$it.ll" ;;
     *rewritten.ll) written=yes && set -- "$@" "$it" ;;
@@ -64,6 +70,15 @@ if [ $size = small ]; then
         [ "$(grep '^define ' "$module.ll" | grep -vc ' optsize {$')" = 3 ] ||
         refuse "the module does not have the functions that for_size.sed names, once each"
 fi
+# Each function that a rule names is there once, and gets the rule's body: as many lines end so as the rule has.
+for rule in $rules; do
+    mv "$module.ll" "$module.plain" && sed -E -f "$here/$rule" "$module.plain" >"$module.ll"
+    for it in $(sed -n 's/^[/]^define [.][*]@"\([a-z_:]*\)".*/\1/p' "$here/$rule"); do
+        [ "$(grep -c "^define .*@\"$it\"(" "$module.plain")" = 1 ] || refuse "the module does not have $it once"
+    done
+    [ "$(diff "$module.plain" "$module.ll" | grep -c '^> .* = call .* @llvm[.]')" = "$(grep -c ' = call .* @llvm[.]' "$here/$rule")" ] ||
+        refuse "the module does not have the functions of $rule as it names them"
+done
 cp "$module.ll" "$here/module.ll"
 if [ "$word" = module ]; then
     cp "$module" "$here/module.bc"

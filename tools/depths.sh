@@ -3,10 +3,11 @@
 # c/exports/depths/TARGET.h: as deep the call is to clear. What was built before is then to be built again. The test
 # command measures again: it fails where a call goes deeper than its number, or by more than 256 bytes less deep.
 #
-# usage: tools/depths.sh TARGET..      TARGET is x86-64-v2, -v3 or -v4, these behind windows-, aarch64, riscv64 or armv7
+# usage: tools/depths.sh TARGET..      TARGET is x86-64-v2, -v3 or -v4, these behind windows-, aarch64-neon, -sha256
+#                                      or -sha512, riscv64 or armv7
 #
 # It stands on what `rt ci`, or `rt check` in crates/slh_c, has built. Other processors run under qemu, some minutes,
-# and the code for Windows under wine, of which all levels are in one library: the one to measure is chosen.
+# and the code for Windows under wine. Where all levels are in one library, the one to measure is chosen.
 set -euo pipefail
 here=$(cd "$(dirname "${BASH_SOURCE[0]}")/.." && pwd)
 work=$(mktemp -d)
@@ -18,6 +19,8 @@ if [ $# = 0 ]; then
 fi
 # A processor of tests/processors.h for each level.
 declare -A best=([v2]=nehalem [v3]=haswell [v4]=skylake)
+# HWCAP_SHA2; with HWCAP_SHA3 and HWCAP_SHA512.
+declare -A hwcaps=([neon]=0 [sha256]=0x40 [sha512]=0x220040)
 for target in "$@"; do
     tools_of "$target"
     brings=() library=$target
@@ -25,8 +28,10 @@ for target in "$@"; do
         brings=("$here/tests/forced_level.c") library=${target%-v?}
         export PROCESSOR=${best[${target##*-}]}
         begin_wine
+    elif [[ $target = aarch64-* ]]; then
+        brings=("$here/tests/forced_hwcap.c" "-DHWCAP=${hwcaps[${target#*-}]}") library=aarch64
     fi
-    [ -f "$work/$library/libslh.a" ] || "$here/tools/target.sh" "$library" "$work"
+    [ -f "$work/$library/libslh.a" ] || "$here/tools/targets.py" "$library" "$work"
     compiler=$cc measures_depths "$work/$library/libslh.a" "$work/depths.exe" "$cc" "${linked[@]}" -I "$here/c/include"
     {
         echo "/* How deep each call goes, in bytes: for a number of no set, and for each set. By tools/depths.sh. */"

@@ -22,7 +22,7 @@
 # --from-source builds by cargo and stock rustc, without the kit: tools/from_source.sh lists the targets and the tools.
 # It installs libslh.a, libslh.so.0 and libslh_verify.a with one level of code, and the headers and other files above.
 #
-# TARGET is x86-64, as without it, or one of tools/target.sh. The archives for one level are for x86-64 alone. Of a
+# TARGET is x86-64, as without it, or one of tools/targets.py. The archives for one level are for x86-64 alone. Of a
 # module for WebAssembly there is PREFIX/lib/slh.wasm alone, of portable the headers, PREFIX/src and what CMake reads.
 # For a board there are slh_verify.h, libslh_verify.a with what pkg-config and CMake read, and libslh_verify_128.a,
 # which is smaller and takes the sets of 128 bits alone.
@@ -98,7 +98,7 @@ else
         exit 2
     }
     [ "$after_ci" = yes ] || { (cd "$here/crates/slh_c" && rt check) && (cd "$here/crates/slh_c_verify" && rt check); } >&2
-    "$here/tools/target.sh" "$target" "$work"
+    "$here/tools/targets.py" "$target" "$work"
     cp -r "$here/c/include" "$work/"
     "$here/tools/share.sh" "$work"
     beside=(share)

@@ -4,7 +4,7 @@ for C tell with those of libraries, or writes them there.
 
 usage: tools/numbers.py --check|--write TARGET=FOLDER ..
 
-TARGET is one of tools/target.sh, and FOLDER what tools/library.sh has installed for it, or the target's folder of
+TARGET is one of tools/targets.py, and FOLDER what tools/library.sh has installed for it, or the target's folder of
 dist/. The rows for files of lib/ and include/ are those of x86-64, or of x86-64-v2 where that is what is installed.
 What needs a target that is not given, or an emulator or processor that is not there, is neither compared nor written,
 and that is told. It compiles and runs tests/library_stack.c, by CC or cc, or AARCH64_CC and qemu-aarch64.

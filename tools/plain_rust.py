@@ -14,6 +14,7 @@ What this program does not know it refuses, with the file and the line: status 1
 import collections
 import json
 import pathlib
+import posixpath
 import re
 import shutil
 import subprocess
@@ -407,7 +408,8 @@ def is_known(tokens, place):
     if not it.text.isascii() or it.text in OF_RATTLE:
         return False
     if it.text == "#":
-        return is_at(tokens, place, "#", "[") and tokens[place + 2].text in ATTRIBUTES
+        is_for_c = is_at(tokens, place, "#", "[", "repr", "(", "C", ")", "]")
+        return is_for_c or is_at(tokens, place, "#", "[") and tokens[place + 2].text in ATTRIBUTES
     if it.kind == "word" and is_at(tokens, place + 1, "!") and not is_at(tokens, place + 2, "="):
         return it.text in MACROS | BEFORE_NOT
     if it.text == "use":
@@ -475,6 +477,12 @@ def refusal_text():
             f"pub fn refusal_text(result: u32) -> &'static CStr {{\nmatch result {{\n{arms}}}\n}}\n")
 
 
+def from_the_top(page):
+    """The page of the package, with links that lead on from dist/rust/slh and out/plain_rust/slh, three folders down."""
+    place = lambda link: posixpath.normpath(f"bindings/rust/slh/{link}")
+    return re.sub(r"\]\((\.\./[^)]+)\)", lambda it: f"](../../../{place(it[1])})", page)
+
+
 def user_crate(out):
     """Copies the package for Rust. In place of libslh it has the calls that are exported here."""
     packages, install = HERE / "bindings" / "rust", out / "slh" / "install.md"
@@ -482,7 +490,7 @@ def user_crate(out):
         shutil.copytree(packages / part, out / part)
     with open(out / "slh-sys" / "src" / "lib.rs", "a") as file:
         file.write("\n// The calls are those of this crate.\nextern crate slh_exports as _;\n")
-    page = (packages / "slh" / "README.md").read_text()
+    page = from_the_top((packages / "slh" / "README.md").read_text())
     front, behind = page.split("## Install\n", 1)
     (out / "slh" / "README.md").write_text(front + install.read_text() + "\n" + behind[behind.index("## "):])
     install.unlink()

@@ -4,7 +4,7 @@
 usage: tools/portable.py MODULE SMALL FOLDER      writes FOLDER/slh.c of MODULE and FOLDER/slh_verify.c of SMALL
        tools/portable.py wasm2c                   where the program wasm2c is
 
-MODULE is the proved code as a WebAssembly module with a 64-bit memory and without vectors, as tools/target.sh makes it.
+MODULE is the proved code as a WebAssembly module with a 64-bit memory and without vectors, as tools/targets.py makes it.
 SMALL has the calls that verify alone, compiled for size, and a 32-bit memory. wasm2c 1.0.36 of WABT writes them as C
 (WASM2C names another command). Of what it writes the functions alone are taken, under shorter names, and of those just
 what the calls of the file reach, and the constants. All else is in c/portable/, and is ours: what the functions do to
@@ -30,6 +30,8 @@ WASM2C = os.environ.get("WASM2C", "wasm2c-1.0.36")
 PROVED = "/* ---- The proved code, as wasm2c writes it. ---- */\n\n"
 VERIFY_CALLS = ["hash_verify", "hash_verify_digest", "hash_verify_digest_hardened", "verify", "verify_hardened",
                 "version"]
+# What calls.c makes of other calls.
+OF_OTHERS = {"verify_many"}
 FILES = {
     "slh.c": ["head.c", "machine.h", "taken_memory.c", "parts.h", "verify_calls.c", "calls.c",
               "../exports/refusal_text.c"],
@@ -38,7 +40,7 @@ FILES = {
 # The functions that call themselves, and how many calls of each are open at once at most. A FORS tree has the height a,
 # which is at most 14 in the six sets. A node of it is made from sixteen nodes of a height of at most a - 4. Each call
 # within is for one less.
-NESTED = {"slh_few_fors_tree_ForsPlace_put_sixteen_nodes": 11}
+NESTED = {"slh_few_fors_tree_ForsPlace_sixteen_nodes": 11}
 # The functions that compare what is secret, and look at all bytes before they decide. A compiler that inlines one for
 # a known number of bytes can make branches of it. And those that compare twice, which a compiler could do once.
 COMPARISONS = {"slh_jobs_tag_have_same_bytes", "slh_core_hardened_passes", "slh_core_hardened_passes_again"}
@@ -290,7 +292,7 @@ def file_of(text, parts):
     has_all = "calls.c" in parts
     if has_all and not COMPARISONS <= set(renamed(functions(text))):
         refuse(f"a function is missing: {', '.join(sorted(COMPARISONS))}")
-    numbers, code = module_as_c(text, sorted(exports) if has_all else VERIFY_CALLS)
+    numbers, code = module_as_c(text, sorted(set(exports) - OF_OTHERS) if has_all else VERIFY_CALLS)
     head, machine, *rest = parts
     code = code if has_all else leaving_out(code)
     return "\n".join([head_of(head), numbers, source(machine), code, *map(source, rest)])

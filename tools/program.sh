@@ -4,7 +4,7 @@
 # kit's own linker makes it, with the kit's own files of the C library.
 #
 # usage: tools/program.sh LEVEL FILE [CRATE [LANES]]      LEVEL is x86-64-v2, x86-64-v3 or x86-64-v4; LANES is a name of
-#                                                         tools/kit.py, in place of the level's own
+#                                                         tools/targets.py, in place of the level's own
 #        tools/program.sh x86-64 FILE                     c/starter.c, which runs the program for the best level. It
 #                                                         stands on no crate
 #
@@ -40,7 +40,7 @@ fi
 
 level=$1 toolchain=$work/toolchain
 [ "$1" != x86-64-v4 ] || level=x86-64-v3
-"$here/tools/kit.py" toolchain "$toolchain" "$1" "${4:-$1}"
+"$here/tools/targets.py" toolchain "$toolchain" "$1" "${4:-$1}"
 mapfile -t build < <("$here/tools/kit.py" build "$crate" "$toolchain")
 mkdir -p "$here/crates/$crate/out/incremental"
 (cd "$here/crates/$crate" && "${build[@]}" --incremental out/incremental --jobs "$(nproc)" --cpu "$level" \

@@ -4,13 +4,14 @@
 #   dist/x86-64/                  libslh.a and libslh.so.0, with the code for each level below, and slh, which runs the
 #                                 program of a level where it is installed
 #   dist/x86-64-v2/, -v3/, -v4/   the program slh, libslh.a and libslh_verify.a
-#   dist/TARGET/                  what tools/target.sh makes for each other machine: archives, slh.dll, slh.wasm
+#   dist/TARGET/                  what tools/targets.py makes for each other machine: archives, slh.dll, slh.wasm
 #   dist/portable/                slh.c and slh_verify.c
 #   dist/include/                 the headers
 #   dist/share/                   what is installed beside them, as tools/share.sh writes it
-#   dist/BUILD                    the version, the hashes of the sources and of those of share/ (tools/sources.sh), the
-#                                 kit, python3, and the hashes of what compiles and of what is linked with: the kit's
-#                                 files, tools/clang.sh, and wasm2c
+#   dist/rust/                    the proved crates as plain Rust, as tools/plain_rust.py writes them
+#   dist/BUILD                    the version, the hashes of the sources and of those of share/ and rust/
+#                                 (tools/sources.sh), the kit, python3, rustfmt, and the hashes of what compiles and of
+#                                 what is linked with: the kit's files, tools/clang.sh, and wasm2c
 #   dist/SBOM.spdx.json           the bill of materials, as tools/sbom.py writes it
 #   dist/SHA256SUMS               the hashes of all these files
 #   dist/SHA256SUMS.sig           its signature, if SLH_RELEASE_KEY names a secret key file (tools/sign_release.sh)
@@ -42,6 +43,14 @@ trap 'rm -rf "$work"' EXIT
 # Whether share/ is made of what the release's was made of: pages may change, and the sources be those of the release.
 has_share_of_release() { [ "$(release_says share)" = "$("$here/tools/sources.sh" share)" ]; }
 
+# Whether rust/ is made of what the release's was made of, and laid out by the same rustfmt.
+has_rust_of_release() {
+    [ "$(release_says rust)" = "$("$here/tools/sources.sh" rust)" ] && [ "$(release_says rustfmt)" = "$(rustfmt_version)" ]
+}
+
+# Nothing without rustfmt.
+rustfmt_version() { ! command -v rustfmt >/dev/null || rustfmt --version | cut -d ' ' -f 2; }
+
 has_wasm2c() { "$here/tools/portable.py" wasm2c >/dev/null 2>&1; }
 
 # The hash of the list of hashes of all files below a folder of the kit.
@@ -66,7 +75,8 @@ kit_lines() {
     ! has_wasm2c || echo "wabt/wasm2c $(sha256sum <"$("$here/tools/portable.py" wasm2c)" | cut -d ' ' -f 1)"
 }
 
-# Builds all into a folder. Without wasm2c the portable C is not made, and that of dist/ stands there.
+# Builds all into a folder. Without wasm2c the portable C is not made, and that of dist/ stands there; so does plain Rust
+# without rustfmt.
 build() {
     local level
     if [ "$after_ci" = no ]; then
@@ -74,17 +84,24 @@ build() {
         (cd "$here/crates/slh_c" && rt check) >&2
         (cd "$here/crates/slh_c_verify" && rt check) >&2
     fi
-    "$here/tools/target.sh" release "$1"
-    if has_wasm2c; then "$here/tools/target.sh" portable "$1"; else cp -r "$here/dist/portable" "$1"; fi
+    "$here/tools/targets.py" release "$1"
+    if has_wasm2c; then "$here/tools/targets.py" portable "$1"; else cp -r "$here/dist/portable" "$1"; fi
     for level in x86-64 x86-64-v2 x86-64-v3 x86-64-v4; do
         "$here/tools/program.sh" "$level" "$1/$level/slh"
     done
     install -D -m 644 -t "$1/include" "$here"/c/include/*.h "$here"/c/include/*.hpp
     "$here/tools/share.sh" "$1" "$1/x86-64-v2/slh" "$(cat "$here/VERSION")"
+    if [ -n "$(rustfmt_version)" ]; then
+        "$here/tools/plain_rust.py" "$1/rust" >&2
+    elif [ -d "$here/dist/rust" ]; then
+        cp -r "$here/dist/rust" "$1"
+    fi
     {
         echo "version $(cat "$here/VERSION")"
         echo "sources $("$here/tools/sources.sh")"
         echo "share $("$here/tools/sources.sh" share)"
+        echo "rust $("$here/tools/sources.sh" rust)"
+        [ -z "$(rustfmt_version)" ] || echo "rustfmt $(rustfmt_version)"
         kit_lines
     } >"$1/BUILD"
     "$here/tools/sbom.py" "$1"
@@ -98,6 +115,10 @@ write() {
     fi
     if ! has_wasm2c; then
         echo "tools/release.sh: there is no wasm2c" >&2
+        exit 2
+    fi
+    if [ -z "$(rustfmt_version)" ]; then
+        echo "tools/release.sh: there is no rustfmt" >&2
         exit 2
     fi
     if [ -n "$(git -C "$here" status --porcelain -- . ':!dist')" ]; then
@@ -117,7 +138,7 @@ write_numbers() {
     local folder targets=()
     "$here/tools/library.sh" "$work/prefix" >&2
     for folder in "$here"/dist/*/; do
-        case "$folder" in */x86-64/ | */include/ | */share/) continue ;; esac
+        case "$folder" in */x86-64/ | */include/ | */share/ | */rust/) continue ;; esac
         folder=${folder%/} && targets+=("${folder##*/}=$folder")
     done
     "$here/tools/numbers.py" --write "x86-64=$work/prefix" "${targets[@]}" >&2
@@ -158,10 +179,12 @@ check() {
     ! has_wasm2c || diff <(kit_lines | grep ^wabt/) <(grep ^wabt/ "$here/dist/BUILD") >&2 ||
         not_compared "wasm2c is not that of dist/BUILD"
     has_share_of_release || skip "dist/share" "its sources are not those of dist/BUILD"
+    has_rust_of_release || skip "dist/rust" "its sources or rustfmt are not those of dist/BUILD"
     build "$made"
     for file in "${files[@]}"; do
         [ "$file" = BUILD ] || [ "$file" = SBOM.spdx.json ] || { [ "${file%%/*}" = portable ] && ! has_wasm2c; } ||
             { [ "${file%%/*}" = share ] && ! has_share_of_release; } ||
+            { [ "${file%%/*}" = rust ] && ! has_rust_of_release; } ||
             tell "dist/$file is built again bit for bit" "$(cmp "$here/dist/$file" "$made/$file" >&2 && echo yes || echo no)"
     done
     end_counts

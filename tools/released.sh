@@ -28,7 +28,7 @@ shared_number() { release_says version | cut -d . -f 1; }
 # The files of a target that SHA256SUMS lists, but for programs.
 listed() {
     [ ! -f "$dist/SHA256SUMS" ] ||
-        awk -v at="$1/" 'index($2, at) == 1 && at !~ /^(include|share)\/$/ && $2 != at "slh" { print $2 }' \
+        awk -v at="$1/" 'index($2, at) == 1 && at !~ /^(include|rust|share)\/$/ && $2 != at "slh" { print $2 }' \
             "$dist/SHA256SUMS"
 }
 

@@ -2,15 +2,21 @@
 # Prints the SHA-256 of all that the program and the library for C are made of: the crates `slh`, `slh_c`,
 # `slh_c_verify` and those below them, with their lines of crates.txt, their sources, definitions and proofs, and
 # without tests; the C round the exports and that of the portable C, the headers, and c/starter.c; HANDLES and VERSION;
-# and the scripts that build. It needs no kit. With `share` it is that of what tools/share.sh reads.
+# and the scripts that build. It needs no kit. With `share` it is that of what tools/share.sh reads, and with `rust` that
+# of what tools/plain_rust.py reads beyond those.
 #
-# usage: tools/sources.sh [share]
+# usage: tools/sources.sh [share | rust]
 set -euo pipefail
 cd "$(dirname "${BASH_SOURCE[0]}")/.."
 export LC_ALL=C
 if [ "${1-}" = share ]; then
     sha256sum VERSION bindings/cmake/slh-config{.cmake,-version.cmake.in} bindings/debian/{from_help.py,slh.3} \
         docs/FORMATS.md tools/share.sh | sha256sum | cut -d ' ' -f 1
+    exit
+fi
+if [ "${1-}" = rust ]; then
+    find tools/plain_rust tools/plain_rust.py bindings/rust/{slh,slh-sys} -name target -prune -o -type f -print0 |
+        sort -z | xargs -0 sha256sum | sha256sum | cut -d ' ' -f 1
     exit
 fi
 
@@ -35,8 +41,8 @@ mapfile -t crates < <(lines | sed 's/[: ].*//')
     lines
     {
         find HANDLES VERSION c/{exports,include,portable} c/starter.c \
-            tools/{clang.sh,for_128.sed,for_hook.sed,for_machine.sed,for_size.sed,kit.py,lay_out.py,portable.py} \
-            tools/{program.sh,symbols.sh,target.sh} -type f -print0
+            tools/{clang.sh,for_128.sed,for_hook.sed,for_machine.sed,for_sha256_arm.sed,for_sha512_arm.sed,for_size.sed,kit.py,lay_out.py} \
+            tools/{portable.py,program.sh,symbols.sh,targets.py} -type f -print0
         find "${crates[@]/#/crates/}" -path '*/out' -prune -o -path '*/tests/*' -o -name 'tests.*' \
             -o \( -path '*/src/*' -o -path '*/specs/*' -o -path '*/proofs/*' \) -type f -print0
     } | sort -z | xargs -0 sha256sum

@@ -1,6 +1,6 @@
 #!/usr/bin/env bash
 # Prints the version script of libslh.so for linkers: each public call gets the version SLH_N, and all else is hidden.
-# N is the first number of the file VERSION, as in the name libslh.so.N (tools/kit.py). With --calls it prints the
+# N is the first number of the file VERSION, as in the name libslh.so.N (tools/targets.py). With --calls it prints the
 # names of the public calls alone.
 #
 # usage: tools/symbols.sh [--calls]

@@ -89,6 +89,22 @@ func (set Set) Lengths() (Lengths, error) {
 	return Lengths{int(pk), int(sk), int(sig), int(n)}, nil
 }
 
+// SelfTest tests the set on this machine before it is used, as when a service starts. It makes a known key and signs a
+// known message. PK.root and the SHA-256 of the signature have to be those that OpenSSL gave. The signature has to be
+// valid, and invalid for another message. The test takes as long as to make a key, to sign once and to verify two times.
+// It returns ErrSelfTestFailed if an answer is not the known one. It is refused as NoSuchSet.
+//
+// The test shows nothing about other sets, keys and messages, the pre-hash forms, random bytes and later faults. It does
+// not replace a hash of the program's file.
+func (set Set) SelfTest() error {
+	lengths, err := set.Lengths()
+	if err != nil {
+		return err
+	}
+	scratch := make([]byte, lengths.Signature)
+	return done(C.slh_self_test(C.uint32_t(set), at(scratch), size(scratch)))
+}
+
 // ErrInvalid says that a signature is not valid, or that the root of a secret key is not the one that its seeds give.
 var ErrInvalid = errors.New("slh: invalid")
 
@@ -103,6 +119,10 @@ var ErrDestroyed = ErrErased
 // ErrFault says that two computations of a signature differ, that the signature is not valid (Options.Verify), or that
 // a new key is not. What was made is overwritten. Memory or the processor failed, or Check finds the key invalid.
 var ErrFault = errors.New("slh: 38 Fault: two computations differ, or the signature or the new key is not valid")
+
+// ErrSelfTestFailed says that an answer of Set.SelfTest is not the known one: the library on this machine may not be
+// used.
+var ErrSelfTestFailed = errors.New("slh: 40 SelfTestFailed: an answer of the self-test is not the known one")
 
 // A Refusal is the number of the reason why a call was refused (docs/FORMATS.md, "Refusals"): use
 // errors.Is(err, slh.ContextTooLong). Errors of lengths wrap it, and say which length was expected and which was given.
@@ -169,6 +189,8 @@ func done(result C.uint32_t) error {
 		return ErrInvalid
 	case C.SLH_FAULT:
 		return ErrFault
+	case C.SLH_SELF_TEST_FAILED:
+		return ErrSelfTestFailed
 	default:
 		return Refusal(result)
 	}

@@ -399,6 +399,18 @@ func TestSetsHaveNames(t *testing.T) {
 	}
 }
 
+// tests/test_go.py runs the self-test over a library with another answer.
+func TestEachSetPassesItsSelfTest(t *testing.T) {
+	for set := range setNames {
+		if err := set.SelfTest(); err != nil {
+			t.Error(set, err)
+		}
+	}
+	for _, set := range []Set{0, 7} {
+		expectRefusal(t, set.SelfTest(), NoSuchSet, 8, "NoSuchSet")
+	}
+}
+
 func TestAWrongRootSignsNothingValid(t *testing.T) {
 	wrong := wrongRoot(t, generate(t))
 	_, err := wrong.Sign(nil, []byte("letter"), &Options{Workers: 2})

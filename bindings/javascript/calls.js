@@ -1,22 +1,28 @@
 // The calls of slh.wasm, with bytes in and out of its memory.
 
 import { byteLength, zeros } from "./bytes.js";
-import { Fault, Refusal, Trap } from "./errors.js";
+import { Fault, Refusal, SelfTestFailed, Trap } from "./errors.js";
 
 const DONE = 0;
 const INVALID = 30;
 const FAULT = 38;
+const SELF_TEST_FAILED = 40;
 const MAX_NAME = 20;
 const PAGE = 65536;
 
 // These calls take no secret. The module's stack is cleared after each other one.
+// tools/call_tables.py writes the lines from here on.
 const OPEN = [
-    "slh_version", "slh_lengths", "slh_refusal_name", "slh_verify", "slh_hash_verify", "slh_hash_verify_digest",
+    "slh_self_test", "slh_version", "slh_verify", "slh_hash_verify_digest", "slh_hash_verify", "slh_verify_hardened",
+    "slh_hash_verify_digest_hardened", "slh_verify_many", "slh_verify_front", "slh_verify_hashed",
+    "slh_verify_internal", "slh_lengths", "slh_refusal_name", "slh_sign_jobs", "slh_answer_place", "slh_keygen_jobs",
 ];
 const SECRET = [
-    "slh_keygen", "slh_public", "slh_check", "slh_sign", "slh_hash_sign", "slh_hash_sign_digest", "slh_sign_twice",
-    "slh_hash_sign_twice", "slh_hash_sign_digest_twice",
+    "slh_keygen", "slh_public", "slh_check", "slh_sign", "slh_hash_sign_digest", "slh_hash_sign", "slh_sign_twice",
+    "slh_hash_sign_digest_twice", "slh_hash_sign_twice", "slh_sign_internal", "slh_sign_start", "slh_hash_sign_start",
+    "slh_sign_job", "slh_sign_join", "slh_keygen_job", "slh_keygen_join",
 ];
+// tools/call_tables.py has written the lines up to here.
 
 /** Memory of the module that a call writes to, and that is not copied out. */
 export class Scratch {
@@ -30,6 +36,33 @@ class Room extends Scratch {
     constructor(length) {
         super(length);
         this.bytes = zeros(length);
+    }
+}
+
+/** Bytes that an item of slh_verify_many points to. */
+class Part extends Scratch {
+    constructor(bytes) {
+        super(byteLength(bytes));
+        this.bytes = bytes;
+    }
+}
+
+/** The items of slh_verify_many: four pointers and four lengths, of 64 bits each. */
+class Items extends Scratch {
+    constructor(count) {
+        super(64 * count);
+    }
+}
+
+/** Verdicts that slh_verify_many writes, of 32 bits each. */
+class Verdicts extends Room {
+    constructor(count) {
+        super(4 * count);
+    }
+
+    get values() {
+        const view = new DataView(this.bytes.buffer);
+        return Array.from({ length: this.length / 4 }, (_, at) => view.getUint32(4 * at, true));
     }
 }
 
@@ -73,14 +106,25 @@ class Instance {
 
     /** Copies the bytes in, calls, and copies out what was written. Returns the call's number. */
     run(name, numbers, places) {
-        places.forEach((place) => this.#copyIn(place));
+        places.forEach((place) => this.#copyIn(place, places));
         const result = this.#enter(name, [...numbers, ...places.flatMap(wordsOf)]);
         places.forEach((place) => this.#copyOut(place));
         return result;
     }
 
-    #copyIn({ it, at, length }) {
-        if (!(it instanceof Scratch)) this.#bytes(at, length).set(it);
+    #copyIn({ it, at, length }, places) {
+        if (it instanceof Items) this.#point(at, length, places);
+        else if (it instanceof Part) this.#bytes(at, length).set(it.bytes);
+        // No verdict begins as valid.
+        else if (it instanceof Verdicts) this.#bytes(at, length).fill(0xff);
+        else if (!(it instanceof Scratch)) this.#bytes(at, length).set(it);
+    }
+
+    /** Writes where the parts of items are, and their lengths. */
+    #point(at, length, places) {
+        const view = new DataView(this.#exports.memory.buffer, at, length);
+        const words = places.filter((place) => place.it instanceof Part).flatMap((place) => [place.at, place.length]);
+        words.forEach((word, it) => view.setBigUint64(8 * it, BigInt(word), true));
     }
 
     #copyOut({ it, at, length }) {
@@ -162,7 +206,21 @@ export class Calls {
         return result === DONE;
     }
 
-    /** Calls one that writes bytes into its last argument, and returns them. Throws a Fault or a Refusal. */
+    /**
+     * The verdicts of slh_verify_many on items of four arrays: key, message, context and signature. Each is true or
+     * false. Throws a Refusal if the call is refused.
+     */
+    judgeMany(set, items) {
+        const verdicts = new Verdicts(items.length);
+        const parts = items.flat().map((bytes) => new Part(bytes));
+        this.judge("slh_verify_many", [set], {}, ...parts, new Items(items.length), verdicts);
+        return verdicts.values.map((it) => it === DONE);
+    }
+
+    /**
+     * Calls one that writes bytes into its last argument, and returns them. Throws a Fault, a SelfTestFailed or a
+     * Refusal.
+     */
     write(name, length, numbers, lengths, ...given) {
         const room = new Room(length);
         const result = this.call(name, numbers, ...given, room);
@@ -171,6 +229,7 @@ export class Calls {
     }
 
     #error(result, lengths) {
+        if (result === SELF_TEST_FAILED) return new SelfTestFailed();
         if (result === FAULT) return new Fault("signing two times gave two different signatures");
         return this.refusal(result, ...(lengths[result] ?? []));
     }
@@ -198,8 +257,11 @@ export class Calls {
     }
 }
 
-/** The pointer and the length of a place, which has 64 bits. A number has no length. */
+/** The pointer and the length of a place, which has 64 bits. A number has no length, and items point to their parts. */
 function wordsOf({ it, at, length }) {
+    if (it instanceof Part) return [];
+    if (it instanceof Items) return [at, BigInt(length / 64)];
+    if (it instanceof Verdicts) return [at, BigInt(length / 4)];
     return it instanceof NumberRoom ? [at] : [at, BigInt(length)];
 }
 

@@ -23,6 +23,14 @@ export class Fault extends Error {
     }
 }
 
+/** An answer of the self-test is not the known one: the module may not be used. */
+export class SelfTestFailed extends Error {
+    constructor() {
+        super("40 SelfTestFailed: an answer of the self-test is not the known one");
+        this.name = "SelfTestFailed";
+    }
+}
+
 /** The module ended a call early. `cause` is the engine's error. The next call takes a new instance. */
 export class Trap extends Error {
     constructor(cause) {

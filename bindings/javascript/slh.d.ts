@@ -59,6 +59,11 @@ export class Fault extends Error {
     constructor(message: string);
 }
 
+/** An answer of `selfTest` is not the known one: the module may not be used on this engine. */
+export class SelfTestFailed extends Error {
+    constructor();
+}
+
 /**
  * The module ended a call early; `cause` is the engine's error. Its memory was cleared, and the next call takes a new
  * instance. Keys stay usable.
@@ -101,6 +106,15 @@ export interface SignOptions {
     twice?: boolean;
     /** Verifies the signature under the key's own public part. Throws a Fault if it is not valid. */
     verify?: boolean;
+}
+
+/** A signature with its key, message and context: an item of `verifyMany`. */
+export interface Signed {
+    publicKey: PublicKey;
+    message: Uint8Array;
+    signature: Uint8Array;
+    /** Without it the context is empty. */
+    context?: Uint8Array;
 }
 
 /** A public key, PK.seed and PK.root: 32, 48 or 64 bytes. */
@@ -179,6 +193,18 @@ export interface Library {
     /** The lengths of a set's keys and signatures. Throws a Refusal: NoSuchSet. */
     lengths(set: ParameterSet | ParameterSetName): Lengths;
 
+    /**
+     * Tests a set on this engine before it is used, as when a page or a service starts. A known key is made, and a
+     * known message is signed. PK.root and the SHA-256 of the signature have to be those that OpenSSL gave. The
+     * signature has to be valid, and invalid for another message. The test takes as long as to make a key, to sign once
+     * and to verify two times.
+     *
+     * It shows nothing about other sets, keys and messages, the pre-hash forms, random bytes and later faults, and does
+     * not replace a hash of slh.wasm. Throws a SelfTestFailed if an answer is not the known one. Throws a Refusal:
+     * NoSuchSet.
+     */
+    selfTest(set: ParameterSet | ParameterSetName): void;
+
     /** Makes a key from random bytes of crypto.getRandomValues (Algorithm 21). Throws as `keygen`. */
     generate(set: ParameterSet | ParameterSetName): SecretKey;
 
@@ -196,6 +222,12 @@ export interface Library {
 
     /** The public key of these bytes. Throws a Refusal: NoSuchSet; BadLength unless there are 2n. */
     publicKey(set: ParameterSet | ParameterSetName, bytes: Uint8Array): PublicKey;
+
+    /**
+     * Whether each signature of the pure form is valid, in order: in less time than by `verify` for each. The keys may
+     * be of several sets.
+     */
+    verifyMany(items: Iterable<Signed>): boolean[];
 
     /**
      * The secret key of a key file of either version. A string cannot be overwritten: hand in bytes, and overwrite

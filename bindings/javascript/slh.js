@@ -27,7 +27,7 @@ import { formatKey, parseKey } from "./key_files.js";
 import { readOptions, SIGN_OPTIONS } from "./options.js";
 import { DIGEST_LENGTHS, NAMES } from "./sets.js";
 
-export { Erased, Fault, Refusal, Trap } from "./errors.js";
+export { Erased, Fault, Refusal, SelfTestFailed, Trap } from "./errors.js";
 export {
     SLH_DSA_SHA2_128F, SLH_DSA_SHA2_128S, SLH_DSA_SHA2_192F, SLH_DSA_SHA2_192S, SLH_DSA_SHA2_256F, SLH_DSA_SHA2_256S,
     SLH_SHA2_224, SLH_SHA2_256, SLH_SHA2_384, SLH_SHA2_512, SLH_SHA2_512_224, SLH_SHA2_512_256,
@@ -268,6 +268,12 @@ class SecretKey {
     }
 }
 
+/** The set and the parts of an item of `verifyMany`. */
+function checkedItem({ publicKey, message, signature, context = NONE }) {
+    if (!(publicKey instanceof PublicKey)) throw new TypeError("an item needs a publicKey, as of publicKey()");
+    return { set: publicKey.set, parts: [bytesOf.get(publicKey), message, context, signature] };
+}
+
 /** A key that was just made. Erases it and throws a Fault, unless PK.root is the root of its seeds. */
 function expectConsistent(secret) {
     let isConsistent = false;
@@ -296,6 +302,12 @@ class Library {
         return this.#calls.lengths(checkedSet(set));
     }
 
+    selfTest(set) {
+        const number = checkedSet(set);
+        // The scratch is the last argument. It has a signature of a known key.
+        this.#calls.write("slh_self_test", this.lengths(number).signature, [number], {});
+    }
+
     generate(set) {
         const { n } = this.lengths(set);
         const seeds = [zeros(n), zeros(n), zeros(n)];
@@ -322,6 +334,17 @@ class Library {
 
     publicKey(set, bytes) {
         return new PublicKey(this.#calls, checkedSet(set), bytes);
+    }
+
+    verifyMany(items) {
+        const given = [...items].map(checkedItem);
+        const valid = given.map(() => false);
+        for (const set of new Set(given.map((it) => it.set))) {
+            const places = [...given.keys()].filter((place) => given[place].set === set);
+            const verdicts = this.#calls.judgeMany(set, places.map((place) => given[place].parts));
+            places.forEach((place, it) => { valid[place] = verdicts[it]; });
+        }
+        return valid;
     }
 
     parseSecretKey(file) {

@@ -1,7 +1,8 @@
 /*
- * For the library of several levels of x86-64: exports.c calls the proved export of the best level, which is named
- * slh_NAME_v2, slh_NAME_v3 or slh_NAME_v4. SLH_HIGHEST is the highest that there is, 3 or 4. On a processor that has
- * not even x86-64-v2 no proved export is called: its first instruction of that level would end the program.
+ * For a library of several levels: exports.c calls the proved export of the best level, which is named slh_NAME_v2,
+ * slh_NAME_v3 or slh_NAME_v4. On x86-64 these are x86-64-v2 to -v4, and on 64-bit ARM NEON, SHA-256's instructions, and
+ * SHA-512's, too. SLH_HIGHEST is the highest that there is, 3 or 4. On a processor that has not even x86-64-v2 no proved
+ * export is called: its first instruction of that level would end the program.
  */
 #ifndef SLH_ALL_LEVELS_H
 #define SLH_ALL_LEVELS_H
@@ -39,6 +40,14 @@
 #define OPEN(name, parameters, arguments) OF_LEVELS(name, parameters, arguments, SLH_OLD_PROCESSOR)
 #define HARDENED(name, parameters, arguments) OF_LEVELS(name, parameters, arguments, SLH_HARDENED_INVALID)
 #define VERSION(name, parameters, arguments) OF_LEVELS(name, parameters, arguments, SLH_VERSION_NUMBER)
+
+/* A refusal is in each verdict, too. */
+static uint32_t put_own_refusal(uint32_t *verdicts, size_t verdicts_len) {
+    for (size_t i = 0; i < verdicts_len; i++) verdicts[i] = SLH_OLD_PROCESSOR;
+    return SLH_OLD_PROCESSOR;
+}
+#define MANY(name, parameters, arguments) \
+    OF_LEVELS(name, parameters, arguments, put_own_refusal(verdicts, verdicts_len))
 
 /* The proved code has no name for the refusal that is ours. */
 static uint32_t put_own_name(uint32_t refusal, char *name, size_t name_len) {

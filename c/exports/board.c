@@ -1,5 +1,5 @@
 /*
- * The calls of slh_verify.h on a machine whose pointers have 32 bits, over the proved exports: tools/target.sh renames
+ * The calls of slh_verify.h on a machine whose pointers have 32 bits, over the proved exports: tools/targets.py renames
  * these and joins them to this file. Nothing here is proved. A length of 32 bits is handed on as one of 64.
  *
  * SPDX-License-Identifier: MIT OR Apache-2.0

@@ -1,15 +1,18 @@
 /*
  * The proved exports, a line each. SECRET(NAME, PARAMETERS, ARGUMENTS) stands for a call that takes secrets, and OPEN
  * for a call that takes none. Some of the latter have kinds of their own: SIZES if it writes sizes, HARDENED if it
- * returns a hardened verdict, VERSION if it returns a version, NAME if it writes a refusal's name. The file that
- * includes this one defines these macros. A kind that it does not define is OPEN. The compiler compares each line with
- * the headers. a, b and c are SK.seed, SK.prf and PK.seed.
+ * returns a hardened verdict, MANY if it writes verdicts, VERSION if it returns a version, NAME if it writes a
+ * refusal's name. The file that includes this one defines these macros. A kind that it does not define is OPEN. The
+ * compiler compares each line with the headers. a, b and c are SK.seed, SK.prf and PK.seed.
  */
 #ifndef SIZES
 #define SIZES OPEN
 #endif
 #ifndef HARDENED
 #define HARDENED OPEN
+#endif
+#ifndef MANY
+#define MANY OPEN
 #endif
 #ifndef VERSION
 #define VERSION OPEN
@@ -86,6 +89,9 @@ SECRET(keygen_join,
        (uint32_t set, uint32_t xmss_levels, const uint8_t *a, size_t a_len, const uint8_t *b, size_t b_len,
         const uint8_t *c, size_t c_len, const uint8_t *answers, size_t answers_len, uint8_t *sk, size_t sk_len),
        (set, xmss_levels, a, a_len, b, b_len, c, c_len, answers, answers_len, sk, sk_len))
+OPEN(self_test,
+     (uint32_t set, uint8_t *scratch, size_t scratch_len),
+     (set, scratch, scratch_len))
 VERSION(version,
         (void),
         ())
@@ -109,6 +115,9 @@ HARDENED(hash_verify_digest_hardened,
          (uint32_t set, uint32_t function, const uint8_t *pk, size_t pk_len, const uint8_t *digest, size_t digest_len,
           const uint8_t *ctx, size_t ctx_len, const uint8_t *sig, size_t sig_len),
          (set, function, pk, pk_len, digest, digest_len, ctx, ctx_len, sig, sig_len))
+MANY(verify_many,
+     (uint32_t set, const slh_signed *items, size_t items_len, uint32_t *verdicts, size_t verdicts_len),
+     (set, items, items_len, verdicts, verdicts_len))
 OPEN(verify_front,
      (uint32_t set, const uint8_t *pk, size_t pk_len, const uint8_t *ctx, size_t ctx_len, const uint8_t *sig,
       size_t sig_len, uint8_t *front, size_t front_len),

@@ -1,5 +1,5 @@
 /*
- * The calls of the library for C, round the proved exports: tools/target.sh renames these and joins them to this file.
+ * The calls of the library for C, round the proved exports: tools/targets.py renames these and joins them to this file.
  * Nothing here is proved.
  *
  * With SLH_ALL_LEVELS each call goes to the code for the best level of x86-64 that processor and system have, and is

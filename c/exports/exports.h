@@ -32,10 +32,12 @@ struct slh_processor {
 };
 
 HIDDEN struct slh_processor slh_ask_processor(void);
+#endif
 
+#if defined(__x86_64__) || defined(SLH_ALL_LEVELS)
 /*
- * The chosen level (2, 3 or 4, or BELOW_V2) in the lowest byte, and the vectors above it. It is 0 before the first
- * call.
+ * The chosen level (2, 3 or 4, or BELOW_V2) in the lowest byte, and the vectors of x86-64 above it. It is 0 before the
+ * first call.
  */
 extern HIDDEN uint32_t slh_choice;
 enum { LEVEL_MASK = 0xff, VECTORS_SHIFT = 8 };

@@ -43,6 +43,8 @@ const char *slh_refusal_text(uint32_t result) {
         return "two computations of one signature differ, so memory or the processor failed: nothing was signed";
     case SLH_OLD_PROCESSOR:
         return "the processor, or the one that a virtual machine shows, is below x86-64-v2";
+    case SLH_SELF_TEST_FAILED:
+        return "an answer of the self-test is not the known one: do not use this set on this machine";
     default:
         return "this number is no result of the library";
     }

@@ -83,6 +83,11 @@ struct Lengths {
     }
 };
 
+/* Tests a set by one known key and message, before it is used (slh_self_test). Throws 40 SelfTestFailed. */
+inline void self_test(slh_set set) {
+    if (!call(slh_self_test, set, Bytes(Lengths(set).signature))) fail(Error(SLH_SELF_TEST_FAILED));
+}
+
 /* Fills bytes with fresh random ones that are fit for keys, or throws. A system without getentropy needs another. */
 using Fill = void (*)(uint8_t *bytes, size_t size);
 inline void system_random(uint8_t *bytes, size_t size) {
@@ -107,6 +112,7 @@ public:
     PublicKey(slh_set set, View bytes)
         : set_(set), bytes_(bytes.data, bytes.data + Lengths::expect(Lengths(set).public_key, bytes).size) {}
     const Bytes &bytes() const noexcept { return bytes_; }
+    slh_set set() const noexcept { return set_; }
     [[nodiscard]] bool verify(View message, View signature, View context = {}) const {
         return call(slh_verify, set_, View(bytes_), message, context, signature);
     }
@@ -121,6 +127,30 @@ private:
     slh_set set_;
     Bytes bytes_;
 };
+
+struct Signed { /* An item of verify_many. The key and the bytes that are viewed have to last until that returns. */
+    const PublicKey *key;
+    View message, signature, context = {};
+};
+/* Whether each signature is valid, in order: in less time than one by one, by one call for each set. */
+[[nodiscard]] inline std::vector<bool> verify_many(const std::vector<Signed> &items) {
+    std::vector<bool> valid(items.size());
+    for (uint32_t set = SLH_DSA_SHA2_128S; set <= SLH_DSA_SHA2_256F; ++set) {
+        std::vector<size_t> places;
+        std::vector<slh_signed> given;
+        for (size_t at = 0; at < items.size(); ++at) {
+            const auto &[key, msg, sig, ctx] = items[at];
+            if (key->set() != static_cast<slh_set>(set)) continue;
+            const Bytes &pk = key->bytes();
+            given.push_back({pk.data(), pk.size(), msg.data, msg.size, ctx.data, ctx.size, sig.data, sig.size});
+            places.push_back(at);
+        }
+        std::vector<uint32_t> verdicts(given.size(), SLH_INVALID);
+        call([&] { return slh_verify_many(set, given.data(), given.size(), verdicts.data(), verdicts.size()); });
+        for (size_t i = 0; i < places.size(); ++i) valid[places[i]] = verdicts[i] == SLH_DONE;
+    }
+    return valid;
+}
 
 class SecretKey { /* SK.seed, SK.prf, PK.seed and PK.root: 4n bytes, which are erased. No copies, no ==, no <<. */
 public:

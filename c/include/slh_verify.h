@@ -36,10 +36,10 @@
 
 /* The version of this header: three numbers, the number that slh_version returns for it, and the text. */
 #define SLH_VERSION_MAJOR 0
-#define SLH_VERSION_MINOR 13
+#define SLH_VERSION_MINOR 14
 #define SLH_VERSION_PATCH 0
 #define SLH_VERSION_NUMBER (1000000 * SLH_VERSION_MAJOR + 1000 * SLH_VERSION_MINOR + SLH_VERSION_PATCH)
-#define SLH_VERSION "0.13.0"
+#define SLH_VERSION "0.14.0"
 
 /* Marks each call whose result has to be checked: compilers that can do so warn if it is ignored. */
 #if defined(__cplusplus) && __cplusplus >= 201703L
@@ -112,7 +112,8 @@ enum slh_result {
     SLH_INVALID = 30,
     SLH_NO_MEMORY = 37,
     SLH_FAULT = 38,
-    SLH_OLD_PROCESSOR = 39
+    SLH_OLD_PROCESSOR = 39,
+    SLH_SELF_TEST_FAILED = 40
 };
 
 /* n of each set: the length of a hash value, of a seed and of a randomizer in bytes. */

@@ -4,6 +4,8 @@
 #define WORD(i) {NULL, numbers[i], 4, 0}
 #define SIZE(i) ((size_t)get64(numbers[i]))
 
+/* tools/call_tables.py writes the lines from here on. */
+
 uint32_t slh_lengths(uint32_t set, size_t *pk_len, size_t *sk_len, size_t *sig_len, size_t *n) {
     uint8_t numbers[4][8];
     struct part parts[] = {NUMBER(0), NUMBER(1), NUMBER(2), NUMBER(3)};
@@ -31,6 +33,12 @@ uint32_t slh_check(uint32_t set, const uint8_t *sk, size_t sk_len) {
     return result;
 }
 
+uint32_t slh_self_test(uint32_t set, uint8_t *scratch, size_t scratch_len) {
+    struct part parts[] = {WRITE(scratch)};
+    RUN(self_test, set, B(0));
+    return result;
+}
+
 uint32_t slh_sign(uint32_t set, const uint8_t *sk, size_t sk_len, const uint8_t *msg, size_t msg_len,
                   const uint8_t *ctx, size_t ctx_len, const uint8_t *randomizer, size_t randomizer_len, uint8_t *sig,
                   size_t sig_len) {
@@ -52,6 +60,20 @@ uint32_t slh_hash_sign(uint32_t set, uint32_t function, const uint8_t *sk, size_
                        size_t randomizer_len, uint8_t *sig, size_t sig_len) {
     struct part parts[] = {READ(sk), READ(msg), READ(ctx), READ(randomizer), WRITE(sig)};
     RUN(hash_sign, set, function, B(0), B(1), B(2), B(3), B(4));
+    return result;
+}
+
+uint32_t slh_verify_front(uint32_t set, const uint8_t *pk, size_t pk_len, const uint8_t *ctx, size_t ctx_len,
+                          const uint8_t *sig, size_t sig_len, uint8_t *front, size_t front_len) {
+    struct part parts[] = {READ(pk), READ(ctx), READ(sig), WRITE(front)};
+    RUN(verify_front, set, B(0), B(1), B(2), B(3));
+    return result;
+}
+
+uint32_t slh_verify_hashed(uint32_t set, const uint8_t *pk, size_t pk_len, const uint8_t *hash, size_t hash_len,
+                           const uint8_t *sig, size_t sig_len) {
+    struct part parts[] = {READ(pk), READ(hash), READ(sig)};
+    RUN(verify_hashed, set, B(0), B(1), B(2));
     return result;
 }
 
@@ -81,48 +103,6 @@ uint32_t slh_hash_sign_twice(uint32_t set, uint32_t function, const uint8_t *sk,
     return result;
 }
 
-uint32_t slh_verify_front(uint32_t set, const uint8_t *pk, size_t pk_len, const uint8_t *ctx, size_t ctx_len,
-                          const uint8_t *sig, size_t sig_len, uint8_t *front, size_t front_len) {
-    struct part parts[] = {READ(pk), READ(ctx), READ(sig), WRITE(front)};
-    RUN(verify_front, set, B(0), B(1), B(2), B(3));
-    return result;
-}
-
-uint32_t slh_verify_hashed(uint32_t set, const uint8_t *pk, size_t pk_len, const uint8_t *hash, size_t hash_len,
-                           const uint8_t *sig, size_t sig_len) {
-    struct part parts[] = {READ(pk), READ(hash), READ(sig)};
-    RUN(verify_hashed, set, B(0), B(1), B(2));
-    return result;
-}
-
-uint32_t slh_sign_internal(uint32_t set, const uint8_t *sk, size_t sk_len, const uint8_t *msg, size_t msg_len,
-                           const uint8_t *randomizer, size_t randomizer_len, uint8_t *sig, size_t sig_len) {
-    struct part parts[] = {READ(sk), READ(msg), READ(randomizer), WRITE(sig)};
-    RUN(sign_internal, set, B(0), B(1), B(2), B(3));
-    return result;
-}
-
-uint32_t slh_verify_internal(uint32_t set, const uint8_t *pk, size_t pk_len, const uint8_t *msg, size_t msg_len,
-                             const uint8_t *sig, size_t sig_len) {
-    struct part parts[] = {READ(pk), READ(msg), READ(sig)};
-    RUN(verify_internal, set, B(0), B(1), B(2));
-    return result;
-}
-
-/* The proved code has no name for the refusal that is ours. */
-uint32_t slh_refusal_name(uint32_t refusal, char *name, size_t name_len) {
-    static const char ours[] = "NoMemory";
-    if (refusal == SLH_NO_MEMORY) {
-        if (name_len < sizeof ours) return SLH_BAD_OUTPUT_LENGTH;
-        memset(name, 0, name_len);
-        memcpy(name, ours, sizeof ours);
-        return SLH_DONE;
-    }
-    struct part parts[] = {WRITE(name)};
-    RUN(refusal_name, refusal, B(0));
-    return result;
-}
-
 uint32_t slh_sign_jobs(uint32_t set, uint32_t xmss_levels, uint32_t fors_levels, uint32_t *jobs, size_t *start_len,
                        size_t *answers_len) {
     uint8_t numbers[3][8];
@@ -132,12 +112,12 @@ uint32_t slh_sign_jobs(uint32_t set, uint32_t xmss_levels, uint32_t fors_levels,
     return result;
 }
 
-uint32_t slh_answer_place(uint32_t set, uint32_t xmss_levels, uint32_t fors_levels, uint32_t job, size_t *place,
+uint32_t slh_answer_place(uint32_t set, uint32_t xmss_levels, uint32_t fors_levels, uint32_t job, size_t *at,
                           size_t *len) {
     uint8_t numbers[2][8];
     struct part parts[] = {NUMBER(0), NUMBER(1)};
     RUN(answer_place, set, xmss_levels, fors_levels, job, P(0), P(1));
-    if (result == SLH_DONE) *place = SIZE(0), *len = SIZE(1);
+    if (result == SLH_DONE) *at = SIZE(0), *len = SIZE(1);
     return result;
 }
 
@@ -165,8 +145,8 @@ uint32_t slh_sign_job(uint32_t set, uint32_t xmss_levels, uint32_t fors_levels, 
 }
 
 uint32_t slh_sign_join(uint32_t set, uint32_t xmss_levels, uint32_t fors_levels, const uint8_t *sk, size_t sk_len,
-                       const uint8_t *start, size_t start_len, const uint8_t *answers, size_t answers_len,
-                       uint8_t *sig, size_t sig_len) {
+                       const uint8_t *start, size_t start_len, const uint8_t *answers, size_t answers_len, uint8_t *sig,
+                       size_t sig_len) {
     struct part parts[] = {READ(sk), READ(start), READ(answers), WRITE(sig)};
     RUN(sign_join, set, xmss_levels, fors_levels, B(0), B(1), B(2), B(3));
     return result;
@@ -193,6 +173,53 @@ uint32_t slh_keygen_join(uint32_t set, uint32_t xmss_levels, const uint8_t *sk_s
                          const uint8_t *answers, size_t answers_len, uint8_t *sk, size_t sk_len) {
     struct part parts[] = {READ(sk_seed), READ(sk_prf), READ(pk_seed), READ(answers), WRITE(sk)};
     RUN(keygen_join, set, xmss_levels, B(0), B(1), B(2), B(3), B(4));
+    return result;
+}
+
+uint32_t slh_sign_internal(uint32_t set, const uint8_t *sk, size_t sk_len, const uint8_t *msg, size_t msg_len,
+                           const uint8_t *randomizer, size_t randomizer_len, uint8_t *sig, size_t sig_len) {
+    struct part parts[] = {READ(sk), READ(msg), READ(randomizer), WRITE(sig)};
+    RUN(sign_internal, set, B(0), B(1), B(2), B(3));
+    return result;
+}
+
+uint32_t slh_verify_internal(uint32_t set, const uint8_t *pk, size_t pk_len, const uint8_t *msg, size_t msg_len,
+                             const uint8_t *sig, size_t sig_len) {
+    struct part parts[] = {READ(pk), READ(msg), READ(sig)};
+    RUN(verify_internal, set, B(0), B(1), B(2));
+    return result;
+}
+
+/* tools/call_tables.py has written the lines up to here. */
+
+/* The proved code of this file has one lane, in which one signature after another takes no longer. */
+uint32_t slh_verify_many(uint32_t set, const slh_signed *items, size_t items_len, uint32_t *verdicts,
+                         size_t verdicts_len) {
+    uint32_t refusal = set < SLH_DSA_SHA2_128S || set > SLH_DSA_SHA2_256F ? SLH_NO_SUCH_SET
+                       : verdicts_len != items_len                        ? SLH_BAD_OUTPUT_LENGTH
+                                                                          : SLH_DONE;
+    uint32_t result = refusal;
+    for (size_t i = 0; i < verdicts_len; i++) {
+        verdicts[i] = refusal != SLH_DONE ? refusal
+                                          : slh_verify(set, items[i].pk, (size_t)items[i].pk_len, items[i].msg,
+                                                       (size_t)items[i].msg_len, items[i].ctx, (size_t)items[i].ctx_len,
+                                                       items[i].sig, (size_t)items[i].sig_len);
+        if (result == SLH_DONE) result = verdicts[i];
+    }
+    return result;
+}
+
+/* The proved code has no name for the refusal that is ours. */
+uint32_t slh_refusal_name(uint32_t refusal, char *name, size_t name_len) {
+    static const char ours[] = "NoMemory";
+    if (refusal == SLH_NO_MEMORY) {
+        if (name_len < sizeof ours) return SLH_BAD_OUTPUT_LENGTH;
+        memset(name, 0, name_len);
+        memcpy(name, ours, sizeof ours);
+        return SLH_DONE;
+    }
+    struct part parts[] = {WRITE(name)};
+    RUN(refusal_name, refusal, B(0));
     return result;
 }
 

@@ -98,14 +98,72 @@ void verify(const Test &test) {
     expect(is_valid == (test.at("valid") == "True"), "a verdict of " + test.at("form"));
 }
 
+// The verify tests of the pure form, as items of verify_many, and whether they are valid.
+struct Many {
+    std::vector<Test> tests;
+    std::vector<slh::PublicKey> keys;
+    std::vector<std::array<slh::Bytes, 3>> parts;
+
+    void add(const Test &test) {
+        if (test.at("kind") != "verify" || test.at("form") != "pure") return;
+        tests.push_back(test);
+        keys.emplace_back(set, bytes_of(test, "pk"));
+        parts.push_back({bytes_of(test, "message"), bytes_of(test, "signature"), bytes_of(test, "context")});
+    }
+
+    // Compares the verdicts on so many tests from this one on.
+    void compare(std::size_t count, std::size_t first) const {
+        std::vector<slh::Signed> items;
+        std::vector<bool> wanted;
+        for (std::size_t at = first; at < first + count; ++at) {
+            items.push_back({&keys[at], parts[at][0], parts[at][1], parts[at][2]});
+            wanted.push_back(tests[at].at("valid") == "True");
+        }
+        expect(slh::verify_many(items) == wanted, std::to_string(count) + " verdicts from " + std::to_string(first));
+    }
+
+    void compare_all() const {
+        expect(tests.size() > 20, "tests of verify_many");
+        const std::size_t counts[] = {0, 1, 7, 8, 9, 17};
+        for (const std::size_t count : counts)
+            for (std::size_t first = 0; first + count <= tests.size(); first += 3) compare(count, first);
+    }
+};
+
+// In a list of valid items one is not, by another message, context, key, set or signature.
+void test_many() {
+    const auto secret = slh::SecretKey::generate(set), other = slh::SecretKey::generate(set);
+    const auto key = secret.public_key(), other_key = other.public_key();
+    const slh::PublicKey of_other_set(SLH_DSA_SHA2_128S, key.bytes());
+    const slh::Bytes signature = secret.sign("letter"), long_context(256);
+    slh::Bytes damaged = signature;
+    damaged.back() ^= 1;
+    const slh::Signed good = {&key, "letter", signature, {}};
+    const std::vector<slh::Signed> bad = {
+        {&other_key, "letter", signature, {}}, {&of_other_set, "letter", signature, {}},
+        {&key, "letters", signature, {}},      {&key, "letter", signature, long_context},
+        {&key, "letter", damaged, {}},         {&key, "letter", {signature.data(), signature.size() - 1}, {}}};
+    for (const auto &[count, place] : {std::pair{1, 0}, {7, 3}, {8, 0}, {8, 7}, {9, 8}, {17, 8}, {17, 16}})
+        for (const slh::Signed &it : bad) {
+            std::vector<slh::Signed> items(std::size_t(count), good);
+            std::vector<bool> wanted(std::size_t(count), true);
+            items[std::size_t(place)] = it;
+            wanted[std::size_t(place)] = false;
+            expect(slh::verify_many(items) == wanted, "a damaged item at " + std::to_string(place));
+        }
+}
+
 void run_vectors() {
     std::map<std::string, int> kinds;
+    Many many;
     for (std::string line; std::getline(std::cin, line);) {
         const Test test = read_test(line);
         const std::string kind = test.at("kind");
         ++kinds[kind];
+        many.add(test);
         kind == "keygen" ? keygen(test) : kind == "sign" ? sign(test) : verify(test);
     }
+    many.compare_all();
     expect(kinds["keygen"] > 0 && kinds["sign"] > 1 && kinds["verify"] > 1, "tests of each kind");
 }
 
@@ -253,12 +311,21 @@ void test_faults() {
 // Calls of the two functions that sign, and whether slh_keygen flips a bit of a byte: the linker's --wrap leads here.
 int single_calls = 0, double_calls = 0, flipped_byte = -1;
 
+// What slh_self_test returns if the library's own result is SLH_DONE.
+std::uint32_t self_test_result = SLH_DONE;
+
 } // namespace
 
 extern "C" {
 decltype(slh_sign) __real_slh_sign, __wrap_slh_sign;
 decltype(slh_sign_twice) __real_slh_sign_twice, __wrap_slh_sign_twice;
 decltype(slh_keygen) __real_slh_keygen, __wrap_slh_keygen;
+decltype(slh_self_test) __real_slh_self_test, __wrap_slh_self_test;
+
+std::uint32_t __wrap_slh_self_test(std::uint32_t id, std::uint8_t *scratch, std::size_t scratch_len) {
+    const std::uint32_t result = __real_slh_self_test(id, scratch, scratch_len);
+    return result == SLH_DONE ? self_test_result : result;
+}
 
 std::uint32_t __wrap_slh_sign(std::uint32_t id, const std::uint8_t *sk, std::size_t sk_len, const std::uint8_t *msg,
                               std::size_t msg_len, const std::uint8_t *ctx, std::size_t ctx_len,
@@ -311,6 +378,18 @@ void test_new_keys() {
     }
     flipped_byte = -1;
     expect(slh::SecretKey::generate(set).check(), "a new key");
+}
+
+// Each set passes. Another result of the library is told.
+void test_self_test() {
+    for (std::uint32_t id = SLH_DSA_SHA2_128S; id <= SLH_DSA_SHA2_256F; ++id) slh::self_test(static_cast<slh_set>(id));
+    expect(refuses([] { slh::self_test(static_cast<slh_set>(7)); }, SLH_NO_SUCH_SET, "8 NoSuchSet"), "no set");
+    for (const std::uint32_t result : {SLH_SELF_TEST_FAILED, SLH_INVALID}) {
+        self_test_result = result;
+        const auto tests = [] { slh::self_test(set); };
+        expect(refuses(tests, SLH_SELF_TEST_FAILED, "40 SelfTestFailed"), "another answer of the self-test");
+    }
+    self_test_result = SLH_DONE;
 }
 
 // Whether one of some signatures of a message that another thread changes is a fault.
@@ -373,6 +452,7 @@ void test_erased() {
 
 int main() try {
     run_vectors();
+    test_many();
     test_traits();
     test_views();
     test_texts();
@@ -382,6 +462,7 @@ int main() try {
     expect(finds_changes(sk, false) && !finds_changes(sk, true), "two computations that differ are found");
     test_computations(sk);
     test_new_keys();
+    test_self_test();
     test_erased();
     std::cout << passed << " passed, " << failed << " failed, 0 skipped\n";
     return failed != 0;

@@ -29,7 +29,8 @@ END
 test_types() {
     one "$1 compiles slh.hpp as $2" "$1" -std="$2" -O1 "${strict[@]}" -I "$here/c/include" -I "$prefix/include" \
         -o "$work/slh_hpp" "$here/bindings/cmake/tests/slh_hpp.cpp" "$prefix/lib/libslh.a" -pthread \
-        -Wl,--wrap=slh_sign,--wrap=slh_sign_twice,--wrap=slh_keygen && count "$1, $2: types of slh.hpp" by_vectors "$work/slh_hpp"
+        -Wl,--wrap=slh_sign,--wrap=slh_sign_twice,--wrap=slh_keygen,--wrap=slh_self_test &&
+        count "$1, $2: types of slh.hpp" by_vectors "$work/slh_hpp"
 }
 
 by_vectors() {
@@ -73,7 +74,7 @@ ends_with() {
     [ $status = 134 ] && [ ! -s "$work/out" ] && grep -qF -- "slh: $text" "$work/why"
 }
 
-one "slh.hpp has at most 180 lines" test "$(wc -l <"$here/c/include/slh.hpp")" -le 180
+one "slh.hpp has at most 210 lines" test "$(wc -l <"$here/c/include/slh.hpp")" -le 210
 if can_run "C++" python3; then
     write_vectors >"$work/vectors"
     for cxx in g++ clang++; do

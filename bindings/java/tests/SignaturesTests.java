@@ -20,6 +20,13 @@ final class SignaturesTests {
 
     private SignaturesTests() {}
 
+    /** Of each set. tests/test_java.py runs the self-test over a library with another answer. */
+    static void selfTests() {
+        for (SlhSet set : SlhSet.values()) {
+            set.selfTest();
+        }
+    }
+
     private static byte[] signed(String algorithm, PrivateKey key, SlhSignatureSpec spec) throws Exception {
         Signature signing = Signature.getInstance(algorithm, Tests.PROVIDER);
         signing.initSign(key);

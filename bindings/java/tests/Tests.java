@@ -15,7 +15,8 @@ import java.util.Objects;
  */
 final class Tests {
     private static final List<Class<?>> CLASSES = List.of(VectorsTests.class, KeysTests.class, SignaturesTests.class,
-            SecretsTests.class, OpenSslTests.class, KeyStoreTests.class, BouncyCastleTests.class, TlsTests.class);
+            ManyTests.class, SecretsTests.class, OpenSslTests.class, KeyStoreTests.class, BouncyCastleTests.class,
+            TlsTests.class);
     static final SlhProvider PROVIDER = new SlhProvider();
 
     private static int passed;

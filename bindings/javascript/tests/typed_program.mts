@@ -1,10 +1,27 @@
 // A program over the package slh for tsc --strict, without the types of browsers. tests/test_javascript.py compiles it.
-import { Fault, load, Refusal, type SecretKey, SLH_DSA_SHA2_128F, SLH_SHA2_256 } from "slh";
+import { Fault, load, Refusal, SelfTestFailed } from "slh";
+import { type SecretKey, type Signed, SLH_DSA_SHA2_128F, SLH_SHA2_256 } from "slh";
 import { toPem } from "slh/pkix";
 import { signInWorker, type WorkerOptions } from "slh/worker";
 
 export function later(secret: SecretKey, message: Uint8Array, signal: WorkerOptions["signal"]): Promise<Uint8Array> {
     return signInWorker(secret, message, { signal, once: true });
+}
+
+export async function allValid(items: Iterable<Signed>): Promise<boolean> {
+    const slh = await load();
+    return slh.verifyMany(items).every((isValid) => isValid);
+}
+
+export async function mayStart(): Promise<boolean> {
+    const slh = await load();
+    try {
+        const nothing: void = slh.selfTest("SLH-DSA-SHA2-128f");
+        return nothing === undefined;
+    } catch (error) {
+        if (error instanceof SelfTestFailed) return false;
+        throw error;
+    }
 }
 
 export async function sign(message: Uint8Array): Promise<Uint8Array | number> {

@@ -40,7 +40,7 @@ import warnings
 import weakref
 
 from slh import _calls, _key_files
-from slh._calls import Bytes, Erased, Fault, Invalid, Refusal
+from slh._calls import Bytes, Erased, Fault, Invalid, Refusal, SelfTestFailed
 from slh._calls import Length as _Length
 from slh._calls import Memory as _Memory
 from slh._calls import library as _library
@@ -55,14 +55,18 @@ __all__ = [
     "PublicKey",
     "Refusal",
     "SecretKey",
+    "SelfTestFailed",
     "Set",
+    "Signed",
     "Signer",
     "load",
     "loads",
+    "self_test",
+    "verify_many",
     "version",
 ]
 
-for _it in (Erased, Fault, Invalid, Refusal):
+for _it in (Erased, Fault, Invalid, Refusal, SelfTestFailed):
     _it.__module__ = __name__
 
 _CONTEXT_TOO_LONG = 2
@@ -106,6 +110,18 @@ class Set(enum.IntEnum):
     @classmethod
     def _missing_(cls, value: object) -> Set | None:
         return next((it for it in cls if it.label == value), None)
+
+
+def self_test(set: AnySet) -> None:
+    """Tests a set on this machine before it is used, as when a service starts: raises SelfTestFailed if that fails.
+
+    A known key is made, and a known message is signed. PK.root and the SHA-256 of the signature have to be those that
+    OpenSSL gave. The signature has to be valid, and invalid for another message. The test takes as long as to make a
+    key, to sign once and to verify two times. It shows nothing about other sets, keys and messages, the pre-hash forms,
+    random bytes and later faults, and does not replace a hash of the library's file. Raises Refusal: NoSuchSet.
+    """
+    checked = _checked_set(set)
+    _calls.done("slh_self_test", checked, _Memory(_lengths(checked).signature))
 
 
 class Function(enum.IntEnum):
@@ -335,6 +351,55 @@ class PublicKey(_Key):
 
     def __repr__(self) -> str:
         return f"<slh.PublicKey {self._set.label} {self.fingerprint}>"
+
+
+class Signed(typing.NamedTuple):
+    """A signature with its key, message and context: an item of `verify_many`."""
+
+    public: PublicKey
+    message: Bytes
+    signature: Bytes
+    context: Bytes = b""
+
+
+def verify_many(items: typing.Iterable[Signed]) -> list[bool]:
+    """Verifies signatures of the pure form (Algorithm 24), in less time than a call of `verify` for each takes.
+
+    Returns for each item, in order, whether its signature is valid. The keys may be of several sets: the library is
+    called once for each set. Raises nothing for an item that is not valid.
+    """
+    given = [_checked_signed(it) for it in items]
+    places: dict[Set, list[int]] = {}
+    for place, it in enumerate(given):
+        places.setdefault(it.public.set, []).append(place)
+    valid = [False] * len(given)
+    for set, of in places.items():
+        for place, verdict in zip(of, _verdicts(set, [given[place] for place in of])):
+            valid[place] = verdict == _calls.DONE
+    return valid
+
+
+def _checked_signed(given: Signed) -> Signed:
+    public, *texts = given
+    if not isinstance(public, PublicKey):
+        raise TypeError(f"an slh.PublicKey is needed, not {type(public).__name__}")
+    message, signature, context = (_calls.checked_bytes(it) for it in texts)
+    return Signed(public, message, signature, context)
+
+
+def _verdicts(set: Set, items: typing.Sequence[Signed]) -> list[int]:
+    """The verdicts on items whose keys are of this set, and whose texts are `bytes`, which are not copied."""
+    given = (_calls.Item * len(items))()
+    for to, (public, message, signature, context) in zip(given, items):
+        to.pk, to.pk_len = public._memory.words()[0], public._memory.length
+        to.msg, to.msg_len = message, len(message)
+        to.ctx, to.ctx_len = context, len(context)
+        to.sig, to.sig_len = signature, len(signature)
+    verdicts = (ctypes.c_uint32 * len(items))(*[_calls.INVALID] * len(items))
+    result = _calls.call("slh_verify_many", set, given, verdicts)
+    if result not in (_calls.DONE, _calls.INVALID):
+        raise Refusal(result)
+    return list(verdicts)
 
 
 class SecretKey(_Key):

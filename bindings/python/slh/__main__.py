@@ -1,5 +1,6 @@
 """The commands keygen, public, sign, verify and check of the program `slh`, over this package: `python -m slh sign ..`.
-`python -m slh acvp PROMPT` writes the response to a prompt of NIST's ACVP (`_acvp.py`).
+`python -m slh acvp PROMPT` writes the response to a prompt of NIST's ACVP (`_acvp.py`), and `python -m slh self-test
+[SET..]` tests sets by known answers.
 
 Options, files, refusals and statuses are those of the program (docs/FORMATS.md of the repository), which is for Linux
 alone. These differ. Custom sets are refused as 12 UnknownSet. `sign` signs two times, as the program does with --twice,
@@ -102,6 +103,13 @@ def _hex(digits: str | None) -> bytes:
     return bytes.fromhex(digits)
 
 
+def _set_named(label: str) -> slh.Set:
+    found = next((it for it in slh.Set if it.label == label), None)
+    if found is None:
+        raise _Stop(12)
+    return found
+
+
 def _form(words: types.SimpleNamespace) -> tuple[bytes, slh.Function | None]:
     context = _hex(words.context)
     if words.prehash is not None and words.prehash not in _acvp.FUNCTIONS:
@@ -129,9 +137,7 @@ def _judge_cuts(set: slh.Set, words: types.SimpleNamespace) -> None:
 
 
 def _keygen(words: types.SimpleNamespace) -> tuple[int, bytes | bytearray]:
-    found = next((it for it in slh.Set if it.label == words.set), None)
-    if found is None:
-        raise _Stop(12)
+    found = _set_named(words.set)
     _judge_cuts(found, words)
     n = found.lengths.n
     text = bytearray(6 * n + 2)
@@ -255,10 +261,38 @@ def _acvp_answer(given: list[str]) -> tuple[int, bytes]:
     return 0, _acvp.response(_message(given[0]))
 
 
+_SELF_TEST = "Tests parameter sets by known answers"
+_SELF_TEST_HELP = f"""{_SELF_TEST}
+
+Usage: python -m slh self-test [SET..]
+
+SET is SLH-DSA-SHA2-128s, -128f, -192s, -192f, -256s or -256f; without one all are
+tested. For each the library makes a known key, signs a known message, compares with
+the answers of OpenSSL, and verifies. Other keys and messages are not tested.
+Usual refusals:
+  12 UnknownSet      a short name: 128f is SLH-DSA-SHA2-128f.
+  40 SelfTestFailed  an answer is not the known one. The set is named.
+"""
+
+
+def _self_test_answer(given: list[str]) -> tuple[int, bytes]:
+    if given in (["--help"], ["-h"]):
+        return 0, _SELF_TEST_HELP.encode()
+    if any(it.startswith("-") for it in given):
+        raise _Stop(31)
+    for it in [_set_named(name) for name in given] or list(slh.Set):
+        try:
+            slh.self_test(it)
+        except slh.SelfTestFailed:
+            raise _acvp.Stop(40, it.label, "SelfTestFailed") from None
+    return 0, b"passed\n"
+
+
 def _answer(given: list[str]) -> tuple[int, bytes | bytearray]:
     """The status of a command, and what it writes."""
     if given == ["help"] or (given and (given[0] == "--help" or given[0].startswith("-h"))):
-        rows = "".join(f"  {name:<8} {it.about}\n" for name, it in _COMMANDS.items()) + f"  acvp     {_ACVP}\n"
+        about = {**{name: it.about for name, it in _COMMANDS.items()}, "acvp": _ACVP, "self-test": _SELF_TEST}
+        rows = "".join(f"  {name:<11}{it}\n" for name, it in about.items())
         return 0, f"slh {slh.__version__} for Python\n\nUsage: python -m slh COMMAND\n\nCommands:\n{rows}".encode()
     if given and (given[0] == "--version" or given[0].startswith("-V")):
         return 0, f"slh {slh.__version__}\n".encode()
@@ -267,6 +301,8 @@ def _answer(given: list[str]) -> tuple[int, bytes | bytearray]:
         name, options = options[0], ["--help"]
     if name == "acvp":
         return _acvp_answer(options)
+    if name == "self-test":
+        return _self_test_answer(options)
     if name not in _COMMANDS:
         raise _Stop(31)
     command = _COMMANDS[name]

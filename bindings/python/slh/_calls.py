@@ -13,6 +13,7 @@ import typing
 DONE = 0
 INVALID = 30
 FAULT = 38
+SELF_TEST_FAILED = 40
 _MAX_NAME = 20
 #: Refusals of key files, which the library for C does not have (docs/FORMATS.md of the repository).
 _KEY_FILE_NAMES = {11: "NotAKeyFile", 12: "UnknownSet", 13: "BadHex", 14: "BadKeyLength", 15: "TrailingBytes"}
@@ -116,6 +117,13 @@ class Fault(Exception):
     """A computation went wrong, as by bad memory or a bad processor. Nothing was signed, and no key was made."""
 
     def __init__(self, why: str = "two computations of one signature differ") -> None:
+        super().__init__(why)
+
+
+class SelfTestFailed(Exception):
+    """`self_test` found an answer that is not the known one. The library on this machine may not be used."""
+
+    def __init__(self, why: str = "an answer of the self-test is not the known one") -> None:
         super().__init__(why)
 
 
@@ -263,8 +271,26 @@ def checked_number(given: int, wanted: str = "an int") -> int:
     return given
 
 
+class Item(ctypes.Structure):
+    """An item of slh_verify_many: four pointers to bytes, each with their number."""
+
+    _fields_ = [
+        ("pk", ctypes.c_void_p),
+        ("pk_len", ctypes.c_uint64),
+        ("msg", ctypes.c_char_p),
+        ("msg_len", ctypes.c_uint64),
+        ("ctx", ctypes.c_char_p),
+        ("ctx_len", ctypes.c_uint64),
+        ("sig", ctypes.c_char_p),
+        ("sig_len", ctypes.c_uint64),
+    ]
+
+
 def call(name: str, *arguments: typing.Any) -> int:
-    """Calls with each number as it is, a reference to each room for one, and bytes as a pointer and a length."""
+    """Calls with each number as it is, a reference to each room for one, and bytes as a pointer and a length.
+
+    An array of items or numbers is given as bytes are. Its length counts these.
+    """
     words: list[typing.Any] = []
     for it in arguments:
         if isinstance(it, int):
@@ -279,7 +305,7 @@ def call(name: str, *arguments: typing.Any) -> int:
 
 
 def done(name: str, *arguments: typing.Any, lengths: typing.Mapping[int, Length] | None = None) -> None:
-    """Calls, and raises Invalid, Fault or Refusal unless the call is done.
+    """Calls, and raises Invalid, Fault, SelfTestFailed or Refusal unless the call is done.
 
     `lengths` has lengths by the number of the refusal that they explain.
     """
@@ -288,6 +314,8 @@ def done(name: str, *arguments: typing.Any, lengths: typing.Mapping[int, Length]
         raise Invalid("invalid")
     if result == FAULT:
         raise Fault
+    if result == SELF_TEST_FAILED:
+        raise SelfTestFailed
     if result != DONE:
         raise Refusal(result, (lengths or {}).get(result, ""))
 

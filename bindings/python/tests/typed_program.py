@@ -28,6 +28,20 @@ def judge(path: pathlib.Path, message: bytes, signature: bytes) -> bool:
     return True
 
 
+def may_start(name: str) -> bool:
+    try:
+        slh.self_test(name)
+    except slh.SelfTestFailed:
+        return False
+    return True
+
+
+def judge_all(public: slh.PublicKey, signed: dict[bytes, bytes]) -> bool:
+    items = (slh.Signed(public, message, signature, b"letters") for message, signature in signed.items())
+    verdicts: list[bool] = slh.verify_many(items)
+    return all(verdicts)
+
+
 def divide(message: bytes) -> bytes:
     secret = slh.SecretKey.generate(slh.Set.SLH_DSA_SHA2_128F)
     jobs = slh.jobs.Jobs(secret.set)

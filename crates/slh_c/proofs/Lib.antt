@@ -1,4 +1,5 @@
 pub mod Begun
 mod Hashed
 mod Judged
+mod VerdictsOfMany
 mod Numbered

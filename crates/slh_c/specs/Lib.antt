@@ -3,3 +3,5 @@ pub mod Refusals
 pub mod Cuttings
 pub mod Rules
 pub mod Keys
+pub mod Many
+pub mod SelfTest

@@ -2,7 +2,7 @@
 use Rattle.std.specs.Prelude.{ℕ, ◌==◌, List, [], ◌∷◌, Option, codes}
 use Rattle.std.specs.List.{find}
 use Rattle.slh_c.specs.declared.refusal.Refusal.{Refusal}
-use Rattle.slh_c.specs.declared.refusal.Refusal.TheVariants.{ContextTooLong, BadLength, BadCutting, NoSuchSet, NoSuchFunction, BadSeedLength, BadDigestLength, BadRandomizerLength, BadOutputLength, NoSuchRefusal, BadAnswersLength, AnswersDisagree, NoSuchJob, BadStartLength, BadStart, Fault}
+use Rattle.slh_c.specs.declared.refusal.Refusal.TheVariants.{ContextTooLong, BadLength, BadCutting, NoSuchSet, NoSuchFunction, BadSeedLength, BadDigestLength, BadRandomizerLength, BadOutputLength, NoSuchRefusal, BadAnswersLength, AnswersDisagree, NoSuchJob, BadStartLength, BadStart, Fault, SelfTestFailed}
 
 abbrev pub number : Refusal → ℕ
 number ContextTooLong = 2
@@ -21,6 +21,7 @@ number NoSuchJob = 26
 number BadStartLength = 27
 number BadStart = 28
 number Fault = 38
+number SelfTestFailed = 40
 
 abbrev pub name : Refusal → List ℕ
 name ContextTooLong = codes "ContextTooLong"
@@ -39,10 +40,11 @@ name NoSuchJob = codes "NoSuchJob"
 name BadStartLength = codes "BadStartLength"
 name BadStart = codes "BadStart"
 name Fault = codes "Fault"
+name SelfTestFailed = codes "SelfTestFailed"
 
 -- the refusals, in the order of their numbers
 abbrev pub refusals : List Refusal
-refusals = ContextTooLong ∷ BadLength ∷ BadCutting ∷ NoSuchSet ∷ NoSuchFunction ∷ BadSeedLength ∷ BadDigestLength ∷ BadRandomizerLength ∷ BadOutputLength ∷ NoSuchRefusal ∷ BadAnswersLength ∷ AnswersDisagree ∷ NoSuchJob ∷ BadStartLength ∷ BadStart ∷ Fault ∷ []
+refusals = ContextTooLong ∷ BadLength ∷ BadCutting ∷ NoSuchSet ∷ NoSuchFunction ∷ BadSeedLength ∷ BadDigestLength ∷ BadRandomizerLength ∷ BadOutputLength ∷ NoSuchRefusal ∷ BadAnswersLength ∷ AnswersDisagree ∷ NoSuchJob ∷ BadStartLength ∷ BadStart ∷ Fault ∷ SelfTestFailed ∷ []
 
 -- the refusal of a number
 unfoldable pub refusal_numbered : ℕ → Option Refusal

@@ -14,6 +14,7 @@ use Rattle.slh_jobs.specs.declared.levels.Levels.{Levels}
 use Rattle.slh_c.specs.Cuttings.{levels_of}
 use Rattle.slh_c.specs.Numbers.{set_numbered, function_numbered}
 use Rattle.slh_c.specs.Refusals.{number, name, refusal_numbered}
+use Rattle.slh_c.specs.declared.many.Signed.{Signed}
 use Rattle.slh_c.specs.declared.refusal.Refusal.{Refusal}
 use Rattle.slh_c.specs.declared.rules.Rule.{Rule}
 use Rattle.slh_c.specs.declared.refusal.Refusal.TheVariants.{ContextTooLong, BadLength, BadCutting, NoSuchSet, NoSuchFunction, BadSeedLength, BadDigestLength, BadRandomizerLength, BadOutputLength, NoSuchRefusal, BadAnswersLength, NoSuchJob, BadStartLength}
@@ -124,6 +125,13 @@ hash_sign_digest_twice_rules set function sk bytes ctx random scratch out = in_s
 -- a context of over 255 bytes or a signature of another length is invalid, and no refusal
 abbrev pub verify_rules : ℕ → List ℕ → List Rule
 verify_rules set pk = in_set set (λ s. public s pk ∷ [])
+
+abbrev pub self_test_rules : ℕ → List ℕ → List Rule
+self_test_rules set scratch = in_set set (λ s. output (sig_len (params s)) scratch ∷ [])
+
+-- what is wrong with an item is in its verdict, and no refusal
+abbrev pub verify_many_rules : ℕ → List Signed → List ℕ → List Rule
+verify_many_rules set items verdicts = in_set set (λ _. output (length items) verdicts ∷ [])
 
 abbrev pub hash_verify_rules : ℕ → ℕ → List ℕ → List Rule
 hash_verify_rules set function pk = in_set set (λ s. with_function function (λ _. public s pk ∷ []))

@@ -50,6 +50,8 @@ pub enum Refusal {
     BadStart,
     /// Two computations of one signature that differ.
     Fault,
+    /// A self-test whose answers are not the known ones.
+    SelfTestFailed,
 }
 
 /// The value of a result. A call that meets a refusal there returns its number.
@@ -86,6 +88,7 @@ impl Refusal {
             Refusal::BadStartLength => 27,
             Refusal::BadStart => 28,
             Refusal::Fault => 38,
+            Refusal::SelfTestFailed => 40,
         }
     }
 
@@ -110,6 +113,7 @@ impl Refusal {
             Refusal::BadStartLength => "BadStartLength",
             Refusal::BadStart => "BadStart",
             Refusal::Fault => "Fault",
+            Refusal::SelfTestFailed => "SelfTestFailed",
         }
     }
 
@@ -135,6 +139,7 @@ impl Refusal {
             27 => Some(Refusal::BadStartLength),
             28 => Some(Refusal::BadStart),
             38 => Some(Refusal::Fault),
+            40 => Some(Refusal::SelfTestFailed),
             _ => None,
         }
     }

@@ -74,14 +74,15 @@ pub fn lanes_f(row: &mut Row) {
     let set = row.set();
     let pk_seed = row.bytes();
     let adrs = adrs_of_lanes(row);
-    let x = nodes_of(row, set);
+    let mut batch = [nodes_of(row, set)];
     let Some(lanes) = SeededLanes::new(set, &pk_seed) else {
         return row.refuse();
     };
-    are_nodes(row, &lanes.f(&adrs, &x), set);
+    lanes.f(&[adrs], &mut batch);
+    are_nodes(row, &batch[0], set);
 }
 
-/// A set, PK.seed, SK.seed, eight addresses; PRF in each lane, and in each of two groups at once.
+/// A set, PK.seed, SK.seed, eight addresses; PRF in each lane of a batch of one group, and of two.
 pub fn lanes_prf(row: &mut Row) {
     let set = row.set();
     let (pk_seed, sk_seed) = (row.bytes(), row.bytes());
@@ -96,11 +97,9 @@ pub fn lanes_prf(row: &mut Row) {
     let hashes = numbers_from(row);
     let adrs = lane_adrs(&at, chains, hashes);
     let second = lane_adrs(&at, backwards(chains), backwards(hashes));
-    let secrets = lanes.prf(&sk_seed, &adrs);
+    let [secrets] = lanes.prf(&sk_seed, &[adrs]);
     are_nodes(row, &secrets, set);
-    let mut x = node_lanes(&[]);
-    let mut y = node_lanes(&[]);
-    lanes.prf_two(&sk_seed, &adrs, &second, &mut x, &mut y);
+    let [x, y] = lanes.prf(&sk_seed, &[adrs, second]);
     are_same(row, &x, &secrets, set);
     are_same(row, &nodes_backwards(&y, set), &secrets, set);
 }
@@ -110,11 +109,12 @@ pub fn lanes_h(row: &mut Row) {
     let set = row.set();
     let pk_seed = row.bytes();
     let adrs = adrs_of_lanes(row);
-    let (left, right) = (nodes_of(row, set), nodes_of(row, set));
+    let (mut left, right) = ([nodes_of(row, set)], [nodes_of(row, set)]);
     let Some(lanes) = SeededLanes::new(set, &pk_seed) else {
         return row.refuse();
     };
-    are_nodes(row, &lanes.h(&adrs, &left, &right), set);
+    lanes.h(&[adrs], &mut left, &right);
+    are_nodes(row, &left[0], set);
 }
 
 /// A set, PK.seed, eight addresses, a number of nodes, eight nodes, eight others; T in each lane of so many nodes,
@@ -135,8 +135,8 @@ pub fn lanes_t(row: &mut Row) {
     are_nodes(row, &stream.finish(), set);
 }
 
-/// A set, PK.seed, eight addresses, eight nodes; the chains run on from the nodes after 2 steps, for 13 steps, alone and
-/// in each of two groups at once, and after 0, 3, 0, 14, 200, 15, 1 and 7 steps, for 0, 1, 15, 1, 55, 0, 2 and 8 steps.
+/// A set, PK.seed, eight addresses, eight nodes; the chains run on from the nodes after 2 steps, for 13 steps, in a
+/// batch of one group and of two, and after 0, 3, 0, 14, 200, 15, 1 and 7 steps, for 0, 1, 15, 1, 55, 0, 2 and 8 steps.
 pub fn lanes_chains(row: &mut Row) {
     let set = row.set();
     let pk_seed = row.bytes();
@@ -149,16 +149,18 @@ pub fn lanes_chains(row: &mut Row) {
     let adrs = lane_adrs(&at, chains, hashes);
     let second = lane_adrs(&at, backwards(chains), backwards(hashes));
     let x = nodes_of(row, set);
-    let ends = lanes.chains(&adrs, &x, 2, 13);
-    are_nodes(row, &ends, set);
-    let mut first = x;
-    let mut other = nodes_backwards(&x, set);
-    lanes.chains_two(&adrs, &second, &mut first, &mut other, 2, 13);
-    are_same(row, &first, &ends, set);
-    are_same(row, &nodes_backwards(&other, set), &ends, set);
+    let mut ends = [x];
+    lanes.chains(&[adrs], &mut ends, 2, 13);
+    are_nodes(row, &ends[0], set);
+    let mut both = [x, nodes_backwards(&x, set)];
+    lanes.chains(&[adrs, second], &mut both, 2, 13);
+    are_same(row, &both[0], &ends[0], set);
+    are_same(row, &nodes_backwards(&both[1], set), &ends[0], set);
     let from = Words::from_array([0, 3, 0, 14, 200, 15, 1, 7]);
     let counts = Words::from_array([0, 1, 15, 1, 55, 0, 2, 8]);
-    are_nodes(row, &lanes.chains_each(&adrs, &x, from, counts), set);
+    let mut each = [x];
+    lanes.chains_each(&[adrs], &mut each, &[from], &[counts]);
+    are_nodes(row, &each[0], set);
 }
 
 /// A hash value, a block; the hash value after it, in each lane while the others' blocks are zeros.

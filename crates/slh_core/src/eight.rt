@@ -154,13 +154,15 @@ fn verdicts(items: &[SignedParts; 8], roots: &Leaves) -> [bool; 8]
     valid
 }
 
-/// The verdicts, with the hypertree signatures side by side.
-fn verify_side_by_side(set: ParamSet, items: &[SignedParts; 8]) -> [bool; 8]
-    requires { AreOfSet set items.now }
-    ensures { (j : ℕ) (valid : Bool) (item : SignedParts) → j < 8
-        → IsTrue (slice_index_or result j valid) ↔ IsPartsValid (slice_index_or items.now j item) }
+/// The hypertree's parts of eight signatures. Since it is not inlined, no part is on the stack twice while chains run.
+#[inline(never)]
+fn parts_of<'a>(items: &[SignedParts<'a>; 8]) -> [HtPart<'a>; 8]
+    requires { (j : ℕ) (item : SignedParts) → j < 8 → let x = slice_index_or items.now j item in
+        length x.sig.now ≡ sig_len (params x.pk.now.set) }
+    ensures { (set : ParamSet) (item : SignedParts) → AreOfSet set items.now
+        → AreGiving set (λ k. root_of (slice_index_or items.now k item)) result }
 {
-    let parts = [
+    [
         HtPart::of(&items[0]),
         HtPart::of(&items[1]),
         HtPart::of(&items[2]),
@@ -169,7 +171,16 @@ fn verify_side_by_side(set: ParamSet, items: &[SignedParts; 8]) -> [bool; 8]
         HtPart::of(&items[5]),
         HtPart::of(&items[6]),
         HtPart::of(&items[7]),
-    ];
+    ]
+}
+
+/// The verdicts, with the hypertree signatures side by side.
+fn verify_side_by_side(set: ParamSet, items: &[SignedParts; 8]) -> [bool; 8]
+    requires { AreOfSet set items.now }
+    ensures { (j : ℕ) (valid : Bool) (item : SignedParts) → j < 8
+        → IsTrue (slice_index_or result j valid) ↔ IsPartsValid (slice_index_or items.now j item) }
+{
+    let parts = parts_of(items);
     verdicts(items, &ht_roots_from_sigs(set, &signatures(&parts)))
 }
 

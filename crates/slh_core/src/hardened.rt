@@ -44,7 +44,7 @@ fn passes(root: &Node, ctx: &[u8], sig: &[u8], pk: &PublicKey) -> bool
         && are_same(root.as_slice(), pk.pk_root())
 }
 
-/// The same, by a comparison of its own.
+/// The result of `passes`, computed a second time: the same comparisons, with their sides and their order exchanged.
 #[inline(never)]
 fn passes_again(root: &Node, ctx: &[u8], sig: &[u8], pk: &PublicKey) -> bool
     ensures { IsTrue result ↔ Passes pk.now ctx.now sig.now root.now.items }

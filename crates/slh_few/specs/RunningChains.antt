@@ -1,5 +1,5 @@
 -- Chains that run in lanes: ours.
-use Rattle.std.specs.Prelude.{◌≡◌, ℕ, ◌+◌, ◌<◌, ◌≤◌, List, slice_index}
+use Rattle.std.specs.Prelude.{◌≡◌, ℕ, ◌+◌, ◌-◌, ◌<◌, ◌≤◌, List, [], get_or, slice_index}
 use Rattle.slh_params.specs.Address.{WOTS_HASH}
 use Rattle.slh_params.specs.Params.{Params}
 use Rattle.slh_lanes.specs.Lanes.{HasAddress, value_at}
@@ -7,6 +7,10 @@ use Rattle.slh_lanes.specs.declared.words.TheConstants.{GROUP}
 use Rattle.slh_few.specs.Wots.{chain, wots_address}
 use Rattle.slh_few.specs.declared.lanes.running_chains.RunningChains.{RunningChains}
 use Rattle.slh_few.specs.declared.place.Place.{Place}
+
+-- what runs in group g of a batch
+abbrev pub running_at : List RunningChains → ℕ → RunningChains
+running_at batch g = get_or batch g (record { numbers = []; steps = []; left = [] })
 
 -- each lane has the address of a chain at a place
 abbrev pub ChainsAt : List (List ℕ) → Place → Type 0
@@ -27,3 +31,9 @@ pub record IsSameChain (before after : RunningChains) (j : ℕ) : Type 0 where
   pub number : slice_index after.numbers j ≡ slice_index before.numbers j
   pub step : slice_index after.steps j ≡ slice_index before.steps j
   pub left : slice_index after.left j ≡ slice_index before.left j
+
+-- each chain has taken so many steps of those that it had left
+pub record IsAdvanced (count : ℕ) (before after : RunningChains) : Type 0 where
+  pub numbers : after.numbers ≡ before.numbers
+  pub steps : (j : ℕ) → j < GROUP → slice_index after.steps j ≡ slice_index before.steps j + count
+  pub left : (j : ℕ) → j < GROUP → slice_index after.left j ≡ slice_index before.left j - count

@@ -4,7 +4,7 @@ use Rattle.slh_params.specs.Params.{Params, len, w}
 use Rattle.slh_lanes.specs.declared.words.TheConstants.{GROUP}
 use Rattle.slh_few.specs.KeyStreams.{key_at, value_after}
 use Rattle.slh_few.specs.declared.place.Place.{Place}
-use Rattle.slh_few.specs.declared.lanes.two_chains_signing.SignedValues.{SignedValues}
+use Rattle.slh_few.specs.declared.lanes.key_chains.SignedValues.{SignedValues}
 
 -- there is such a lane, and a chain has as many steps as its digit says
 abbrev pub Fits : SignedValues → Params → Type 0

@@ -88,7 +88,9 @@ impl<'a> HashContext<'a> {
     {
         match build_widths().short {
             Width::One => None,
-            Width::Four | Width::Eight | Width::Sixteen => self.lanes.as_ref(),
+            Width::Four | Width::Eight | Width::Sixteen | Width::Instructions => {
+                self.lanes.as_ref()
+            }
         }
     }
 }
@@ -99,7 +101,9 @@ fn lanes_under(set: ParamSet, pk_seed: &[u8]) -> Option<SeededLanes>
 {
     match build_widths().short {
         Width::One => None,
-        Width::Four | Width::Eight | Width::Sixteen => SeededLanes::new(set, pk_seed),
+        Width::Four | Width::Eight | Width::Sixteen | Width::Instructions => {
+            SeededLanes::new(set, pk_seed)
+        }
     }
 }
 

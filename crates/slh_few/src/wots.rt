@@ -221,7 +221,8 @@ pub(crate) fn put_ends(lanes: &SeededLanes, at: Place, msg: &Node, sig: &[u8], o
 {
     let digits = digits_of(lanes.set, msg);
     let left = steps_left(lanes.set, &digits);
-    run_values(lanes, at, sig, &digits, &left, out);
+    out.copy_from_slice(sig);
+    run_values(lanes, at, &digits, &left, out);
 }
 
 /// The public key that a signature of a message of n bytes gives (Algorithm 8). T absorbs the end of each chain as it

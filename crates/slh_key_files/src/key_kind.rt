@@ -58,7 +58,7 @@ impl KeyKind {
     }
 
     /// The length of a key of this kind in bytes.
-    pub(crate) fn key_len(self, set: ParamSet) -> usize
+    pub fn key_len(self, set: ParamSet) -> usize
         ensures { result ≡ key_len self (params set) }
     {
         match self {

@@ -5,6 +5,7 @@
 //! read. A file of version 1 has a key of one of the standard's sets.
 #![tactic(auto)]
 
+pub use digits::encode_digits;
 pub use fault::FileFault;
 pub use key_file::{AnyKey, read_key, read_public, read_secret};
 pub use key_front::push_key_bytes;

@@ -1,5 +1,8 @@
 pub mod Lanes8
+pub mod Batches
 mod ChMaj
+mod Pairs
+mod Quads
 mod NLanes
 mod WindowPlace
 mod WordLanes

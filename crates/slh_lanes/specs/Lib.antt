@@ -3,6 +3,8 @@ pub mod Sha2
 pub mod Laws256
 pub mod Laws512
 pub mod Block
+pub mod Pairs
+pub mod Quads
 pub mod Room
 pub mod LongBlock
 pub mod Lanes

@@ -1,6 +1,6 @@
 //! Bytes to words of lanes and back, high byte first (FIPS 180-4, section 3.1).
 ghost use Rattle.std.specs.Prelude.{◌≡◌, ℕ, ◌+◌, ◌*◌, ◌^◌, ◌<◌, ◌≤◌, length, slice_index};
-ghost use Rattle.std.specs.Int.{w32, to_be_bytes};
+ghost use Rattle.std.specs.Int.{to_be_bytes};
 ghost use Rattle.sha2.specs.Sha256.{digest_bytes, word_at};
 ghost use Rattle.sha2.specs.Sha512.{word_at as long_word_at};
 ghost use Rattle.slh_lanes.specs.Columns.{column};

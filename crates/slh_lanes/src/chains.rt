@@ -2,7 +2,8 @@
 //! computed once.
 //!
 //! From step to step only the hash number and the value change in the block that F hashes. Its first five words have no
-//! part of either, so the first five rounds are the same. The words of the padding are constants.
+//! part of either, so the first five rounds are the same, or the first four of the SHA instructions. The words of the
+//! padding are constants.
 ghost use Rattle.std.specs.Prelude.{◌≡◌, ℕ, ◌+◌, ◌%◌, ◌^◌, ◌<◌, ◌≤◌, ◌⊎◌, List, length, slice_index, take};
 ghost use Rattle.sha2.specs.Sha256.{compress, digest_bytes, initial_hash_256};
 ghost use Rattle.slh_params.specs.Address.{Address, compressed};
@@ -14,10 +15,11 @@ ghost use Rattle.slh_lanes.specs.Room.{HasRoom};
 ghost use Rattle.slh_lanes.specs.Steps.{steps};
 
 use crate::block::{second_block, splat_all};
+use crate::instructions::Word;
 use crate::lane_adrs::LaneAdrs;
 use crate::lane_nodes::LaneNodes;
 use crate::part::{Part, part_of_eight, part_of_six, with_eight};
-use crate::rounds::{begin, compress_begun};
+use crate::rounds::ChainCompression;
 use crate::short_lanes::{ShortLanes, tell_all};
 use crate::words::{GROUP, Words};
 
@@ -66,7 +68,7 @@ fn at_step<W: ShortLanes>(adrs: &[W; 6], number: u32) -> [W; 6]
 /// Runs chains on from their values of n bytes after `from` steps, each by `count` steps (section 5, Algorithm 5).
 /// `short` is the hash value after PK.seed's block.
 #[inline(always)]
-fn run_known<W: ShortLanes>(
+fn run_known<W: ShortLanes, C: ChainCompression<W>>(
     short: &[u32; 8],
     n: usize,
     adrs: &[W; 6],
@@ -85,19 +87,19 @@ fn run_known<W: ShortLanes>(
 {
     let state = splat_all(short);
     let base = at_step_0(adrs);
-    let begun = begin(&state, base[0], base[1], base[2], base[3], base[4]);
+    let begun = C::begin(&state, base[0], base[1], base[2], base[3], base[4]);
     let mut nodes = *x;
     for step in 0..count {
         let mut next = state;
         let block = second_block(n, &at_step(&base, from + step), &nodes);
-        compress_begun(&mut next, &begun, &block);
+        C::compress_begun(&mut next, &begun, &block);
         nodes = next;
     }
     nodes
 }
 
 /// The same. Each n has a loop of its own, in which it is a constant.
-pub(crate) fn run<W: ShortLanes>(
+pub(crate) fn run<W: ShortLanes, C: ChainCompression<W>>(
     short: &[u32; 8],
     n: usize,
     adrs: &[W; 6],
@@ -115,14 +117,14 @@ pub(crate) fn run<W: ShortLanes>(
         ≡ steps p pk_seed a (take p.n (digest_bytes (lane_column W.lane j x.now) 8)) from count }
 {
     match n {
-        16 => run_known(short, 16, adrs, x, from, count),
-        24 => run_known(short, 24, adrs, x, from, count),
-        _ => run_known(short, 32, adrs, x, from, count),
+        16 => run_known::<W, C>(short, 16, adrs, x, from, count),
+        24 => run_known::<W, C>(short, 24, adrs, x, from, count),
+        _ => run_known::<W, C>(short, 32, adrs, x, from, count),
     }
 }
 
 /// Runs the chains in the lanes from `first` on. The other lanes keep their values.
-pub(crate) fn run_part<W: ShortLanes + Part<Words>>(
+pub(crate) fn run_part<W: ShortLanes + Part<Words>, C: ChainCompression<W>>(
     short: &[u32; 8],
     n: usize,
     adrs: &LaneAdrs,
@@ -142,6 +144,28 @@ pub(crate) fn run_part<W: ShortLanes + Part<Words>>(
 {
     let own_adrs = part_of_six::<Words, W>(adrs, first);
     let own = part_of_eight::<Words, W>(x, first);
-    let ends = run(short, n, &own_adrs, &own, from, count);
+    let ends = run::<W, C>(short, n, &own_adrs, &own, from, count);
     with_eight(x, &ends, first)
+}
+
+/// Runs eight chains, one after another.
+pub(crate) fn run_singles<C: ChainCompression<Word>>(
+    short: &[u32; 8],
+    n: usize,
+    adrs: &LaneAdrs,
+    x: &LaneNodes,
+    from: u32,
+    count: u32,
+) -> LaneNodes
+    requires n { (n ≡ 16) ⊎ (n ≡ 24) ⊎ (n ≡ 32) }
+    requires few { from + count ≤ 2 ^ 16 }
+    ensures { (p : Params) (pk_seed : List ℕ) (j : ℕ) (a : Address) → p.n ≡ n → length pk_seed ≡ p.n → j < GROUP
+        → short.now ≡ compress initial_hash_256 (first_block p pk_seed) → HasAddress adrs.now j a
+        → value_at result j p.n ≡ steps p pk_seed a (value_at x.now j p.n) from count }
+{
+    let mut nodes = *x;
+    'lanes: for lane in 0..GROUP {
+        nodes = run_part::<Word, C>(short, n, adrs, &nodes, lane, from, count);
+    }
+    nodes
 }

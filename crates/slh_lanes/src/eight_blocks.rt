@@ -7,11 +7,13 @@ ghost use Rattle.slh_lanes.specs.Columns.{column, lane_column, HasWords};
 ghost use Rattle.slh_lanes.specs.LongBlock.{HasLongWords};
 ghost use Rattle.slh_lanes.specs.Room.{HasRoom};
 
+use crate::instructions::{LongWord, Word};
 use crate::lanes::Lanes;
 use crate::long_words::LongWords;
 use crate::part::{Part, part_of_eight, part_of_sixteen, with_eight};
-use crate::rounds;
+use crate::rounds::{self, Compression, Rounds};
 use crate::short_lanes::tell_all;
+use crate::single_block::Instructions;
 use crate::words::{GROUP, Words, is_above};
 use slh_width::{Width, build_widths};
 use std::simd::prelude::*;
@@ -35,21 +37,33 @@ pub(crate) fn compress_each(state: &mut [Words; 8], block: &[Words; 16], step: u
         → column j state.new ≡ compress (column j state.old) b }
 {
     match build_widths().short {
-        Width::One => {
-            'lanes: for first in 0..GROUP {
-                compress_running::<Simd<u32, 1>>(state, block, first, 1, step, counts);
-            }
-        }
+        Width::One => compress_singles::<Rounds>(state, block, step, counts),
+        Width::Instructions => compress_singles::<Instructions>(state, block, step, counts),
         Width::Four => {
-            compress_running::<u32x4>(state, block, 0, 4, step, counts);
-            compress_running::<u32x4>(state, block, 4, 4, step, counts);
+            compress_running::<u32x4, Rounds>(state, block, 0, 4, step, counts);
+            compress_running::<u32x4, Rounds>(state, block, 4, 4, step, counts);
         }
         Width::Eight | Width::Sixteen => rounds::compress(state, block),
     }
 }
 
+/// The compressions in each of eight lanes that has a step left, one after another.
+fn compress_singles<C: Compression<Word>>(
+    state: &mut [Words; 8],
+    block: &[Words; 16],
+    step: u32,
+    counts: Words,
+)
+    ensures { (j : ℕ) → j < GROUP → step < slice_index counts j → (b : List ℕ) → HasWords b (column j block.now)
+        → column j state.new ≡ compress (column j state.old) b }
+{
+    'lanes: for lane in 0..GROUP {
+        compress_running::<Word, C>(state, block, lane, 1, step, counts);
+    }
+}
+
 /// The compressions in `len` lanes from `first` on, unless none of them has a step left.
-fn compress_running<W: Part<Words>>(
+fn compress_running<W: Part<Words>, C: Compression<W>>(
     state: &mut [Words; 8],
     block: &[Words; 16],
     first: usize,
@@ -66,7 +80,7 @@ fn compress_running<W: Part<Words>>(
     ensures others { (i : ℕ) → (i < first) ⊎ (first + W.LANES ≤ i) → column i state.new ≡ column i state.old }
 {
     if is_above(counts, first, len, step) {
-        compress_part::<Words, W>(state, block, first);
+        compress_part::<Words, W, C>(state, block, first);
     }
 }
 
@@ -77,21 +91,35 @@ pub(crate) fn compress_long(state: &mut [LongWords; 8], block: &[LongWords; 16])
         → column j state.new ≡ compress_long (column j state.old) b }
 {
     match build_widths().long {
-        Width::One => {
-            'lanes: for first in 0..GROUP {
-                compress_part::<LongWords, Simd<u64, 1>>(state, block, first);
-            }
-        }
+        Width::One => compress_long_singles::<Rounds>(state, block),
+        Width::Instructions => compress_long_singles::<Instructions>(state, block),
         Width::Four => {
-            compress_part::<LongWords, u64x4>(state, block, 0);
-            compress_part::<LongWords, u64x4>(state, block, 4);
+            compress_part::<LongWords, u64x4, Rounds>(state, block, 0);
+            compress_part::<LongWords, u64x4, Rounds>(state, block, 4);
         }
         Width::Eight | Width::Sixteen => rounds::compress(state, block),
     }
 }
 
+/// Eight compressions of SHA-512, one after another.
+fn compress_long_singles<C: Compression<LongWord>>(
+    state: &mut [LongWords; 8],
+    block: &[LongWords; 16],
+)
+    ensures { (j : ℕ) → j < GROUP → (b : List ℕ) → HasLongWords b (column j block.now)
+        → column j state.new ≡ compress_long (column j state.old) b }
+{
+    'lanes: for lane in 0..GROUP {
+        compress_part::<LongWords, LongWord, C>(state, block, lane);
+    }
+}
+
 /// The compressions in the lanes from `first` on.
-fn compress_part<G: Lanes, W: Part<G>>(state: &mut [G; 8], block: &[G; 16], first: usize)
+fn compress_part<G: Lanes, W: Part<G>, C: Compression<W>>(
+    state: &mut [G; 8],
+    block: &[G; 16],
+    first: usize,
+)
     requires room { HasRoom W.row }
     requires lanes { first + W.LANES ≤ G.LANES }
     ensures words { (j : ℕ) → j < W.LANES → (b : List ℕ)
@@ -101,6 +129,6 @@ fn compress_part<G: Lanes, W: Part<G>>(state: &mut [G; 8], block: &[G; 16], firs
         → lane_column G.lane i state.new ≡ lane_column G.lane i state.old }
 {
     let mut part = part_of_eight::<G, W>(state, first);
-    rounds::compress(&mut part, &part_of_sixteen::<G, W>(block, first));
+    C::compress(&mut part, &part_of_sixteen::<G, W>(block, first));
     *state = with_eight(state, &part, first);
 }

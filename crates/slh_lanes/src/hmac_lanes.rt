@@ -1,6 +1,6 @@
 //! HMAC-SHA-256 (FIPS 198-1) of eight texts at once, which differ in a number and a node at their end.
 ghost use Rattle.std.specs.Prelude.{◌≡◌, ℕ, List, ◌+◌, ◌-◌, ◌*◌, ◌/◌, ◌%◌, ◌^◌, ◌<◌, ◌≤◌, ◌++◌, ◌↔◌, IsSome, IfSome, length};
-ghost use Rattle.sha2.specs.Sha256.{compress, digest_bytes, hash_after, initial_hash_256, padding};
+ghost use Rattle.sha2.specs.Sha256.{compress, digest_bytes, hash_after, padding};
 ghost use Rattle.slh_params.specs.Bits.{to_byte};
 ghost use Rattle.slh_hash.specs.HashFunctions.{SHA_256};
 ghost use Rattle.slh_hash.specs.Keyed.{hmac, key_block, xor_each};

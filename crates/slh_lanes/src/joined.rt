@@ -1,6 +1,7 @@
 //! Two groups of eight lanes as sixteen, of which the first are the lanes of the first group (ours).
-ghost use Rattle.std.specs.Prelude.{◌≡◌, ℕ, ◌+◌, ◌<◌};
+ghost use Rattle.std.specs.Prelude.{◌≡◌, ℕ, ◌+◌, ◌*◌, ◌<◌};
 ghost use Rattle.slh_lanes.specs.Columns.{column};
+ghost use Rattle.slh_lanes.specs.Lanes.{group};
 
 use crate::lane_adrs::LaneAdrs;
 use crate::lane_nodes::LaneNodes;
@@ -11,32 +12,32 @@ use std::simd::prelude::*;
 /// The words of two groups.
 pub(crate) type TwoWords = u32x16;
 
-/// The addresses of two groups.
+/// The addresses of a batch of two groups.
 #[inline(always)]
-pub(crate) fn join_adrs(x: &LaneAdrs, y: &LaneAdrs) -> [TwoWords; 6]
-    ensures x { (j : ℕ) → j < GROUP → column j result ≡ column j x.now }
-    ensures y { (j : ℕ) → j < GROUP → column (GROUP + j) result ≡ column j y.now }
+pub(crate) fn join_adrs<const G: usize>(batch: &[LaneAdrs; G]) -> [TwoWords; 6]
+    requires { G ≡ 2 }
+    ensures { (g j : ℕ) → g < G → j < GROUP → column (GROUP * g + j) result ≡ column j (group batch.now g) }
 {
-    let first = with_six(&[TwoWords::splat(0); 6], x, 0);
-    with_six(&first, y, GROUP)
+    let first = with_six(&[TwoWords::splat(0); 6], &batch[0], 0);
+    with_six(&first, &batch[1], GROUP)
 }
 
-/// The values of two groups.
+/// The values of a batch of two groups.
 #[inline(always)]
-pub(crate) fn join_nodes(x: &LaneNodes, y: &LaneNodes) -> [TwoWords; 8]
-    ensures x { (j : ℕ) → j < GROUP → column j result ≡ column j x.now }
-    ensures y { (j : ℕ) → j < GROUP → column (GROUP + j) result ≡ column j y.now }
+pub(crate) fn join_nodes<const G: usize>(batch: &[LaneNodes; G]) -> [TwoWords; 8]
+    requires { G ≡ 2 }
+    ensures { (g j : ℕ) → g < G → j < GROUP → column (GROUP * g + j) result ≡ column j (group batch.now g) }
 {
-    let first = with_eight(&[TwoWords::splat(0); 8], x, 0);
-    with_eight(&first, y, GROUP)
+    let first = with_eight(&[TwoWords::splat(0); 8], &batch[0], 0);
+    with_eight(&first, &batch[1], GROUP)
 }
 
-/// Writes the values of both groups into `x` and `y`.
+/// Writes the values of both groups into a batch of two.
 #[inline(always)]
-pub(crate) fn split_nodes(nodes: &[TwoWords; 8], x: &mut LaneNodes, y: &mut LaneNodes)
-    ensures x { (j : ℕ) → j < GROUP → column j x.new ≡ column j nodes.now }
-    ensures y { (j : ℕ) → j < GROUP → column j y.new ≡ column (GROUP + j) nodes.now }
+pub(crate) fn split_nodes<const G: usize>(nodes: &[TwoWords; 8], batch: &mut [LaneNodes; G])
+    requires { G ≡ 2 }
+    ensures { (g j : ℕ) → g < G → j < GROUP → column j (group batch.new g) ≡ column (GROUP * g + j) nodes.now }
 {
-    *x = part_of_eight(nodes, 0);
-    *y = part_of_eight(nodes, GROUP);
+    batch[0] = part_of_eight(nodes, 0);
+    batch[1] = part_of_eight(nodes, GROUP);
 }

@@ -8,6 +8,7 @@ mod chains;
 mod constants;
 mod eight_blocks;
 mod hmac_lanes;
+mod instructions;
 mod joined;
 mod lane_adrs;
 mod lane_nodes;
@@ -22,6 +23,8 @@ mod rounds;
 mod seeded_lanes;
 mod short_lanes;
 mod short_stream;
+mod single_block;
+mod single_long_block;
 mod words;
 
 pub use eight_blocks::compress;

@@ -4,6 +4,7 @@ ghost use Rattle.slh_lanes.specs.Columns.{lane_column};
 ghost use Rattle.slh_lanes.specs.Sha2.{AreAt, add_state, ch, maj, round, window_word};
 
 use crate::lanes::Lanes;
+use crate::short_lanes::ShortLanes;
 
 // One operation fewer than the standard's form.
 #[inline(always)]
@@ -25,7 +26,7 @@ pub(crate) fn maj<W: Lanes>(x: W, y: W, z: W) -> W
 }
 
 #[inline(always)]
-fn round<W: Lanes>(v: [W; 8], k: W, word: W) -> [W; 8]
+pub(crate) fn round<W: Lanes>(v: [W; 8], k: W, word: W) -> [W; 8]
     ensures { (j : ℕ) → j < W.LANES → lane_column W.lane j result
         ≡ round W.WIDTH W.upper0 W.upper1 (lane_column W.lane j v) (W.lane k j) (W.lane word j) }
 {
@@ -134,6 +135,58 @@ pub(crate) fn begin<W: Lanes>(state: &[W; 8], p: W, q: W, r: W, s: W, t: W) -> [
 {
     let v = first_four_steps(*state, 0, p, q, r, s);
     first_step(v, 4, t)
+}
+
+/// How a block is compressed in each lane of such vectors.
+pub(crate) trait Compression<W: Lanes> {
+    /// A compression in each lane: column `j` of the state takes in the block whose words are column `j` of `block`.
+    fn compress(state: &mut [W; 8], block: &[W; 16])
+        ensures { (j : ℕ) → j < W.LANES → (b : List ℕ)
+            → ((k : ℕ) → k < 16 → W.word b k ≡ slice_index (lane_column W.lane j block.now) k)
+            → lane_column W.lane j state.new ≡ W.compress (lane_column W.lane j state.old) b };
+}
+
+/// The same for the steps of a chain, whose blocks have their first words in common.
+pub(crate) trait ChainCompression<W: ShortLanes>: Compression<W> {
+    /// The number of rounds that the steps share.
+    ghost SHARED: { ℕ };
+
+    /// The working variables after these rounds of a block, whose first five words are given.
+    fn begin(state: &[W; 8], p: W, q: W, r: W, s: W, t: W) -> [W; 8]
+        ensures { (j : ℕ) → j < W.LANES → (b : List ℕ) → W.word b 0 ≡ W.lane p j → W.word b 1 ≡ W.lane q j
+            → W.word b 2 ≡ W.lane r j → W.word b 3 ≡ W.lane s j → W.word b 4 ≡ W.lane t j
+            → lane_column W.lane j result ≡ W.rounds (lane_column W.lane j state.now) b SHARED };
+
+    /// A compression in each lane, from the working variables after these rounds.
+    fn compress_begun(state: &mut [W; 8], begun: &[W; 8], block: &[W; 16])
+        ensures { (j : ℕ) → j < W.LANES → (b : List ℕ)
+            → ((k : ℕ) → k < 16 → W.word b k ≡ slice_index (lane_column W.lane j block.now) k)
+            → lane_column W.lane j begun.now ≡ W.rounds (lane_column W.lane j state.old) b SHARED
+            → lane_column W.lane j state.new ≡ W.compress (lane_column W.lane j state.old) b };
+}
+
+/// Compressions by the rounds of this module.
+pub(crate) struct Rounds;
+
+impl<W: Lanes> Compression<W> for Rounds {
+    #[inline(always)]
+    fn compress(state: &mut [W; 8], block: &[W; 16]) {
+        compress(state, block);
+    }
+}
+
+impl<W: ShortLanes> ChainCompression<W> for Rounds {
+    ghost SHARED = { 5 };
+
+    #[inline(always)]
+    fn begin(state: &[W; 8], p: W, q: W, r: W, s: W, t: W) -> [W; 8] {
+        begin(state, p, q, r, s, t)
+    }
+
+    #[inline(always)]
+    fn compress_begun(state: &mut [W; 8], begun: &[W; 8], block: &[W; 16]) {
+        compress_begun(state, begun, block);
+    }
 }
 
 /// A compression in each lane: column `j` of the state takes in the block whose words are column `j` of `block`.

@@ -1,6 +1,6 @@
 //! F, PRF and H of eight addresses under one PK.seed (FIPS 205, section 11.2), and steps of eight chains (section 5).
-ghost use Rattle.std.specs.Prelude.{◌≡◌, ◌≢◌, ℕ, ◌+◌, ◌*◌, ◌^◌, ◌<◌, ◌≤◌, ◌⊎◌, ◌↔◌, List, length, slice_index, IsSome, IfSome};
-ghost use Rattle.sha2.specs.Sha256.{compress, initial_hash_256};
+ghost use Rattle.std.specs.Prelude.{◌≡◌, ◌≢◌, ℕ, ◌+◌, ◌*◌, ◌^◌, ◌<◌, ◌≤◌, ◌⊎◌, ◌↔◌, List, length, slice_index, true, IsSome, IfSome};
+ghost use Rattle.sha2.specs.Sha256.{add32, compress, initial_hash_256};
 ghost use Rattle.sha2.specs.Sha512.{compress as compress_long, initial_hash_512};
 ghost use Rattle.slh_params.specs.Address.{Address};
 ghost use Rattle.slh_params.specs.Params.{Params};
@@ -10,21 +10,22 @@ ghost use Rattle.slh_hash.specs.HashFunctions.{SHA_256};
 ghost use Rattle.slh_lanes.specs.Block.{first_block};
 ghost use Rattle.slh_lanes.specs.Columns.{column};
 ghost use Rattle.slh_lanes.specs.LongBlock.{long_first_block};
-ghost use Rattle.slh_lanes.specs.Lanes.{HasAddress, value_at};
+ghost use Rattle.slh_lanes.specs.Lanes.{HasAddress, group, value_at};
 ghost use Rattle.slh_lanes.specs.Steps.{steps};
 
 use crate::block::{BLOCK_LEN, hash_after, second_block, splat_all};
 use crate::bytes::load_all_long;
-use crate::chains::{run, run_part};
+use crate::chains::{run, run_part, run_singles};
 use crate::eight_blocks::{compress, compress_each, compress_long};
-use crate::joined::{join_adrs, join_nodes, split_nodes};
+use crate::joined::{TwoWords, join_adrs, join_nodes, split_nodes};
 use crate::lane_adrs::{LaneAdrs, set_hashes};
 use crate::lane_nodes::{LaneNodes, node_lanes, pick_nodes, two_short};
 use crate::long_block::{
     first_lane, initial, second_block as second_long_block, splat_all as splat_all_long, truncated,
 };
 use crate::long_words::LongWords;
-use crate::rounds;
+use crate::rounds::{self, Rounds};
+use crate::single_block::Instructions;
 use crate::words::{GROUP, Words, add, most};
 use slh_params::ParamSet;
 use slh_width::{Width, build_widths};
@@ -68,105 +69,94 @@ impl<'a> SeededLanes<'a> {
         })
     }
 
-    /// F (FIPS 205, section 11.2) in each lane: the hash of its value of n bytes at its address.
-    pub fn f(&self, adrs: &LaneAdrs, x: &LaneNodes) -> LaneNodes
-        ensures { (j : ℕ) → j < GROUP → (a : Address) → HasAddress adrs.now j a
-            → let p = params self.now.set in
-            value_at result j p.n ≡ F p self.now.pk_seed.now a (value_at x.now j p.n) }
+    /// F (FIPS 205, section 11.2) in each lane of a batch: its value of n bytes becomes the hash at its address.
+    pub fn f<const G: usize>(&self, adrs: &[LaneAdrs; G], x: &mut [LaneNodes; G])
+        requires few { G ≤ 2 }
+        ensures { (g j : ℕ) → g < G → j < GROUP → (a : Address) → HasAddress (group adrs.now g) j a
+            → let p = params self.now.set in value_at (group x.new g) j p.n
+            ≡ F p self.now.pk_seed.now a (value_at (group x.old g) j p.n) }
     {
-        self.digests(adrs, x, self.set.n())
+        self.digests(adrs, x, self.set.n());
     }
 
-    /// F in each lane of two groups at once: `x` gets the hashes of its values at the addresses `x_adrs`, and `y` those
-    /// of its values at `y_adrs`.
-    pub fn f_two(&self, x_adrs: &LaneAdrs, y_adrs: &LaneAdrs, x: &mut LaneNodes, y: &mut LaneNodes)
-        ensures x { (j : ℕ) → j < GROUP → (a : Address) → HasAddress x_adrs.now j a
-            → let p = params self.now.set in
-            value_at x.new j p.n ≡ F p self.now.pk_seed.now a (value_at x.old j p.n) }
-        ensures y { (j : ℕ) → j < GROUP → (a : Address) → HasAddress y_adrs.now j a
-            → let p = params self.now.set in
-            value_at y.new j p.n ≡ F p self.now.pk_seed.now a (value_at y.old j p.n) }
-    {
-        self.digests_two(x_adrs, y_adrs, x, y, self.set.n());
-    }
-
-    /// PRF (section 11.2) in each lane: the secret at its address, from SK.seed of n bytes.
-    pub fn prf(&self, sk_seed: &[u8], adrs: &LaneAdrs) -> LaneNodes
+    /// PRF (section 11.2), which is F of SK.seed, in each lane of a batch: the secret at its address, from SK.seed of n
+    /// bytes.
+    pub fn prf<const G: usize>(&self, sk_seed: &[u8], adrs: &[LaneAdrs; G]) -> [LaneNodes; G]
+        requires few { G ≤ 2 }
         requires sk_seed { length sk_seed.now ≡ (params self.now.set).n }
-        ensures { (j : ℕ) → j < GROUP → (a : Address) → HasAddress adrs.now j a
-            → let p = params self.now.set in
-            value_at result j p.n ≡ PRF p self.now.pk_seed.now sk_seed.now a }
+        ensures { (g j : ℕ) → g < G → j < GROUP → (a : Address) → HasAddress (group adrs.now g) j a
+            → let p = params self.now.set in value_at (group result g) j p.n
+            ≡ PRF p self.now.pk_seed.now sk_seed.now a }
     {
-        self.digests(adrs, &node_lanes(sk_seed), self.set.n())
+        let mut secrets = [node_lanes(sk_seed); G];
+        self.f(adrs, &mut secrets);
+        secrets
     }
 
-    /// PRF, which is F of SK.seed, in each lane of two groups at once. Writes into `x` the secrets at the addresses
-    /// `x_adrs`, and into `y` those at `y_adrs`.
-    pub fn prf_two(
+    /// H (section 11.2) in each lane of a batch: the left node of n bytes becomes the hash of both nodes at its address.
+    /// If n is 24 or 32, one group is hashed after the other, by SHA-512.
+    pub fn h<const G: usize>(
         &self,
-        sk_seed: &[u8],
-        x_adrs: &LaneAdrs,
-        y_adrs: &LaneAdrs,
-        x: &mut LaneNodes,
-        y: &mut LaneNodes,
+        adrs: &[LaneAdrs; G],
+        left: &mut [LaneNodes; G],
+        right: &[LaneNodes; G],
     )
-        requires sk_seed { length sk_seed.now ≡ (params self.now.set).n }
-        ensures x { (j : ℕ) → j < GROUP → (a : Address) → HasAddress x_adrs.now j a
-            → let p = params self.now.set in
-            value_at x.new j p.n ≡ PRF p self.now.pk_seed.now sk_seed.now a }
-        ensures y { (j : ℕ) → j < GROUP → (a : Address) → HasAddress y_adrs.now j a
-            → let p = params self.now.set in
-            value_at y.new j p.n ≡ PRF p self.now.pk_seed.now sk_seed.now a }
-    {
-        *x = node_lanes(sk_seed);
-        *y = *x;
-        self.f_two(x_adrs, y_adrs, x, y);
-    }
-
-    /// H (section 11.2) of two nodes of n bytes in each lane: the hash of both at its address.
-    pub fn h(&self, adrs: &LaneAdrs, left: &LaneNodes, right: &LaneNodes) -> LaneNodes
-        ensures { (j : ℕ) → j < GROUP → (a : Address) → HasAddress adrs.now j a
-            → let p = params self.now.set in value_at result j p.n
-            ≡ H p self.now.pk_seed.now a (value_at left.now j p.n) (value_at right.now j p.n) }
+        requires few { G ≤ 2 }
+        ensures { (g j : ℕ) → g < G → j < GROUP → (a : Address) → HasAddress (group adrs.now g) j a
+            → let p = params self.now.set in value_at (group left.new g) j p.n
+            ≡ H p self.now.pk_seed.now a (value_at (group left.old g) j p.n)
+            (value_at (group right.now g) j p.n) }
     {
         let n = self.set.n();
         if n == 16 {
-            self.digests(adrs, &two_short(left, right), 32)
+            'pairs: for g in 0..G {
+                left[g] = two_short(&left[g], &right[g]);
+            }
+            self.digests(adrs, left, 32);
         } else {
-            long_digests(splat_all_long(&self.long), n, adrs, left, right)
+            'groups: for g in 0..G {
+                let state = splat_all_long(&self.long);
+                left[g] = long_digests(state, n, &adrs[g], &left[g], &right[g]);
+            }
         }
     }
 
-    /// H in each lane of two groups at once: `x` and `y` have the left nodes, at the addresses `x_adrs` and `y_adrs`,
-    /// and get the hashes. If n is 24 or 32, one group is hashed after the other, by SHA-512.
-    pub fn h_two(
+    /// Runs the chains of a batch on from their values after `from` steps, each by `count` steps (section 5,
+    /// Algorithm 5).
+    pub fn chains<const G: usize>(
         &self,
-        x_adrs: &LaneAdrs,
-        y_adrs: &LaneAdrs,
-        x: &mut LaneNodes,
-        y: &mut LaneNodes,
-        x_right: &LaneNodes,
-        y_right: &LaneNodes,
+        adrs: &[LaneAdrs; G],
+        x: &mut [LaneNodes; G],
+        from: u32,
+        count: u32,
     )
-        ensures x { (j : ℕ) → j < GROUP → (a : Address) → HasAddress x_adrs.now j a
-            → let p = params self.now.set in value_at x.new j p.n
-            ≡ H p self.now.pk_seed.now a (value_at x.old j p.n) (value_at x_right.now j p.n) }
-        ensures y { (j : ℕ) → j < GROUP → (a : Address) → HasAddress y_adrs.now j a
-            → let p = params self.now.set in value_at y.new j p.n
-            ≡ H p self.now.pk_seed.now a (value_at y.old j p.n) (value_at y_right.now j p.n) }
+        requires few { G ≤ 2 }
+        requires steps { from + count ≤ 2 ^ 16 }
+        ensures { (g j : ℕ) → g < G → j < GROUP → (a : Address) → HasAddress (group adrs.now g) j a
+            → let p = params self.now.set in value_at (group x.new g) j p.n
+            ≡ steps p self.now.pk_seed.now a (value_at (group x.old g) j p.n) from count }
     {
-        if self.set.n() == 16 {
-            *x = two_short(x, x_right);
-            *y = two_short(y, y_right);
-            self.digests_two(x_adrs, y_adrs, x, y, 32);
+        if is_joined(G) {
+            let joined = join_adrs(adrs);
+            let nodes = join_nodes(x);
+            let ends = run::<TwoWords, Rounds>(
+                &self.short,
+                self.set.n(),
+                &joined,
+                &nodes,
+                from,
+                count,
+            );
+            split_nodes(&ends, x);
         } else {
-            *x = self.h(x_adrs, x, x_right);
-            *y = self.h(y_adrs, y, y_right);
+            'groups: for g in 0..G {
+                x[g] = self.eight_chains(&adrs[g], &x[g], from, count);
+            }
         }
     }
 
-    /// Runs eight chains on from their values after `from` steps, each by `count` steps (section 5, Algorithm 5).
-    pub fn chains(&self, adrs: &LaneAdrs, x: &LaneNodes, from: u32, count: u32) -> LaneNodes
+    /// Runs eight chains on from their values after `from` steps, each by `count` steps.
+    fn eight_chains(&self, adrs: &LaneAdrs, x: &LaneNodes, from: u32, count: u32) -> LaneNodes
         requires { from + count ≤ 2 ^ 16 }
         ensures { (j : ℕ) → j < GROUP → (a : Address) → HasAddress adrs.now j a
             → let p = params self.now.set in
@@ -175,117 +165,65 @@ impl<'a> SeededLanes<'a> {
         let n = self.set.n();
         let short = &self.short;
         match build_widths().short {
-            Width::One => {
-                let mut nodes = *x;
-                'lanes: for first in 0..GROUP {
-                    nodes = run_part::<Simd<u32, 1>>(short, n, adrs, &nodes, first, from, count);
-                }
-                nodes
-            }
+            Width::One => run_singles::<Rounds>(short, n, adrs, x, from, count),
+            Width::Instructions => run_singles::<Instructions>(short, n, adrs, x, from, count),
             Width::Four => {
-                let low = run_part::<u32x4>(short, n, adrs, x, 0, from, count);
-                run_part::<u32x4>(short, n, adrs, &low, 4, from, count)
+                let low = run_part::<u32x4, Rounds>(short, n, adrs, x, 0, from, count);
+                run_part::<u32x4, Rounds>(short, n, adrs, &low, 4, from, count)
             }
-            Width::Eight | Width::Sixteen => run(short, n, adrs, x, from, count),
+            Width::Eight | Width::Sixteen => run::<Words, Rounds>(short, n, adrs, x, from, count),
         }
     }
 
-    /// Runs the chains of two groups of eight on, each from its value after `from` steps by `count` steps. Those in `x`
-    /// have the addresses `x_adrs`, and those in `y` have `y_adrs`.
-    pub fn chains_two(
+    /// Runs the chains of a batch on. Each lane has its own first step and its own number of steps. A lane that has ended
+    /// keeps its value.
+    pub fn chains_each<const G: usize>(
         &self,
-        x_adrs: &LaneAdrs,
-        y_adrs: &LaneAdrs,
-        x: &mut LaneNodes,
-        y: &mut LaneNodes,
-        from: u32,
-        count: u32,
+        adrs: &[LaneAdrs; G],
+        x: &mut [LaneNodes; G],
+        from: &[Words; G],
+        counts: &[Words; G],
     )
-        requires { from + count ≤ 2 ^ 16 }
-        ensures x { (j : ℕ) → j < GROUP → (a : Address) → HasAddress x_adrs.now j a
-            → let p = params self.now.set in
-            value_at x.new j p.n ≡ steps p self.now.pk_seed.now a (value_at x.old j p.n) from count }
-        ensures y { (j : ℕ) → j < GROUP → (a : Address) → HasAddress y_adrs.now j a
-            → let p = params self.now.set in
-            value_at y.new j p.n ≡ steps p self.now.pk_seed.now a (value_at y.old j p.n) from count }
+        requires few { G ≤ 2 }
+        requires steps { (g j : ℕ) → g < G → j < GROUP
+            → slice_index (group from.now g) j + slice_index (group counts.now g) j ≤ 2 ^ 32 }
+        ensures { (g j : ℕ) → g < G → j < GROUP → (a : Address) → HasAddress (group adrs.now g) j a
+            → let p = params self.now.set in value_at (group x.new g) j p.n
+            ≡ steps p self.now.pk_seed.now a (value_at (group x.old g) j p.n)
+            (slice_index (group from.now g) j) (slice_index (group counts.now g) j) }
     {
-        match build_widths().short {
-            Width::Sixteen => {
-                let adrs = join_adrs(x_adrs, y_adrs);
-                let nodes = join_nodes(x, y);
-                let ends = run(&self.short, self.set.n(), &adrs, &nodes, from, count);
-                split_nodes(&ends, x, y);
-            }
-            Width::One | Width::Four | Width::Eight => {
-                *x = self.chains(x_adrs, x, from, count);
-                *y = self.chains(y_adrs, y, from, count);
-            }
-        }
-    }
-
-    /// Runs eight chains on. Each lane has its own first step and its own number of steps. A lane that has ended keeps
-    /// its value.
-    pub fn chains_each(
-        &self,
-        adrs: &LaneAdrs,
-        x: &LaneNodes,
-        from: Words,
-        counts: Words,
-    ) -> LaneNodes
-        requires { (j : ℕ) → j < GROUP → slice_index from j + slice_index counts j ≤ 2 ^ 32 }
-        ensures { (j : ℕ) → j < GROUP → (a : Address) → HasAddress adrs.now j a
-            → let p = params self.now.set in value_at result j p.n
-            ≡ steps p self.now.pk_seed.now a (value_at x.now j p.n) (slice_index from j) (slice_index counts j) }
-    {
-        let mut nodes = *x;
-        for step in 0..most(counts) {
-            let number = Words::splat(step);
-            let mut here = *adrs;
-            set_hashes(&mut here, add(from, number));
-            let next = self.f_each(&here, &nodes, step, counts);
-            nodes = pick_nodes(number, counts, &next, &nodes);
-        }
-        nodes
-    }
-
-    /// Runs the chains of two groups of eight on. Each lane has its own first step and its own number of steps. The
-    /// chains in `x` have the addresses `x_adrs`, and those in `y` have `y_adrs`. A lane that has ended keeps its value.
-    pub fn chains_each_two(
-        &self,
-        x_adrs: &LaneAdrs,
-        y_adrs: &LaneAdrs,
-        x: &mut LaneNodes,
-        y: &mut LaneNodes,
-        x_from: Words,
-        y_from: Words,
-        x_counts: Words,
-        y_counts: Words,
-    )
-        requires x { (j : ℕ) → j < GROUP → slice_index x_from j + slice_index x_counts j ≤ 2 ^ 32 }
-        requires y { (j : ℕ) → j < GROUP → slice_index y_from j + slice_index y_counts j ≤ 2 ^ 32 }
-        ensures x { (j : ℕ) → j < GROUP → (a : Address) → HasAddress x_adrs.now j a
-            → let p = params self.now.set in value_at x.new j p.n
-            ≡ steps p self.now.pk_seed.now a (value_at x.old j p.n) (slice_index x_from j) (slice_index x_counts j) }
-        ensures y { (j : ℕ) → j < GROUP → (a : Address) → HasAddress y_adrs.now j a
-            → let p = params self.now.set in value_at y.new j p.n
-            ≡ steps p self.now.pk_seed.now a (value_at y.old j p.n) (slice_index y_from j) (slice_index y_counts j) }
-    {
-        for step in 0..most(x_counts).max(most(y_counts)) {
-            let number = Words::splat(step);
-            let mut x_here = *x_adrs;
-            let mut y_here = *y_adrs;
-            set_hashes(&mut x_here, add(x_from, number));
-            set_hashes(&mut y_here, add(y_from, number));
-            let mut x_next = *x;
-            let mut y_next = *y;
-            self.f_two(&x_here, &y_here, &mut x_next, &mut y_next);
-            *x = pick_nodes(number, x_counts, &x_next, x);
-            *y = pick_nodes(number, y_counts, &y_next, y);
+        for step in 0..most_of_all(counts) {
+            let mut next = *x;
+            self.f_each(&adrs_at_step(adrs, from, step), &mut next, step, counts);
+            take_step(x, &next, step, counts);
         }
     }
 
     /// F in each lane that has a step left, whose number in `counts` is above `step`. Of other lanes nothing is said.
-    fn f_each(&self, adrs: &LaneAdrs, x: &LaneNodes, step: u32, counts: Words) -> LaneNodes
+    fn f_each<const G: usize>(
+        &self,
+        adrs: &[LaneAdrs; G],
+        x: &mut [LaneNodes; G],
+        step: u32,
+        counts: &[Words; G],
+    )
+        requires few { G ≤ 2 }
+        ensures { (g j : ℕ) → g < G → j < GROUP → step < slice_index (group counts.now g) j → (a : Address)
+            → HasAddress (group adrs.now g) j a
+            → let p = params self.now.set in value_at (group x.new g) j p.n
+            ≡ F p self.now.pk_seed.now a (value_at (group x.old g) j p.n) }
+    {
+        if is_joined(G) {
+            self.digests_of_two(adrs, x, self.set.n());
+        } else {
+            'groups: for g in 0..G {
+                x[g] = self.f_of_group(&adrs[g], &x[g], step, counts[g]);
+            }
+        }
+    }
+
+    /// F in each lane of one group that has a step left.
+    fn f_of_group(&self, adrs: &LaneAdrs, x: &LaneNodes, step: u32, counts: Words) -> LaneNodes
         ensures { (j : ℕ) → j < GROUP → step < slice_index counts j → (a : Address) → HasAddress adrs.now j a
             → let p = params self.now.set in
             value_at result j p.n ≡ F p self.now.pk_seed.now a (value_at x.now j p.n) }
@@ -300,46 +238,90 @@ impl<'a> SeededLanes<'a> {
         state
     }
 
-    /// In each lane the first n bytes of the digest of PK.seed, zeros, the address and the value of `len` bytes.
-    fn digests(&self, adrs: &LaneAdrs, x: &LaneNodes, len: usize) -> LaneNodes
-        requires { (len ≡ 16) ⊎ (len ≡ 24) ⊎ (len ≡ 32) }
-        ensures { (j : ℕ) → j < GROUP → (a : Address) → HasAddress adrs.now j a
-            → let p = params self.now.set in
-            value_at result j p.n ≡ tweaked_hash SHA_256 p self.now.pk_seed.now a (value_at x.now j len) }
+    /// In each lane of a batch the first n bytes of the digest of PK.seed, zeros, the address and the value of `len`
+    /// bytes.
+    fn digests<const G: usize>(&self, adrs: &[LaneAdrs; G], x: &mut [LaneNodes; G], len: usize)
+        requires few { G ≤ 2 }
+        requires len { (len ≡ 16) ⊎ (len ≡ 24) ⊎ (len ≡ 32) }
+        ensures { (g j : ℕ) → g < G → j < GROUP → (a : Address) → HasAddress (group adrs.now g) j a
+            → let p = params self.now.set in value_at (group x.new g) j p.n
+            ≡ tweaked_hash SHA_256 p self.now.pk_seed.now a (value_at (group x.old g) j len) }
     {
-        short_digests(splat_all(&self.short), len, adrs, x)
-    }
-
-    /// Puts into each lane of two groups the digest that `digests` gives of the value there.
-    fn digests_two(
-        &self,
-        x_adrs: &LaneAdrs,
-        y_adrs: &LaneAdrs,
-        x: &mut LaneNodes,
-        y: &mut LaneNodes,
-        len: usize,
-    )
-        requires { (len ≡ 16) ⊎ (len ≡ 24) ⊎ (len ≡ 32) }
-        ensures x { (j : ℕ) → j < GROUP → (a : Address) → HasAddress x_adrs.now j a
-            → let p = params self.now.set in
-            value_at x.new j p.n ≡ tweaked_hash SHA_256 p self.now.pk_seed.now a (value_at x.old j len) }
-        ensures y { (j : ℕ) → j < GROUP → (a : Address) → HasAddress y_adrs.now j a
-            → let p = params self.now.set in
-            value_at y.new j p.n ≡ tweaked_hash SHA_256 p self.now.pk_seed.now a (value_at y.old j len) }
-    {
-        match build_widths().short {
-            Width::Sixteen => {
-                let mut state = splat_all(&self.short);
-                let adrs = join_adrs(x_adrs, y_adrs);
-                let nodes = join_nodes(x, y);
-                rounds::compress(&mut state, &second_block(len, &adrs, &nodes));
-                split_nodes(&state, x, y);
-            }
-            Width::One | Width::Four | Width::Eight => {
-                *x = self.digests(x_adrs, x, len);
-                *y = self.digests(y_adrs, y, len);
+        if is_joined(G) {
+            self.digests_of_two(adrs, x, len);
+        } else {
+            'groups: for g in 0..G {
+                x[g] = short_digests(splat_all(&self.short), len, &adrs[g], &x[g]);
             }
         }
+    }
+
+    /// The digests that `digests` gives of two groups, in sixteen lanes.
+    fn digests_of_two<const G: usize>(
+        &self,
+        adrs: &[LaneAdrs; G],
+        x: &mut [LaneNodes; G],
+        len: usize,
+    )
+        requires two { G ≡ 2 }
+        requires len { (len ≡ 16) ⊎ (len ≡ 24) ⊎ (len ≡ 32) }
+        ensures { (g j : ℕ) → g < G → j < GROUP → (a : Address) → HasAddress (group adrs.now g) j a
+            → let p = params self.now.set in value_at (group x.new g) j p.n
+            ≡ tweaked_hash SHA_256 p self.now.pk_seed.now a (value_at (group x.old g) j len) }
+    {
+        let mut state = splat_all(&self.short);
+        let joined = join_adrs(adrs);
+        let nodes = join_nodes(x);
+        rounds::compress(&mut state, &second_block(len, &joined, &nodes));
+        split_nodes(&state, x);
+    }
+}
+
+/// Whether so many groups are hashed at once in sixteen lanes.
+#[inline(always)]
+fn is_joined(groups: usize) -> bool
+    ensures { result ≡ true → groups ≡ 2 }
+{
+    groups == 2 && matches!(build_widths().short, Width::Sixteen)
+}
+
+/// The largest word of all lanes of a batch.
+fn most_of_all<const G: usize>(counts: &[Words; G]) -> u32
+    ensures { (g j : ℕ) → g < G → j < GROUP → slice_index (group counts.now g) j ≤ result }
+{
+    let mut most_of_all = 0;
+    for g in 0..G {
+        most_of_all = most_of_all.max(most(counts[g]));
+    }
+    most_of_all
+}
+
+/// The addresses of a batch, so many steps after the first ones.
+fn adrs_at_step<const G: usize>(adrs: &[LaneAdrs; G], from: &[Words; G], step: u32) -> [LaneAdrs; G]
+    ensures { (g j : ℕ) → g < G → j < GROUP → (a : Address) → HasAddress (group adrs.now g) j a
+        → HasAddress (group result g) j (record a { hash = add32 (slice_index (group from.now g) j) step }) }
+{
+    let mut here = *adrs;
+    for g in 0..G {
+        set_hashes(&mut here[g], add(from[g], Words::splat(step)));
+    }
+    here
+}
+
+/// Takes the next value in each lane that has a step left. The others keep their values.
+fn take_step<const G: usize>(
+    x: &mut [LaneNodes; G],
+    next: &[LaneNodes; G],
+    step: u32,
+    counts: &[Words; G],
+)
+    ensures taken { (g j n : ℕ) → g < G → j < GROUP → step < slice_index (group counts.now g) j
+        → value_at (group x.new g) j n ≡ value_at (group next.now g) j n }
+    ensures kept { (g j n : ℕ) → g < G → j < GROUP → slice_index (group counts.now g) j ≤ step
+        → value_at (group x.new g) j n ≡ value_at (group x.old g) j n }
+{
+    for g in 0..G {
+        x[g] = pick_nodes(Words::splat(step), counts[g], &next[g], &x[g]);
     }
 }
 

@@ -1,5 +1,5 @@
 //! SHA-256 of eight messages that come word after word, one in each lane (FIPS 180-4, section 6.2).
-ghost use Rattle.std.specs.Prelude.{◌≡◌, ℕ, ◌+◌, ◌*◌, ◌^◌, ◌<◌, ◌≤◌, ◌++◌, List, [], length, slice_index, take};
+ghost use Rattle.std.specs.Prelude.{◌≡◌, ℕ, ◌+◌, ◌*◌, ◌^◌, ◌<◌, ◌≤◌, ◌++◌, List, length, slice_index, take};
 ghost use Rattle.std.specs.Int.{to_be_bytes, w32};
 ghost use Rattle.sha2.specs.Sha256.{compress, digest_bytes, initial_hash_256, sha256};
 ghost use Rattle.slh_params.specs.Address.{Address, compressed};

@@ -9,6 +9,8 @@ pub enum Width {
     Four,
     Eight,
     Sixteen,
+    /// One message after another, by the SHA instructions of the processor.
+    Instructions,
 }
 
 /// The widths of the vectors in which blocks are hashed side by side.

@@ -3,12 +3,17 @@
 //
 // usage: sign_queue KEY PORT [PROCESSES] < QUEUE
 //
+//	sign_queue --self-test KEY
+//
 // KEY is a secret key file of the program slh. The signature of FILE goes into a new file FILE.sig, once it was
 // computed two times and verified. A scraper reads the counters from http://127.0.0.1:PORT/metrics:
 // slh_signatures_total, slh_failures_total and slh_signing_seconds_total. QUEUE may be a pipe that never ends. At its
 // end the program ends, with status 1 if something failed. If a process is lost, its file is named as a failure, and
 // the others go on. SIGTERM and Ctrl-C end the program once the files that it took from the queue are signed. The
 // others stay in the queue: no name is read before it is needed.
+//
+// --self-test runs the self-test of the key's set, by the code that signs. The status is 0 if it passes. It does not look
+// at the rest of the program's file.
 package main
 
 import (
@@ -313,8 +318,25 @@ func checked(key string) {
 	}
 }
 
+// selfTest returns the error of the self-test of a key's set.
+func selfTest(key string) error {
+	secret, err := slh.ReadSecretKeyFile(key)
+	if err != nil {
+		return err
+	}
+	defer secret.Erase()
+	return secret.Set().SelfTest()
+}
+
 func main() {
 	log.SetFlags(0)
+	if len(os.Args) == 3 && os.Args[1] == "--self-test" {
+		if err := selfTest(os.Args[2]); err != nil {
+			log.Print(err)
+			os.Exit(2)
+		}
+		return
+	}
 	if os.Getenv("SIGN_QUEUE_WORKER") != "" {
 		if err := work(os.Args[1]); err != nil {
 			log.Fatal(err)
@@ -326,7 +348,7 @@ func main() {
 		processes, _ = strconv.Atoi(os.Args[3])
 	}
 	if len(os.Args) < 3 || len(os.Args) > 4 || processes < 1 {
-		log.Print("usage: sign_queue KEY PORT [PROCESSES] < QUEUE")
+		log.Print("usage: sign_queue KEY PORT [PROCESSES] < QUEUE, or sign_queue --self-test KEY")
 		os.Exit(2)
 	}
 	checked(os.Args[1])

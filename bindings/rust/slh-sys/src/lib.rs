@@ -14,7 +14,7 @@
 use core::ffi::{c_char, c_void};
 
 /// `slh_version` of the version that these declarations are of.
-pub const SLH_VERSION_NUMBER: u32 = 13_000;
+pub const SLH_VERSION_NUMBER: u32 = 14_000;
 
 /// The number of the set SLH-DSA-SHA2-128s.
 pub const SLH_DSA_SHA2_128S: u32 = 1;
@@ -86,12 +86,38 @@ pub const SLH_NO_MEMORY: u32 = 37;
 pub const SLH_FAULT: u32 = 38;
 /// The processor is below x86-64-v2: the library has no code for it.
 pub const SLH_OLD_PROCESSOR: u32 = 39;
+/// An answer of the self-test is not the known one: `slh_self_test` alone returns it.
+pub const SLH_SELF_TEST_FAILED: u32 = 40;
 
 /// The most bytes of a refusal's name with the zero byte after it.
 pub const SLH_MAX_NAME: usize = 20;
 /// The most bytes of a context.
 pub const SLH_MAX_CONTEXT: usize = 255;
 
+/// An item of `slh_verify_many`: a public key, a message, a context and a signature, each with its length in bytes.
+#[repr(C)]
+#[derive(Clone, Copy, Debug)]
+#[allow(non_camel_case_types)]
+pub struct slh_signed {
+    /// The public key.
+    pub pk: *const u8,
+    /// Its length.
+    pub pk_len: u64,
+    /// The message.
+    pub msg: *const u8,
+    /// Its length.
+    pub msg_len: u64,
+    /// The context.
+    pub ctx: *const u8,
+    /// Its length.
+    pub ctx_len: u64,
+    /// The signature.
+    pub sig: *const u8,
+    /// Its length.
+    pub sig_len: u64,
+}
+
+// tools/call_tables.py writes the lines from here on.
 extern "C" {
     /// Writes the lengths of a set's public keys, secret keys and signatures, and n.
     #[must_use]
@@ -115,6 +141,10 @@ extern "C" {
     /// Whether PK.root of a secret key is the root that its seeds give.
     #[must_use]
     pub fn slh_check(set: u32, sk: *const u8, sk_len: usize) -> u32;
+    /// To test a set on this machine before it is used, as when a service starts: generates a known key, signs a known
+    /// message, and compares PK.root and the SHA-256 of the signature with the answers of OpenSSL.
+    #[must_use]
+    pub fn slh_self_test(set: u32, scratch: *mut u8, scratch_len: usize) -> u32;
     /// Signs in the pure form (Algorithm 22).
     #[must_use]
     pub fn slh_sign(
@@ -161,6 +191,15 @@ extern "C" {
         randomizer_len: usize,
         sig: *mut u8,
         sig_len: usize,
+    ) -> u32;
+    /// Verifies many signatures of the pure form, each under its own key and context, and writes a verdict on each.
+    #[must_use]
+    pub fn slh_verify_many(
+        set: u32,
+        items: *const slh_signed,
+        items_len: usize,
+        verdicts: *mut u32,
+        verdicts_len: usize,
     ) -> u32;
     /// Writes what is hashed before a message of the pure form: R, PK.seed, PK.root, 0, the context's length and the
     /// context (section 11.2). The result does not say that the signature is valid.
@@ -247,6 +286,10 @@ extern "C" {
     pub fn slh_refusal_text(result: u32) -> *const c_char;
     /// Writes zeros over bytes that are no longer needed, also where the compiler sees that nobody reads them again.
     pub fn slh_erase(bytes: *mut c_void, n: usize);
+    /// For which level of processors the code is that runs: 2, 3 or 4 of x86-64, or 0 where the library has one level
+    /// alone.
+    #[must_use]
+    pub fn slh_level() -> u32;
     /// Writes how many jobs a signature has, and the lengths of its start and of all answers.
     #[must_use]
     pub fn slh_sign_jobs(
@@ -364,10 +407,6 @@ extern "C" {
     /// The version of the library: 1,000,000 times its first number, 1,000 times its second, and its third.
     #[must_use]
     pub fn slh_version() -> u32;
-    /// For which level of processors the code is that runs: 2, 3 or 4 of x86-64, or 0 where the library has one level
-    /// alone.
-    #[must_use]
-    pub fn slh_level() -> u32;
     /// Verifies a signature of the pure form (Algorithm 24).
     #[must_use]
     pub fn slh_verify(
@@ -390,6 +429,20 @@ extern "C" {
         pk_len: usize,
         digest: *const u8,
         digest_len: usize,
+        ctx: *const u8,
+        ctx_len: usize,
+        sig: *const u8,
+        sig_len: usize,
+    ) -> u32;
+    /// Verifies a signature of the pre-hash form, with the message (Algorithm 25).
+    #[must_use]
+    pub fn slh_hash_verify(
+        set: u32,
+        function: u32,
+        pk: *const u8,
+        pk_len: usize,
+        msg: *const u8,
+        msg_len: usize,
         ctx: *const u8,
         ctx_len: usize,
         sig: *const u8,
@@ -422,18 +475,5 @@ extern "C" {
         sig: *const u8,
         sig_len: usize,
     ) -> u32;
-    /// Verifies a signature of the pre-hash form, with the message (Algorithm 25).
-    #[must_use]
-    pub fn slh_hash_verify(
-        set: u32,
-        function: u32,
-        pk: *const u8,
-        pk_len: usize,
-        msg: *const u8,
-        msg_len: usize,
-        ctx: *const u8,
-        ctx_len: usize,
-        sig: *const u8,
-        sig_len: usize,
-    ) -> u32;
 }
+// tools/call_tables.py has written the lines up to here.

@@ -22,6 +22,8 @@ fn in_rust(parameter: &str) -> String {
         "uint8_t *" => "*mut u8",
         "uint32_t *" => "*mut u32",
         "size_t *" => "*mut usize",
+        "const slh_signed *" => "*const slh_signed",
+        "uint64_t" => "u64",
         "char *" => "*mut c_char",
         "void *" => "*mut c_void",
         other => panic!("no type {other}"),
@@ -37,6 +39,18 @@ fn numbers_are_those_of_the_header() {
         assert!(DECLARATIONS.contains(&format!("pub const {name}: u32 = {number};")), "{name} is not {number}");
     }
     assert!(numbers.len() > 25, "{} numbers", numbers.len());
+}
+
+#[test]
+fn fields_of_an_item_are_those_of_the_header() {
+    let inside = |text: &'static str, from: &str| {
+        text.split_once(from).and_then(|(_, rest)| rest.split_once('}')).expect("a struct").0
+    };
+    let in_c = inside(HEADERS[0], "typedef struct slh_signed {").split(';').map(str::trim).filter(|it| !it.is_empty());
+    let fields = inside(DECLARATIONS, "pub struct slh_signed {").lines().map(str::trim);
+    let declared: Vec<_> = fields.filter_map(|it| it.strip_prefix("pub ")).collect();
+    assert_eq!(declared, in_c.map(|it| in_rust(it) + ",").collect::<Vec<_>>());
+    assert_eq!(declared.len(), 8);
 }
 
 /// The types of results: as they stand in C before a call, and in Rust behind it.

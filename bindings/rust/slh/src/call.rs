@@ -24,6 +24,7 @@ pub(crate) fn done(result: u32) -> Result<(), Error> {
         slh_sys::SLH_DONE => Ok(()),
         slh_sys::SLH_INVALID => Err(Error::Invalid),
         slh_sys::SLH_FAULT => Err(Error::Fault),
+        slh_sys::SLH_SELF_TEST_FAILED => Err(Error::SelfTestFailed),
         number => Err(Refusal::of(number).into()),
     }
 }
@@ -44,7 +45,8 @@ mod tests {
         assert!(done(0).is_ok());
         assert!(matches!(done(30), Err(Error::Invalid)));
         assert!(matches!(done(38), Err(Error::Fault)));
-        let refused = (1..100).filter(|it| ![30, 38].contains(it));
+        assert!(matches!(done(40), Err(Error::SelfTestFailed)));
+        let refused = (1..100).filter(|it| ![30, 38, 40].contains(it));
         for number in refused {
             assert!(matches!(done(number), Err(Error::Refused(refusal)) if refusal.number() == number));
         }

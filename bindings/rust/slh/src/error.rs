@@ -21,6 +21,9 @@ pub enum Error {
     /// A computation went wrong, as by bad memory or a bad processor, and nothing was signed. Two computations of a
     /// signature differ, [`Options::verify`](crate::Options::verify) found one that is not valid, or a new key is wrong.
     Fault,
+    /// An answer of [`ParameterSet::self_test`](crate::ParameterSet::self_test) is not the known one. The library on this
+    /// machine may not be used.
+    SelfTestFailed,
     /// The key in a file is of another parameter set than the one asked for. Both are named as `SLH-DSA-SHA2-128f`.
     OtherSet {
         /// The set of the type.
@@ -43,6 +46,7 @@ impl fmt::Display for Error {
             Error::Refused(refusal) => refusal.fmt(f),
             Error::RandomFailed(error) => write!(f, "7 RandomFailed: {error}"),
             Error::Fault => f.write_str("38 Fault: two results differ, or the signature or the new key is not valid"),
+            Error::SelfTestFailed => f.write_str("40 SelfTestFailed: an answer of the self-test is not the known one"),
             Error::OtherSet { expected, given } => write!(f, "{expected} expected, a key of {given} given"),
             Error::OtherForm(conversion) => write!(f, "11 NotAKeyFile: {conversion}"),
             Error::ReadFailed(error) => write!(f, "32 ReadFailed: {error}"),

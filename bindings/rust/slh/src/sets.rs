@@ -2,6 +2,11 @@
 
 use std::fmt::Debug;
 
+use crate::{
+    call::{call, done},
+    Error,
+};
+
 /// A pre-hash function (FIPS 205, section 10.2.2). Each goes with each set, but one that is weaker than the set makes a
 /// weaker signature.
 #[derive(Clone, Copy, Debug, PartialEq, Eq, Hash)]
@@ -51,6 +56,22 @@ pub trait ParameterSet: private::Sealed + Copy + Debug + Eq + Send + Sync + 'sta
     /// The levels of XMSS trees by which workers divide a signature: those of docs/BENCHMARKS.md for four workers.
     #[doc(hidden)]
     const XMSS_LEVELS: u32;
+
+    /// Tests the set on this machine before it is used, as when a service starts. A known key is made, and a known
+    /// message is signed. PK.root and the SHA-256 of the signature have to be those that OpenSSL gave. The signature has
+    /// to be valid, and invalid for another message. The test takes as long as to make a key, to sign once and to verify
+    /// two times.
+    ///
+    /// It shows nothing about other sets, keys and messages, the pre-hash forms, random bytes and later faults. It does
+    /// not replace a hash of the program's file.
+    ///
+    /// # Errors
+    ///
+    /// [`Error::SelfTestFailed`] if an answer is not the known one.
+    fn self_test() -> Result<(), Error> {
+        let scratch = &mut vec![0; Self::SIGNATURE][..];
+        done(call!(slh_self_test(Self::NUMBER;; scratch)))
+    }
 }
 
 /// An array of bytes.

@@ -9,7 +9,8 @@ use std::{
 };
 
 use slh::{
-    Error, Function, Options, PublicKey, Randomizer, Refusal, SecretKey, Signature, Signer, SlhDsaSha2_128f, Verifier,
+    Error, Function, Options, ParameterSet, PublicKey, Randomizer, Refusal, SecretKey, Signature, Signer,
+    SlhDsaSha2_128f, SlhDsaSha2_128s, SlhDsaSha2_192f, SlhDsaSha2_192s, SlhDsaSha2_256f, SlhDsaSha2_256s, Verifier,
 };
 
 type Secret = SecretKey<SlhDsaSha2_128f>;
@@ -256,6 +257,20 @@ fn workers_verify_before_release() {
         assert!(faults_are(verify, |message| secret.workers(2).sign_with(message, options)));
         assert!(faults_are(verify, |message| secret.workers(2).hash_sign(Function::Sha2_256, message, options)));
     }
+}
+
+/// tests/test_rust.py runs the self-test over a library with another answer.
+#[test]
+fn each_set_passes_its_self_test() {
+    let all = [
+        SlhDsaSha2_128s::self_test,
+        SlhDsaSha2_128f::self_test,
+        SlhDsaSha2_192s::self_test,
+        SlhDsaSha2_192f::self_test,
+        SlhDsaSha2_256s::self_test,
+        SlhDsaSha2_256f::self_test,
+    ];
+    all.iter().for_each(|test| test().unwrap());
 }
 
 #[test]

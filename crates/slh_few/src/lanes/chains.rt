@@ -5,18 +5,16 @@ ghost use Rattle.slh_params.specs.Params.{Params, len};
 ghost use Rattle.slh_params.specs.ParamSet.{params};
 ghost use Rattle.slh_lanes.specs.Lanes.{HasAddress, value_at};
 ghost use Rattle.slh_few.specs.Chunks.{end_to_end, chunk};
-ghost use Rattle.slh_few.specs.RunningChains.{ChainsAt, EndAt, StaysWithin};
 ghost use Rattle.slh_few.specs.Wots.{wots_address, chain as chain_of, secret};
 
-use crate::lanes::chain_order::by_steps;
-use crate::lanes::running_chains::{RunningChains, hash_adrs, least_lane, numbers_of, with_node};
-use crate::lanes::sixteen_chains::run_values_in_groups;
+use crate::lanes::chain_queue::by_steps;
+use crate::lanes::running_chains::numbers_of;
 use crate::nodes::{chunk_at, put_chunk};
 use crate::place::Place;
 use crate::wots::{MOST_STEPS, wots_adrs};
 use slh_lanes::{
-    GROUP, LaneAdrs, LaneNodes, SeededLanes, Width, Words, adrs_lanes, build_widths, lane_node,
-    node_lanes, set_chains, set_lane,
+    GROUP, LaneAdrs, LaneNodes, SeededLanes, Words, adrs_lanes, lane_node, node_lanes, set_chains,
+    set_lane,
 };
 use slh_params::AdrsType;
 
@@ -67,10 +65,11 @@ pub(crate) fn secret_lanes(
     ensures { let p = params lanes.now.set in (j : ℕ) → j < GROUP
         → value_at result j p.n ≡ secret p sk_seed.now lanes.now.pk_seed.now at (slice_index group.now j) }
 {
-    lanes.prf(sk_seed, &chain_adrs(at, AdrsType::WotsPrf, group))
+    let [secrets] = lanes.prf(sk_seed, &[chain_adrs(at, AdrsType::WotsPrf, group)]);
+    secrets
 }
 
-/// Runs the group's chains on, each from its own step and by its own number of steps.
+/// Continues the chains of a group. Each lane has its own first step and its own number of steps.
 pub(crate) fn run_lanes(
     lanes: &SeededLanes,
     at: Place,
@@ -85,10 +84,14 @@ pub(crate) fn run_lanes(
         ≡ chain_of p lanes.now.pk_seed.now at (slice_index group.now j) (value_at x.now j p.n)
         (slice_index from j) (slice_index counts j) }
 {
-    lanes.chains_each(&chain_adrs(at, AdrsType::WotsHash, group), x, from, counts)
+    let adrs = [chain_adrs(at, AdrsType::WotsHash, group)];
+    let mut values = [*x];
+    lanes.chains_each(&adrs, &mut values, &[from], &[counts]);
+    let [ends] = values;
+    ends
 }
 
-/// Runs the group's chains on, all from the same step and by the same number of steps.
+/// Continues the chains of a group, all from one step and by one number of steps.
 pub(crate) fn run_alike(
     lanes: &SeededLanes,
     at: Place,
@@ -166,102 +169,5 @@ pub(crate) fn run_secrets_in_lanes(
         let steps = numbers_of(counts, &group);
         let nodes = run_lanes(lanes, at, &group, &secrets, Words::splat(0), steps);
         put_lanes(out, n, &group, &nodes, (count - GROUP * turn).min(GROUP));
-    }
-}
-
-/// Runs all chains on until one has ended, writes its value of n bytes, and gives its lane. `adrs` is the address of
-/// a chain of the key in each lane.
-fn run_to_an_end(
-    lanes: &SeededLanes,
-    adrs: &LaneAdrs,
-    running: &mut RunningChains,
-    nodes: &mut LaneNodes,
-    n: usize,
-    out: &mut [u8],
-) -> usize
-    requires within { StaysWithin MOST_STEPS running.old }
-    requires n { n ≡ (params lanes.now.set).n }
-    requires out { (j : ℕ) → j < GROUP → slice_index running.old.numbers j * n + n ≤ length out.old }
-    ensures lane { result < GROUP }
-    ensures numbers { running.new.numbers ≡ running.old.numbers }
-    ensures within { StaysWithin MOST_STEPS running.new }
-    ensures ends { let p = params lanes.now.set in let pk_seed = lanes.now.pk_seed.now in
-        (f : ℕ → List ℕ) (at : Place) → ChainsAt adrs.now at → EndAt f p pk_seed at running.old nodes.old
-        → EndAt f p pk_seed at running.new nodes.new }
-    ensures written { let p = params lanes.now.set in let pk_seed = lanes.now.pk_seed.now in
-        (f : ℕ → List ℕ) (at : Place) → ChainsAt adrs.now at → EndAt f p pk_seed at running.old nodes.old
-        → chunk n out.new (slice_index running.old.numbers result) ≡ f (slice_index running.old.numbers result) }
-    ensures kept { let p = params lanes.now.set in let pk_seed = lanes.now.pk_seed.now in
-        (f : ℕ → List ℕ) (at : Place) → ChainsAt adrs.now at → EndAt f p pk_seed at running.old nodes.old
-        → (c : ℕ) → chunk n out.old c ≡ f c → chunk n out.new c ≡ f c }
-{
-    let j = least_lane(running.left);
-    let count = running.left.to_array()[j];
-    let mut here = *adrs;
-    set_chains(&mut here, running.numbers);
-    *nodes = lanes.chains_each(&here, nodes, running.steps, Words::splat(count));
-    running.advance(count);
-    let number = running.numbers.to_array()[j];
-    put_chunk(out, n, number as usize, &lane_node(nodes, j, n));
-    j
-}
-
-/// Runs each chain of a key on from its value and step, by its number of steps, in lanes, and writes the values that
-/// are reached. The longest chains run first: a lane whose chain has ended takes the next.
-fn run_values_in_lanes(
-    lanes: &SeededLanes,
-    at: Place,
-    values: &[u8],
-    from: &ChainNumbers,
-    counts: &ChainNumbers,
-    out: &mut [u8],
-)
-    requires steps { (c : ℕ) → c < MOST_DIGITS → slice_index from.now c + slice_index counts.now c ≤ MOST_STEPS }
-    requires values { length values.now ≡ len (params lanes.now.set) * (params lanes.now.set).n }
-    requires out { length out.old ≡ len (params lanes.now.set) * (params lanes.now.set).n }
-    ensures { let p = params lanes.now.set in let pk_seed = lanes.now.pk_seed.now in
-        out.new ≡ end_to_end (λ c. chain_of p pk_seed at c (chunk p.n values.now c)
-        (slice_index from.now c) (slice_index counts.now c)) (len p) }
-{
-    let set = lanes.set;
-    let n = set.n();
-    let count = set.len();
-    let order = by_steps(counts, count);
-    let adrs = hash_adrs(at);
-    let group = group_at(&order, 0);
-    let mut nodes = lanes_at(values, n, &group);
-    let mut running = RunningChains::of(&group, from, counts);
-    for place in GROUP..count {
-        let j = run_to_an_end(lanes, &adrs, &mut running, &mut nodes, n, out);
-        let next = order[place];
-        nodes = with_node(&nodes, j, chunk_at(values, n, next as usize));
-        running.put(j, next, from[next as usize], counts[next as usize]);
-    }
-    let last = running.numbers.to_array();
-    let ends = run_lanes(lanes, at, &last, &nodes, running.steps, running.left);
-    put_lanes(out, n, &last, &ends, GROUP);
-}
-
-/// Runs each chain of a key on from its value and step, by its number of steps, and writes the values that are reached.
-pub(crate) fn run_values(
-    lanes: &SeededLanes,
-    at: Place,
-    values: &[u8],
-    from: &ChainNumbers,
-    counts: &ChainNumbers,
-    out: &mut [u8],
-)
-    requires steps { (c : ℕ) → c < MOST_DIGITS → slice_index from.now c + slice_index counts.now c ≤ MOST_STEPS }
-    requires values { length values.now ≡ len (params lanes.now.set) * (params lanes.now.set).n }
-    requires out { length out.old ≡ len (params lanes.now.set) * (params lanes.now.set).n }
-    ensures { let p = params lanes.now.set in let pk_seed = lanes.now.pk_seed.now in
-        out.new ≡ end_to_end (λ c. chain_of p pk_seed at c (chunk p.n values.now c)
-        (slice_index from.now c) (slice_index counts.now c)) (len p) }
-{
-    match build_widths().short {
-        Width::Sixteen => run_values_in_groups(lanes, at, values, from, counts, out),
-        Width::One | Width::Four | Width::Eight => run_values_in_lanes(
-            lanes, at, values, from, counts, out,
-        ),
     }
 }

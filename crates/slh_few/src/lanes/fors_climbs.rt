@@ -1,7 +1,7 @@
 //! The roots of FORS trees that a signature gives, in one or two groups of eight lanes (FIPS 205, section 8.4).
 ghost use Rattle.std.specs.Prelude.{[], ◌≡◌, ℕ, List, ◌+◌, ◌*◌, ◌/◌, ◌^◌, ◌≤◌, ◌<◌, length, slice_index};
 ghost use Rattle.slh_params.specs.ParamSet.{params};
-ghost use Rattle.slh_lanes.specs.Lanes.{HasAddress, value_at};
+ghost use Rattle.slh_lanes.specs.Lanes.{HasAddress, group, value_at};
 ghost use Rattle.slh_hash.specs.Hash.{H};
 ghost use Rattle.slh_few.specs.Fors.{fors_part_len};
 ghost use Rattle.slh_few.specs.ForsRoots.{AreGiven, AreWithin, HasLeaves, address_over, root_given};
@@ -125,33 +125,27 @@ impl TreeGroup {
     }
 }
 
-/// Writes the leaves of both groups: F of the secrets. If the second group is empty, the first is hashed alone.
-fn put_leaves(
-    lanes: &SeededLanes,
-    sig: &[u8],
-    x: &TreeGroup,
-    y: &TreeGroup,
-    x_nodes: &mut LaneNodes,
-    y_nodes: &mut LaneNodes,
-)
+/// The leaves of both groups: F of the secrets. If the second group is empty, the first is hashed alone.
+fn leaves(lanes: &SeededLanes, sig: &[u8], x: &TreeGroup, y: &TreeGroup) -> [LaneNodes; 2]
     requires x { AreWithin (params lanes.now.set) x.now }
     requires y { AreWithin (params lanes.now.set) y.now }
     requires sig { let p = params lanes.now.set in length sig.now ≡ p.k * fors_part_len p }
     ensures x { let p = params lanes.now.set in (indices : List ℕ) → HasLeaves p indices x.now
-        → AreGiven p lanes.now.pk_seed.now indices sig.now x.now 0 (λ j. value_at x_nodes.new j p.n) }
+        → AreGiven p lanes.now.pk_seed.now indices sig.now x.now 0 (λ j. value_at (group result 0) j p.n) }
     ensures y { let p = params lanes.now.set in (indices : List ℕ) → HasLeaves p indices y.now
-        → AreGiven p lanes.now.pk_seed.now indices sig.now y.now 0 (λ j. value_at y_nodes.new j p.n) }
+        → AreGiven p lanes.now.pk_seed.now indices sig.now y.now 0 (λ j. value_at (group result 1) j p.n) }
 {
     let set = lanes.set;
-    let x_adrs = x.adrs(0);
-    *x_nodes = x.part_nodes(set, sig, 0);
+    let mut first = [x.part_nodes(set, sig, 0)];
     if y.used == 0 {
-        *x_nodes = lanes.f(&x_adrs, x_nodes);
-    } else {
-        let y_adrs = y.adrs(0);
-        *y_nodes = y.part_nodes(set, sig, 0);
-        lanes.f_two(&x_adrs, &y_adrs, x_nodes, y_nodes);
+        lanes.f(&[x.adrs(0)], &mut first);
+        let [alone] = first;
+        return [alone, node_lanes(&[])];
     }
+    let [x_nodes] = first;
+    let mut nodes = [x_nodes, y.part_nodes(set, sig, 0)];
+    lanes.f(&[x.adrs(0), y.adrs(0)], &mut nodes);
+    nodes
 }
 
 /// Climbs in both groups from the nodes of height `z` to those of the next: H of them and their siblings. If the second
@@ -162,28 +156,32 @@ fn climb_on(
     sig: &[u8],
     x: &TreeGroup,
     y: &TreeGroup,
-    x_nodes: &mut LaneNodes,
-    y_nodes: &mut LaneNodes,
+    nodes: &mut [LaneNodes; 2],
 )
     requires x { AreWithin (params lanes.now.set) x.now }
     requires y { AreWithin (params lanes.now.set) y.now }
     requires height { z < (params lanes.now.set).a }
     requires sig { let p = params lanes.now.set in length sig.now ≡ p.k * fors_part_len p }
     ensures x { let p = params lanes.now.set in let pk_seed = lanes.now.pk_seed.now in (indices : List ℕ)
-        → HasLeaves p indices x.now → AreGiven p pk_seed indices sig.now x.now z (λ j. value_at x_nodes.old j p.n)
-        → AreGiven p pk_seed indices sig.now x.now (z + 1) (λ j. value_at x_nodes.new j p.n) }
+        → HasLeaves p indices x.now
+        → AreGiven p pk_seed indices sig.now x.now z (λ j. value_at (group nodes.old 0) j p.n)
+        → AreGiven p pk_seed indices sig.now x.now (z + 1) (λ j. value_at (group nodes.new 0) j p.n) }
     ensures y { let p = params lanes.now.set in let pk_seed = lanes.now.pk_seed.now in (indices : List ℕ)
-        → HasLeaves p indices y.now → AreGiven p pk_seed indices sig.now y.now z (λ j. value_at y_nodes.old j p.n)
-        → AreGiven p pk_seed indices sig.now y.now (z + 1) (λ j. value_at y_nodes.new j p.n) }
+        → HasLeaves p indices y.now
+        → AreGiven p pk_seed indices sig.now y.now z (λ j. value_at (group nodes.old 1) j p.n)
+        → AreGiven p pk_seed indices sig.now y.now (z + 1) (λ j. value_at (group nodes.new 1) j p.n) }
 {
-    let x_right = x.pair_up(lanes.set, z, sig, x_nodes);
-    let x_adrs = x.adrs(z + 1);
+    let [mut x_nodes, mut y_nodes] = *nodes;
+    let x_right = x.pair_up(lanes.set, z, sig, &mut x_nodes);
     if y.used == 0 {
-        *x_nodes = lanes.h(&x_adrs, x_nodes, &x_right);
+        let mut alone = [x_nodes];
+        lanes.h(&[x.adrs(z + 1)], &mut alone, &[x_right]);
+        let [x_nodes] = alone;
+        *nodes = [x_nodes, y_nodes];
     } else {
-        let y_right = y.pair_up(lanes.set, z, sig, y_nodes);
-        let y_adrs = y.adrs(z + 1);
-        lanes.h_two(&x_adrs, &y_adrs, x_nodes, y_nodes, &x_right, &y_right);
+        let y_right = y.pair_up(lanes.set, z, sig, &mut y_nodes);
+        *nodes = [x_nodes, y_nodes];
+        lanes.h(&[x.adrs(z + 1), y.adrs(z + 1)], nodes, &[x_right, y_right]);
     }
 }
 
@@ -243,14 +241,12 @@ fn put_roots(
     };
     let x = TreeGroup::new(set, first, x_used, indices);
     let y = TreeGroup::new(set, second, used - x_used, indices);
-    let mut x_nodes = node_lanes(&[]);
-    let mut y_nodes = node_lanes(&[]);
-    put_leaves(lanes, sig, &x, &y, &mut x_nodes, &mut y_nodes);
+    let mut nodes = leaves(lanes, sig, &x, &y);
     for z in 0..set.a() {
-        climb_on(lanes, z, sig, &x, &y, &mut x_nodes, &mut y_nodes);
+        climb_on(lanes, z, sig, &x, &y, &mut nodes);
     }
-    x.put_nodes(set.n(), &x_nodes, out);
-    y.put_nodes(set.n(), &y_nodes, out);
+    x.put_nodes(set.n(), &nodes[0], out);
+    y.put_nodes(set.n(), &nodes[1], out);
 }
 
 /// Writes the roots of the first trees, and gives their number: of all that are climbed in lanes.

@@ -3,12 +3,12 @@ ghost use Rattle.std.specs.Prelude.{[], ◌≡◌, ℕ, ◌+◌, ◌-◌, ◌*�
 ghost use Rattle.slh_params.specs.Address.{address};
 ghost use Rattle.slh_params.specs.AdrsType.{type_number};
 ghost use Rattle.slh_params.specs.ParamSet.{params};
-ghost use Rattle.slh_lanes.specs.Lanes.{HasAddress, value_at};
+ghost use Rattle.slh_lanes.specs.Lanes.{HasAddress, group, value_at};
 ghost use Rattle.slh_tree.specs.Cover.{past_leaf};
 ghost use Rattle.slh_tree.specs.Tree.{node};
 ghost use Rattle.slh_few.specs.Fors.{fors_tree};
 ghost use Rattle.slh_few.specs.Heights.{AreParents};
-ghost use Rattle.slh_few.specs.LaneValues.{AreJoins, AreNodes};
+ghost use Rattle.slh_few.specs.LaneValues.{AreJoins, AreNodes, AreSixteen};
 ghost use Rattle.slh_few.specs.Chunks.{chunk};
 ghost use Rattle.slh_few.specs.Trees.{fors_nodes_of};
 ghost use Rattle.slh_few.specs.declared.fors_parts.TheConstants.{MOST_TREES};
@@ -47,38 +47,39 @@ impl ForsPlace {
             (j : ℕ) → j < GROUP → value_at result j p.n
             ≡ (fors_tree p sk_seed.now lanes.now.pk_seed.now t.idx_tree t.idx_leaf t.tree_no).leaf (first + j) }
     {
-        let adrs = self.lane_adrs(lanes.set, AdrsType::ForsPrf, 0, first);
-        let secrets = lanes.prf(sk_seed, &adrs);
+        let mut leaves = lanes.prf(
+            sk_seed,
+            &[self.lane_adrs(lanes.set, AdrsType::ForsPrf, 0, first)],
+        );
         let adrs = self.lane_adrs(lanes.set, AdrsType::ForsTree, 0, first);
-        lanes.f(&adrs, &secrets)
+        lanes.f(&[adrs], &mut leaves);
+        let [leaves] = leaves;
+        leaves
     }
 
-    /// Writes the sixteen leaves of the tree from `first` on: the first eight into `x`, the others into `y`.
-    fn put_leaves(
-        &self,
-        lanes: &SeededLanes,
-        sk_seed: &[u8],
-        first: u32,
-        x: &mut LaneNodes,
-        y: &mut LaneNodes,
-    )
+    /// Sixteen leaves of the tree from `first` on, in two groups. Since this and `join_sixteen` are not inlined, the
+    /// frames of the recursion lack their vectors.
+    #[inline(never)]
+    fn sixteen_leaves(&self, lanes: &SeededLanes, sk_seed: &[u8], first: u32) -> [LaneNodes; 2]
         requires sk_seed { length sk_seed.now ≡ (params lanes.now.set).n }
         requires tree { self.now.tree_no < MOST_TREES }
         requires within { first + 2 * GROUP ≤ 2 ^ (params lanes.now.set).a }
-        ensures x { let p = params lanes.now.set in let t = self.now in
-            AreNodes (fors_tree p sk_seed.now lanes.now.pk_seed.now t.idx_tree t.idx_leaf t.tree_no) p.n 0 first x.new }
-        ensures y { let p = params lanes.now.set in let t = self.now in
-            AreNodes (fors_tree p sk_seed.now lanes.now.pk_seed.now t.idx_tree t.idx_leaf t.tree_no) p.n 0
-            (first + GROUP) y.new }
+        ensures { let p = params lanes.now.set in let t = self.now in
+            AreSixteen (fors_tree p sk_seed.now lanes.now.pk_seed.now t.idx_tree t.idx_leaf t.tree_no) p.n 0 first result }
     {
         let set = lanes.set;
         let next = first + GROUP as u32;
-        let x_adrs = self.lane_adrs(set, AdrsType::ForsPrf, 0, first);
-        let y_adrs = self.lane_adrs(set, AdrsType::ForsPrf, 0, next);
-        lanes.prf_two(sk_seed, &x_adrs, &y_adrs, x, y);
-        let x_adrs = self.lane_adrs(set, AdrsType::ForsTree, 0, first);
-        let y_adrs = self.lane_adrs(set, AdrsType::ForsTree, 0, next);
-        lanes.f_two(&x_adrs, &y_adrs, x, y);
+        let adrs = [
+            self.lane_adrs(set, AdrsType::ForsPrf, 0, first),
+            self.lane_adrs(set, AdrsType::ForsPrf, 0, next),
+        ];
+        let mut leaves = lanes.prf(sk_seed, &adrs);
+        let adrs = [
+            self.lane_adrs(set, AdrsType::ForsTree, 0, first),
+            self.lane_adrs(set, AdrsType::ForsTree, 0, next),
+        ];
+        lanes.f(&adrs, &mut leaves);
+        leaves
     }
 
     /// The nodes of height `z` from index `i` on: H of their children, which are the sixteen nodes of the two.
@@ -98,71 +99,64 @@ impl ForsPlace {
             left.now right.now result }
     {
         let adrs = self.lane_adrs(lanes.set, AdrsType::ForsTree, z, i);
-        lanes.h(&adrs, &even_lanes(left, right), &odd_lanes(left, right))
+        let mut nodes = [even_lanes(left, right)];
+        lanes.h(&[adrs], &mut nodes, &[odd_lanes(left, right)]);
+        let [nodes] = nodes;
+        nodes
     }
 
-    /// Writes sixteen nodes of height `z` from index `i` on: the first eight into `x`, the others into `y`. Their
-    /// children are the sixteen nodes that these two had, and those of `c` and `d`.
-    fn join_two(
+    /// Puts sixteen nodes of height `z` from index `i` on in place of their first sixteen children. The other sixteen
+    /// are those of `next`.
+    #[inline(never)]
+    fn join_sixteen(
         &self,
         lanes: &SeededLanes,
         z: u32,
         i: u32,
-        x: &mut LaneNodes,
-        y: &mut LaneNodes,
-        c: &LaneNodes,
-        d: &LaneNodes,
+        nodes: &mut [LaneNodes; 2],
+        next: &[LaneNodes; 2],
     )
         requires tree { self.now.tree_no < MOST_TREES }
         requires height { z ≤ (params lanes.now.set).a }
         requires within { i + 2 * GROUP ≤ 2 ^ ((params lanes.now.set).a - z) }
-        ensures x { let p = params lanes.now.set in let t = self.now in
+        ensures first { let p = params lanes.now.set in let t = self.now in
             AreJoins ((fors_tree p [] lanes.now.pk_seed.now t.idx_tree t.idx_leaf t.tree_no).join z) p.n i
-            x.old y.old x.new }
-        ensures y { let p = params lanes.now.set in let t = self.now in
+            (group nodes.old 0) (group nodes.old 1) (group nodes.new 0) }
+        ensures second { let p = params lanes.now.set in let t = self.now in
             AreJoins ((fors_tree p [] lanes.now.pk_seed.now t.idx_tree t.idx_leaf t.tree_no).join z) p.n (i + GROUP)
-            c.now d.now y.new }
+            (group next.now 0) (group next.now 1) (group nodes.new 1) }
     {
-        let x_adrs = self.lane_adrs(lanes.set, AdrsType::ForsTree, z, i);
-        let y_adrs = self.lane_adrs(lanes.set, AdrsType::ForsTree, z, i + GROUP as u32);
-        let x_right = odd_lanes(x, y);
-        let y_right = odd_lanes(c, d);
-        *x = even_lanes(x, y);
-        *y = even_lanes(c, d);
-        lanes.h_two(&x_adrs, &y_adrs, x, y, &x_right, &y_right);
+        let adrs = [
+            self.lane_adrs(lanes.set, AdrsType::ForsTree, z, i),
+            self.lane_adrs(lanes.set, AdrsType::ForsTree, z, i + GROUP as u32),
+        ];
+        let right = [
+            odd_lanes(&nodes[0], &nodes[1]),
+            odd_lanes(&next[0], &next[1]),
+        ];
+        *nodes = [
+            even_lanes(&nodes[0], &nodes[1]),
+            even_lanes(&next[0], &next[1]),
+        ];
+        lanes.h(&adrs, nodes, &right);
     }
 
-    /// Writes the sixteen nodes of height `z` from index `i` on, as fors_node makes each (Algorithm 15): the first
-    /// eight into `x`, the others into `y`.
-    fn put_sixteen_nodes(
-        &self,
-        lanes: &SeededLanes,
-        sk_seed: &[u8],
-        z: u32,
-        i: u32,
-        x: &mut LaneNodes,
-        y: &mut LaneNodes,
-    )
+    /// Sixteen nodes of height `z` from index `i` on, in two groups, as fors_node makes each (Algorithm 15).
+    fn sixteen_nodes(&self, lanes: &SeededLanes, sk_seed: &[u8], z: u32, i: u32) -> [LaneNodes; 2]
         requires sk_seed { length sk_seed.now ≡ (params lanes.now.set).n }
         requires tree { self.now.tree_no < MOST_TREES }
         requires height { z ≤ (params lanes.now.set).a }
         requires within { i + 2 * GROUP ≤ 2 ^ ((params lanes.now.set).a - z) }
-        ensures x { let p = params lanes.now.set in let t = self.now in
-            AreNodes (fors_tree p sk_seed.now lanes.now.pk_seed.now t.idx_tree t.idx_leaf t.tree_no) p.n z i x.new }
-        ensures y { let p = params lanes.now.set in let t = self.now in
-            AreNodes (fors_tree p sk_seed.now lanes.now.pk_seed.now t.idx_tree t.idx_leaf t.tree_no) p.n z
-            (i + GROUP) y.new }
+        ensures { let p = params lanes.now.set in let t = self.now in
+            AreSixteen (fors_tree p sk_seed.now lanes.now.pk_seed.now t.idx_tree t.idx_leaf t.tree_no) p.n z i result }
     {
         if z == 0 {
-            self.put_leaves(lanes, sk_seed, i, x, y);
-        } else {
-            let mut c = node_lanes(&[]);
-            let mut d = node_lanes(&[]);
-            let next = 2 * i + 2 * GROUP as u32;
-            self.put_sixteen_nodes(lanes, sk_seed, z - 1, 2 * i, x, y);
-            self.put_sixteen_nodes(lanes, sk_seed, z - 1, next, &mut c, &mut d);
-            self.join_two(lanes, z, i, x, y, &c, &d);
+            return self.sixteen_leaves(lanes, sk_seed, i);
         }
+        let mut nodes = self.sixteen_nodes(lanes, sk_seed, z - 1, 2 * i);
+        let next = self.sixteen_nodes(lanes, sk_seed, z - 1, 2 * i + 2 * GROUP as u32);
+        self.join_sixteen(lanes, z, i, &mut nodes, &next);
+        nodes
     }
 
     /// The eight nodes of height `z` from index `i` on.
@@ -177,10 +171,8 @@ impl ForsPlace {
         if z == 0 {
             self.leaf_lanes(lanes, sk_seed, i)
         } else {
-            let mut x = node_lanes(&[]);
-            let mut y = node_lanes(&[]);
-            self.put_sixteen_nodes(lanes, sk_seed, z - 1, 2 * i, &mut x, &mut y);
-            self.join_lanes(lanes, z, i, &x, &y)
+            let [left, right] = self.sixteen_nodes(lanes, sk_seed, z - 1, 2 * i);
+            self.join_lanes(lanes, z, i, &left, &right)
         }
     }
 
@@ -243,11 +235,11 @@ impl ForsPlace {
             below.now result.items }
     {
         let set = lanes.set;
-        let left = children(set, below, first, 0, count);
-        let right = children(set, below, first, 1, count);
-        let adrs = self.lane_adrs(set, AdrsType::ForsTree, z, first);
-        let nodes = lanes.h(&adrs, &left, &right);
-        first_nodes(&nodes, set.n(), count)
+        let mut nodes = [children(set, below, first, 0, count)];
+        let right = [children(set, below, first, 1, count)];
+        let adrs = [self.lane_adrs(set, AdrsType::ForsTree, z, first)];
+        lanes.h(&adrs, &mut nodes, &right);
+        first_nodes(&nodes[0], set.n(), count)
     }
 }
 

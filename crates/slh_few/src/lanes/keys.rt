@@ -3,33 +3,47 @@ ghost use Rattle.std.specs.Prelude.{◌≡◌, ℕ, ◌+◌, ◌-◌, ◌*◌, �
 ghost use Rattle.slh_params.specs.AdrsType.{type_number};
 ghost use Rattle.slh_params.specs.Params.{len};
 ghost use Rattle.slh_params.specs.ParamSet.{params};
-ghost use Rattle.slh_lanes.specs.Lanes.{HasAddress};
+ghost use Rattle.slh_lanes.specs.Lanes.{HasAddress, group};
 ghost use Rattle.slh_few.specs.HashContext.{LanesUnder};
 ghost use Rattle.slh_few.specs.Chunks.{end_to_end};
 ghost use Rattle.slh_few.specs.Wots.{wots_address, wots_pk, wots_sig};
 ghost use Rattle.slh_few.specs.Xmss.{AreKeysFrom, place, xmss_sig, xmss_sig_len};
 
 use crate::context::SigningContext;
-use crate::lanes::two_chains::Stored;
-use crate::lanes::two_chains_signing::SignedValues;
+use crate::lanes::key_chains::{SignedValues, Stored};
 use crate::nodes::first_nodes;
 use crate::place::Place;
 use crate::wots::wots_adrs;
 use crate::wots_digits::digits_of;
 use slh_lanes::{
-    GROUP, LaneAdrs, LaneStream, SeededLanes, adrs_lanes, consecutive, node_lanes, set_pairs,
+    GROUP, LaneAdrs, LaneStream, SeededLanes, Words, adrs_lanes, consecutive, set_pairs,
 };
 use slh_params::{AdrsType, Node};
 use slh_tree::{Leaves, Tree, path};
+use std::simd::prelude::*;
 
 /// The addresses of chain `c` of eight keys, of which the first is at this place.
-pub(crate) fn key_adrs(at: Place, kind: AdrsType, c: u32) -> LaneAdrs
+fn chain_adrs(at: Place, kind: AdrsType, c: u32) -> LaneAdrs
     requires { at.pair + GROUP ≤ 2 ^ 32 }
     ensures { (j : ℕ) → j < GROUP
         → HasAddress result j (wots_address (place at.layer at.tree (at.pair + j)) (type_number kind) c 0) }
 {
     let mut adrs = adrs_lanes(&wots_adrs(at, kind, c, 0));
     set_pairs(&mut adrs, consecutive(at.pair));
+    adrs
+}
+
+/// The same of `G` chains from `c` on: those of chain `c + g` in group `g`.
+pub(crate) fn key_adrs<const G: usize>(at: Place, kind: AdrsType, c: u32) -> [LaneAdrs; G]
+    requires pairs { at.pair + GROUP ≤ 2 ^ 32 }
+    requires chains { c + G ≤ 2 ^ 32 }
+    ensures { (g j : ℕ) → g < G → j < GROUP → HasAddress (group result g) j
+        (wots_address (place at.layer at.tree (at.pair + j)) (type_number kind) (c + g) 0) }
+{
+    let mut adrs = [[Words::splat(0); 6]; G];
+    for g in 0..G {
+        adrs[g] = chain_adrs(at, kind, c + g as u32);
+    }
     adrs
 }
 
@@ -53,18 +67,16 @@ pub(crate) fn eight_keys<K: Stored>(
     ensures stored { let p = params lanes.now.set in
         out.new ≡ end_to_end (K.stored store.now p sk_seed.now lanes.now.pk_seed.now at) (len p) }
 {
-    let mut stream = LaneStream::new(lanes, &key_adrs(at, AdrsType::WotsPk, 0));
-    let mut x = node_lanes(&[]);
-    let mut y = x;
+    let mut stream = LaneStream::new(lanes, &chain_adrs(at, AdrsType::WotsPk, 0));
     let len = lanes.set.len() as u32;
     for pair in 0..len / 2 {
-        store.two_ends(lanes, sk_seed, at, 2 * pair, &mut x, &mut y, out);
+        let [x, y] = store.ends_of_two(lanes, sk_seed, at, 2 * pair, out);
         stream.absorb(&x);
         stream.absorb(&y);
     }
     if len % 2 == 1 {
-        let ends = store.ends(lanes, sk_seed, at, len - 1, out);
-        stream.absorb(&ends);
+        let [x] = store.ends_of_one(lanes, sk_seed, at, len - 1, out);
+        stream.absorb(&x);
     }
     first_nodes(&stream.finish(), lanes.set.n(), GROUP)
 }

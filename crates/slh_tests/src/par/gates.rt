@@ -37,7 +37,7 @@ pub(crate) trait Watch: Gate {
     fn gave_up(&self) -> bool;
 }
 
-/// `enter` of job 0 turns until `leave` of job 1 was called, and `enter` of job 1 until `enter` of job 0 was called:
+/// `enter` of job 0 waits for the call of `leave` for job 1, and `enter` of job 1 for the call of `enter` for job 0. So
 /// the two jobs run at the same time.
 #[derive(Drop)]
 pub(crate) struct FirstMeetsSecond {

@@ -1,21 +1,21 @@
 //! How a call of Rust is exported to C: a pointer and a length for each slice.
 use core::slice;
 
-/// The bytes of an input.
+/// The bytes of an input, or the items of a list.
 ///
 /// # Safety
 /// The caller has the duties of the header.
-pub unsafe fn input<'a>(at: *const u8, len: usize) -> &'a [u8] {
-    // Safety: the caller's duty. No bytes need no pointer.
+pub unsafe fn input<'a, T>(at: *const T, len: usize) -> &'a [T] {
+    // Safety: the caller's duty. Nothing needs no pointer.
     if len == 0 { &[] } else { unsafe { slice::from_raw_parts(at, len) } }
 }
 
-/// The bytes of an output.
+/// The bytes of an output, or the verdicts.
 ///
 /// # Safety
 /// The caller has the duties of the header.
-pub unsafe fn output<'a>(at: *mut u8, len: usize) -> &'a mut [u8] {
-    // Safety: the caller's duty. No bytes need no pointer.
+pub unsafe fn output<'a, T>(at: *mut T, len: usize) -> &'a mut [T] {
+    // Safety: the caller's duty. Nothing needs no pointer.
     if len == 0 { &mut [] } else { unsafe { slice::from_raw_parts_mut(at, len) } }
 }
 

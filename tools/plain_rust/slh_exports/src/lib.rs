@@ -1,5 +1,7 @@
 //! The calls of `slh.h` over `slh_plain`, for C and for the crate `slh`.
 //!
+//! `slh_verify_many` is in `many`.
+//!
 //! The headers state the duties of a caller: each pointer is to as many bytes as its length says, and no output shares
 //! bytes with another argument. A null pointer with the length 0 is no bytes. Unlike the released library this one
 //! clears neither the stack nor registers after a call. It has the code of one level, so `slh_level` returns 0.
@@ -8,6 +10,7 @@
 
 #[macro_use]
 mod calls;
+mod many;
 mod refusal_text;
 
 use calls::{input, output};
@@ -57,6 +60,7 @@ calls! { slh_c:
         job: number, answer: output,);
     generation::slh_keygen_join(set: number, xmss_levels: number, sk_seed: input, sk_prf: input, pk_seed: input,
         answers: input, sk: output,);
+    self_test::slh_self_test(set: number, scratch: output,);
     names::slh_refusal_name(refusal: number, name: output,);
 }
 

@@ -28,6 +28,9 @@ pub type u32x8 = Simd<u32, 8>;
 /// Sixteen words of 32 bits.
 #[allow(non_camel_case_types)]
 pub type u32x16 = Simd<u32, 16>;
+/// Two words of 64 bits.
+#[allow(non_camel_case_types)]
+pub type u64x2 = Simd<u64, 2>;
 /// Four words of 64 bits.
 #[allow(non_camel_case_types)]
 pub type u64x4 = Simd<u64, 4>;

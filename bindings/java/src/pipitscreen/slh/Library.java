@@ -33,7 +33,7 @@ final class Library {
 
     private Library() {}
 
-    /** The version of this package, as 0.13.0. */
+    /** The version of this package, as 0.14.0. */
     static String version() {
         try (InputStream in = Library.class.getResourceAsStream("VERSION")) {
             return new String(in.readAllBytes(), StandardCharsets.US_ASCII).strip();
@@ -96,7 +96,7 @@ final class Library {
     }
 
     /**
-     * Calls by name: a number is a uint32_t, a Memory a pointer and a length, a MemorySegment a pointer alone.
+     * Calls by name: a number is a uint32_t, a Long a size_t, a Memory a pointer and a length, a MemorySegment a pointer.
      * Returns the result, a uint32_t.
      */
     static int call(String name, Object... words) {
@@ -123,6 +123,9 @@ final class Library {
     private static void addWord(Object word, List<MemoryLayout> layouts, List<Object> given) {
         if (word instanceof Integer) {
             layouts.add(ValueLayout.JAVA_INT);
+            given.add(word);
+        } else if (word instanceof Long) {
+            layouts.add(ValueLayout.JAVA_LONG);
             given.add(word);
         } else if (word instanceof Memory memory) {
             layouts.addAll(List.of(ValueLayout.ADDRESS, ValueLayout.JAVA_LONG));

@@ -53,6 +53,11 @@ public final class SlhPublicKey extends SlhKey implements PublicKey {
         return "SHA256:" + Base64.getEncoder().withoutPadding().encodeToString(digest);
     }
 
+    /** The key's own bytes, for a call that reads them. */
+    byte[] held() {
+        return bytes;
+    }
+
     Memory taken() {
         return Memory.copyOf(bytes);
     }

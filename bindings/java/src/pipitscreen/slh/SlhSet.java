@@ -47,6 +47,23 @@ public enum SlhSet {
         return new NamedParameterSpec(algorithm());
     }
 
+    /**
+     * Tests the set on this machine before it is used, as when a service starts. A known key is made, and a known
+     * message is signed. PK.root and the SHA-256 of the signature have to be those that OpenSSL gave. The signature has
+     * to be valid, and invalid for another message. The test takes as long as to make a key, to sign once and to verify
+     * two times.
+     *
+     * <p>It shows nothing about other sets, keys and messages, the pre-hash forms, random bytes and later faults. It
+     * does not replace a hash of the library's file.
+     *
+     * @throws Refusal of the name SelfTestFailed, if an answer is not the known one
+     */
+    public void selfTest() {
+        try (Memory scratch = new Memory(signatureLength())) {
+            Library.done("slh_self_test", number(), scratch);
+        }
+    }
+
     /** The set of a name in any case, as "SLH-DSA-SHA2-128f". */
     static Optional<SlhSet> named(String name) {
         return Stream.of(values()).filter(it -> it.algorithm().equalsIgnoreCase(name)).findFirst();

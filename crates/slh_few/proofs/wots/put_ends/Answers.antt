@@ -1,5 +1,5 @@
 -- Each chain is run on from its digit to its end.
-use Rattle.std.proofs.Common.{ℕ, List, ◌≡◌, ◌<◌, ◌-◌, inl, inr, ap, ap₂, ◌∙◌, arith}
+use Rattle.std.proofs.Common.{ℕ, List, ◌≡◌, ◌<◌, ◌-◌, inl, inr, ap, ap₂, slice_index, ◌∙◌, arith}
 use Rattle.std.proofs.lemmas.Bool.{cases_lt}
 use Rattle.slh_params.specs.ParamSet.{params}
 use Rattle.slh_params.specs.Params.{Params, len, w}
@@ -30,6 +30,11 @@ same p pk sig m at digits left ds ls =
 pub returns : goal.returns
 returns c =
     let p = params c.args.lanes.now.set in
+    let pk = c.args.lanes.now.pk_seed.now in
+    let digits = slice_index c.digits_of-digits.result in
+    let left = slice_index c.steps_left-left.result in
+    let copied : c.copy_from_slice.new.self ≡ c.args.sig.now = c.copy_from_slice.ensures.after in
     c.run_values.ensures
-    ∙ same p c.args.lanes.now.pk_seed.now c.args.sig.now c.args.msg.now.items c.args.at _ _
+    ∙ ap (λ (xs : List ℕ). end_to_end (λ i. chain p pk c.args.at i (chunk p.n xs i) (digits i) (left i)) (len p)) copied
+    ∙ same p pk c.args.sig.now c.args.msg.now.items c.args.at digits left
     c.digits_of-digits.ensures.digits c.steps_left-left.ensures.left

@@ -1,5 +1,5 @@
 -- The buffer has room for a key of any set, which the digits fill.
-use Rattle.std.proofs.Common.{◌≡◌, ◌*◌, ◌≤◌, length, length-take-le, arith, rules, ap, sym, ◌∙◌}
+use Rattle.std.proofs.Common.{◌≡◌, ◌≤◌, length, length-take-le, arith, rules, sym, ◌∙◌}
 use Rattle.std.proofs.lemmas.Grind.{common_steps}
 use Rattle.slh_params.specs.ParamSet.{params}
 use Rattle.slh_params.specs.Params.{pk_len}

@@ -3,26 +3,14 @@ use Rattle.std.proofs.lemmas.Bool.{cases_lt}
 use Rattle.sha2.specs.Sha256.{compress}
 use Rattle.slh_lanes.proofs.eight_blocks.compress_each.Goals as goal
 
-pub lanes-preserved : goal.lanes-preserved
-lanes-preserved c =
-    let at : ℕ = c.lanes.first in (
-      λ i lt left b words. elim (cases_lt i at) [
-        | inl low ↦ c.compress_running.ensures.others i (inl low) ∙ c.lanes.invariant.0 i low left b words
-        | inr ge ↦
-            let here : at + 0 ≡ i = omega arith in
-            rw here at (c.compress_running.ensures.words 0 (omega arith)) left b words ∙ ap (λ (h : List ℕ). compress h b) (c.lanes.invariant.1 i ge)
-      ],
-      λ i ge. c.compress_running.ensures.others i (inr ge) ∙ c.lanes.invariant.1 i (omega (arith, ge)),
-    )
-
 pub returns-in-Four : goal.returns-in-Four
 returns-in-Four c j lane left b words = elim (cases_lt j 4) [
   | inl low ↦
       let at : 0 + j ≡ j = omega arith in
-      c.compress_running-in-Four-2.ensures.others j (inl low) ∙ rw at at (c.compress_running-in-Four.ensures.words j low) left b words
+      c.compress_running-in-Four.ensures.others j (inl low) ∙ rw at at (c.compress_running.ensures.words j low) left b words
   | inr ge ↦
       let at : 4 + (j - 4) ≡ j = omega arith in
-      rw at at (c.compress_running-in-Four-2.ensures.words (j - 4) (omega arith)) left b words ∙ ap (λ (h : List ℕ). compress h b) (c.compress_running-in-Four.ensures.others j (inr ge))
+      rw at at (c.compress_running-in-Four.ensures.words (j - 4) (omega arith)) left b words ∙ ap (λ (h : List ℕ). compress h b) (c.compress_running.ensures.others j (inr ge))
 ]
 
 pub returns-in-Eight : goal.returns-in-Eight

@@ -1,7 +1,19 @@
-use Rattle.std.proofs.Common.{◌≡◌, ◌+◌, inl, arith, ◌∙◌}
+use Rattle.std.proofs.Common.{◌≡◌, ℕ, ◌+◌, ◌*◌, inl, inr, arith, sym, ap, ◌∙◌}
+use Rattle.std.proofs.lemmas.Bool.{cases_lt}
+use Rattle.slh_lanes.specs.Columns.{column}
+use Rattle.slh_lanes.specs.Lanes.{group}
 use Rattle.slh_lanes.proofs.joined.join_adrs.Goals as goal
 
-pub returns-clause-x : goal.returns-clause-x
-returns-clause-x c j lane =
-    let at : 0 + j ≡ j = omega arith in
-    c.with_six.ensures.others j (inl lane) ∙ rw at at (c.with_six-first.ensures.part j lane)
+pub returns : goal.returns
+returns over c = λ g j in_batch lane.
+    let of_group = λ (k : ℕ). column j (group c.args.batch.now k) in
+    elim (cases_lt g 1) [
+      | inl low ↦
+          let e : g ≡ 0 = omega (arith, low) in
+          let at : 0 + j ≡ 8 * g + j = omega (arith, e) in
+          c.with_six.ensures.others (8 * g + j) (inl (omega (arith, lane, e))) ∙ rw at at (c.with_six-first.ensures.part j lane) ∙ ap of_group (sym e)
+      | inr ge ↦
+          let e : g ≡ 1 = omega (arith, ge, in_batch, c.requires) in
+          let at : 8 + j ≡ 8 * g + j = omega (arith, e) in
+          rw at at (c.with_six.ensures.part j lane) ∙ ap of_group (sym e)
+    ]

@@ -8,8 +8,8 @@ use Rattle.slh_few.proofs.fors_tree.ForsPlace.eight_nodes.Goals as goal
 pub overflow_mul-i : goal.overflow_mul-i
 overflow_mul-i c = omega (arith, few_nodes c.args.lanes.now.set c.args.z, c.requires.within)
 
-pub put_sixteen_nodes-requires-clause-within : goal.put_sixteen_nodes-requires-clause-within
-put_sixteen_nodes-requires-clause-within c =
+pub sixteen_nodes-requires-clause-within : goal.sixteen_nodes-requires-clause-within
+sixteen_nodes-requires-clause-within c =
     let low : 1 ≤ c.args.z = omega (arith, c.if-z-eq0.false) in
     omega (arith, twice (params c.args.lanes.now.set).a c.args.z low c.requires.height, c.requires.within)
 
@@ -28,4 +28,4 @@ returns-else-z-eq0 c =
     let tree = fors_tree p c.args.sk_seed.now c.args.lanes.now.pk_seed.now own.idx_tree own.idx_leaf own.tree_no in
     let low : 1 ≤ c.args.z = omega (arith, c.if-z-eq0.false) in
     nodes_above tree p.n c.args.z c.args.i (2 * c.args.i) _ _ c.join_lanes.result low refl
-    c.put_sixteen_nodes.ensures.x c.put_sixteen_nodes.ensures.y c.join_lanes.ensures
+    c.sixteen_nodes.ensures.0 c.sixteen_nodes.ensures.1 c.join_lanes.ensures

@@ -14,6 +14,6 @@ returns c = λ j lane.
     let pk = c.args.lanes.now.pk_seed.now in
     let at : ℕ → ℕ → Address = λ kind k. address 0 t.idx_tree kind t.idx_leaf 0 (t.tree_no * 2 ^ k + (c.args.first + j)) in
     let all : p.a - 0 ≡ p.a = omega arith in
-    let prf = subst (λ (k : ℕ). HasAddress c.lane_adrs-adrs.result j (at FORS_PRF k)) all (c.lane_adrs-adrs.ensures j lane) in
-    let f = subst (λ (k : ℕ). HasAddress c.lane_adrs-adrs-2.result j (at FORS_TREE k)) all (c.lane_adrs-adrs-2.ensures j lane) in
-    c.f.ensures j lane _ f ∙ ap (F p pk (at FORS_TREE p.a)) (c.prf-secrets.ensures j lane _ prf)
+    let prf = subst (λ (k : ℕ). HasAddress c.lane_adrs.result j (at FORS_PRF k)) all (c.lane_adrs.ensures j lane) in
+    let f = subst (λ (k : ℕ). HasAddress c.lane_adrs-adrs.result j (at FORS_TREE k)) all (c.lane_adrs-adrs.ensures j lane) in
+    c.f.ensures 0 j (omega arith) lane _ f ∙ ap (F p pk (at FORS_TREE p.a)) (c.prf-leaves.ensures 0 j (omega arith) lane _ prf)

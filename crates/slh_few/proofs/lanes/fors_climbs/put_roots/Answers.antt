@@ -2,7 +2,7 @@
 use Rattle.std.proofs.Common.{[], ◌≡◌, ℕ, ◌+◌, ◌<◌, ◌≤◌, List, arith, ap, sym, ◌∙◌}
 use Rattle.std.proofs.Math.Nat.{mul-le-mul_right}
 use Rattle.slh_params.specs.ParamSet.{params}
-use Rattle.slh_lanes.specs.Lanes.{value_at}
+use Rattle.slh_lanes.specs.Lanes.{group, value_at}
 use Rattle.slh_few.specs.Chunks.{chunk}
 use Rattle.slh_few.specs.ForsRoots.{node_given, root_given}
 use Rattle.slh_few.specs.declared.fors_tree.ForsPlace.{ForsPlace}
@@ -30,11 +30,11 @@ returns c = λ before.
     let y_is = c.new-y.ensures.first in
     let x_at = ap (λ (t : ForsPlace). t.tree_no) x_is in
     let y_at = ap (λ (t : ForsPlace). t.tree_no) y_is in
-    let x_roots : (j : ℕ) → j < x.used → value_at c.loop-z.x_nodes j c.n.result ≡ f (x.first.tree_no + j) = λ j low.
-    ap (value_at c.loop-z.x_nodes j) c.n.ensures ∙ c.loop-z.invariant.x j low
+    let x_roots : (j : ℕ) → j < x.used → value_at (group c.loop-z.nodes 0) j c.n.result ≡ f (x.first.tree_no + j) = λ j low.
+    ap (value_at (group c.loop-z.nodes 0) j) c.n.ensures ∙ c.loop-z.invariant.x j low
     ∙ (λ q. node_given p [] pk (x_is q).idx_tree (x_is q).idx_leaf indices sig (all q) (x.first.tree_no + j)) in
-    let y_roots : (j : ℕ) → j < y.used → value_at c.loop-z.y_nodes j c.n-2.result ≡ f (y.first.tree_no + j) = λ j low.
-    ap (value_at c.loop-z.y_nodes j) c.n-2.ensures ∙ c.loop-z.invariant.y j low
+    let y_roots : (j : ℕ) → j < y.used → value_at (group c.loop-z.nodes 1) j c.n-2.result ≡ f (y.first.tree_no + j) = λ j low.
+    ap (value_at (group c.loop-z.nodes 1) j) c.n-2.ensures ∙ c.loop-z.invariant.y j low
     ∙ (λ q. node_given p [] pk (y_is q).idx_tree (y_is q).idx_leaf indices sig (all q) (y.first.tree_no + j)) in
     let first = c.put_nodes.ensures f x_roots (λ i low. ap (λ (n : ℕ). chunk n c.args.out.now i) c.n.ensures ∙ before i (omega (arith, low, x_at))) in
     let both = c.put_nodes-2.ensures f y_roots (λ i low.

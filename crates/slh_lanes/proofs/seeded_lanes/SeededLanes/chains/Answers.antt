@@ -1,61 +1,44 @@
-use Rattle.std.proofs.Common.{◌≡◌, ℕ, ◌+◌, ◌-◌, List, take, inl, inr, arith, sym, ap, ◌∙◌}
-use Rattle.std.proofs.lemmas.Bool.{cases_lt}
+use Rattle.std.proofs.Common.{◌≡◌, ℕ, ◌+◌, ◌*◌, ◌<◌, List, take, arith, refl, sym, ap, ◌∙◌}
 use Rattle.sha2.specs.Sha256.{digest_bytes}
+use Rattle.slh_params.specs.Address.{Address}
 use Rattle.slh_params.specs.ParamSet.{params}
 use Rattle.slh_params.proofs.Bounds.{n_cases}
-use Rattle.slh_lanes.specs.Lanes.{HasAddress, value_at}
+use Rattle.slh_lanes.specs.Lanes.{HasAddress, group, value_at}
 use Rattle.slh_lanes.specs.Steps.{steps}
+use Rattle.slh_lanes.proofs.Batches.{done_next}
 use Rattle.slh_lanes.proofs.seeded_lanes.SeededLanes.chains.Goals as goal
 
-pub run_part-nodes-requires-clause-n : goal.run_part-nodes-requires-clause-n
-run_part-nodes-requires-clause-n c = rw c.n-n.ensures (n_cases c.args.self.now.set)
+pub run-ends-requires : goal.run-ends-requires
+run-ends-requires over c = (omega arith, (omega arith, (omega arith, (rw c.n.ensures (n_cases c.args.self.now.set), c.requires.steps))))
 
-pub run_part-low-requires-clause-n : goal.run_part-low-requires-clause-n
-run_part-low-requires-clause-n c = rw c.n-n.ensures (n_cases c.args.self.now.set)
+pub groups-init : goal.groups-init
+groups-init over c = (refl, λ i lt. absurd (omega (arith, lt)), λ i ge. refl)
 
-pub run_part-requires-clause-n : goal.run_part-requires-clause-n
-run_part-requires-clause-n c = rw c.n-n.ensures (n_cases c.args.self.now.set)
-
-pub run-requires : goal.run-requires
-run-requires c = (omega arith, (omega arith, (omega arith, (rw c.n-n.ensures (n_cases c.args.self.now.set), c.requires))))
-
-pub lanes-preserved : goal.lanes-preserved
-unfolding HasAddress value_at
-lanes-preserved c =
+pub groups-preserved : goal.groups-preserved
+groups-preserved over c =
     let lanes = c.args.self.now in
     let p = params lanes.set in
-    let at : ℕ = c.lanes.first in
-    let value = λ (l : List ℕ). take p.n (digest_bytes l 8) in (
-      λ i lt a held. elim (cases_lt i at) [
-        | inl low ↦ ap value (c.run_part-nodes.ensures.others i (inl low)) ∙ c.lanes.invariant.0 i low a held
-        | inr ge ↦
-            let here : at + 0 ≡ i = omega arith in
-            rw here at (c.run_part-nodes.ensures.run p lanes.pk_seed.now 0 a (sym c.n-n.ensures) lanes.len (omega arith) lanes.short_state) held
-            ∙ ap (λ (l : List ℕ). steps p lanes.pk_seed.now a (value l) c.args.from c.args.count) (c.lanes.invariant.1 i ge)
-      ],
-      λ i ge. c.run_part-nodes.ensures.others i (inr ge) ∙ c.lanes.invariant.1 i (omega (arith, ge)),
-    )
+    let old = c.args.x.now in
+    let after = λ (a : Address) (j : ℕ) (y : List (List ℕ)). steps p lanes.pk_seed.now a (value_at y j p.n) c.args.from c.args.count in
+    let Run : ℕ → List (List ℕ) → Type 0 = λ i y. (j : ℕ) → j < 8 → (a : Address) → HasAddress (group c.args.adrs.now i) j a
+    → value_at y j p.n ≡ after a j (group old i) in
+    let now = c.groups.invariant.2 c.groups.g (omega arith) in
+    done_next Run c.groups.g old c.groups.x c.eight_chains.result (omega arith)
+    (λ j lane a held. c.eight_chains.ensures j lane a held ∙ ap (after a j) now)
+    c.groups.invariant
 
-pub returns-in-Four : goal.returns-in-Four
+pub returns-then-is_joined : goal.returns-then-is_joined
 unfolding HasAddress value_at
-returns-in-Four c j lane a held =
+returns-then-is_joined over c = λ g j in_batch lane a held.
     let lanes = c.args.self.now in
     let p = params lanes.set in
     let pk : List ℕ = lanes.pk_seed.now in
     let value = λ (l : List ℕ). take p.n (digest_bytes l 8) in
-    elim (cases_lt j 4) [
-      | inl low ↦
-          let at : 0 + j ≡ j = omega arith in
-          ap value (c.run_part.ensures.others j (inl low))
-          ∙ rw at at (c.run_part-low.ensures.run p pk j a (sym c.n-n.ensures) lanes.len low lanes.short_state) held
-      | inr ge ↦
-          let at : 4 + (j - 4) ≡ j = omega arith in
-          rw at at (c.run_part.ensures.run p pk (j - 4) a (sym c.n-n.ensures) lanes.len (omega arith) lanes.short_state) held
-          ∙ ap (λ (l : List ℕ). steps p pk a (value l) c.args.from c.args.count) (c.run_part-low.ensures.others j (inr ge))
-    ]
+    let within : 8 * g + j < 16 = omega (arith, lane, in_batch, c.requires.few) in
+    ap value (c.split_nodes.ensures g j in_batch lane)
+    ∙ c.run-ends.ensures p pk (8 * g + j) a (sym c.n.ensures) lanes.len within lanes.short_state
+    (ap (λ (l : List ℕ). take 22 (digest_bytes l 6)) (c.join_adrs-joined.ensures g j in_batch lane) ∙ held)
+    ∙ ap (λ (l : List ℕ). steps p pk a (value l) c.args.from c.args.count) (c.join_nodes-nodes.ensures g j in_batch lane)
 
-pub returns-in-Eight : goal.returns-in-Eight
-unfolding HasAddress value_at
-returns-in-Eight c = λ j lane a held.
-    let lanes = c.args.self.now in
-    c.run.ensures (params lanes.set) lanes.pk_seed.now j a (sym c.n-n.ensures) lanes.len lane lanes.short_state held
+pub returns-after-groups : goal.returns-after-groups
+returns-after-groups over c = λ g j in_batch lane a held. c.groups.invariant.1 g (omega (arith, in_batch)) j lane a held

@@ -1,13 +1,13 @@
-use Rattle.std.proofs.Common.{◌≡◌, ℕ, ◌<◌, ◌≤◌}
+use Rattle.std.proofs.Common.{◌≡◌, ℕ, ◌<◌, List}
 use Rattle.slh_params.specs.Address.{Address}
 use Rattle.slh_params.specs.ParamSet.{params}
-use Rattle.slh_lanes.specs.Columns.{column}
-use Rattle.slh_lanes.specs.Lanes.{HasAddress, value_at}
+use Rattle.slh_lanes.specs.Lanes.{HasAddress, group, value_at}
 use Rattle.slh_lanes.specs.Steps.{steps}
+use Rattle.slh_lanes.proofs.Batches.{Done}
 use Rattle.slh_lanes.proofs.seeded_lanes.SeededLanes.chains.Given as goal
 
-abbrev pub invariant-lanes : goal.invariant-lanes
-invariant-lanes l =
-    ((i : ℕ) → i < l.first → (a : Address) → HasAddress l.adrs i a
-    → let p = params l.self.set in value_at l.nodes i p.n ≡ steps p l.self.pk_seed.now a (value_at l.x i p.n) l.from l.count)
-    × ((i : ℕ) → l.first ≤ i → column i l.nodes ≡ column i l.x)
+abbrev pub invariant-groups : goal.invariant-groups
+invariant-groups over l =
+    Done (λ (i : ℕ) (y : List (List ℕ)). (j : ℕ) → j < 8 → (a : Address) → HasAddress (group l.adrs i) j a
+    → let p = params l.self.set in
+    value_at y j p.n ≡ steps p l.self.pk_seed.now a (value_at (group l.initial.x i) j p.n) l.from l.count) l.g l.initial.x l.x

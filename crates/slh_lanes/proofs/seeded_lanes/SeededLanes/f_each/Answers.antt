@@ -1,34 +1,39 @@
-use Rattle.std.proofs.Common.{ℕ, ◌≤◌, List, length, take, arith, ap, ap₂, ◌∙◌, sym}
-use Rattle.std.proofs.lemmas.List.{length-take-le}
-use Rattle.sha2.specs.Sha256.{compress, digest_bytes}
-use Rattle.slh_params.specs.Params.{Params}
+use Rattle.std.proofs.Common.{◌≡◌, ℕ, ◌<◌, List, slice_index, arith, refl, ap, ◌∙◌}
+use Rattle.slh_params.specs.Address.{Address}
 use Rattle.slh_params.specs.ParamSet.{params}
-use Rattle.slh_params.proofs.Bounds.{n_cases, n_high}
+use Rattle.slh_params.proofs.Bounds.{n_cases}
 use Rattle.slh_hash.specs.Hash.{F, tweaked_hash}
 use Rattle.slh_hash.specs.HashFunctions.{SHA_256}
-use Rattle.slh_lanes.specs.Block.{second_block}
-use Rattle.slh_lanes.specs.Columns.{column}
-use Rattle.slh_lanes.specs.Lanes.{HasAddress, value_at}
-use Rattle.slh_lanes.proofs.Tweaked.{tweaked_is}
-use Rattle.slh_lanes.proofs.WordBytes.{length-digest_bytes}
+use Rattle.slh_lanes.specs.Lanes.{HasAddress, group, value_at}
+use Rattle.slh_lanes.proofs.Batches.{done_next}
 use Rattle.slh_lanes.proofs.seeded_lanes.SeededLanes.f_each.Goals as goal
 
-pub second_block-requires : goal.second_block-requires
-second_block-requires c = (omega arith, (omega arith, (omega arith, rw c.n.ensures (n_cases c.args.self.now.set))))
+pub digests_of_two-requires : goal.digests_of_two-requires
+digests_of_two-requires over c =
+    (omega (arith, c.requires.few), (omega (arith, c.requires.few), (c.is_joined.ensures c.if-is_joined.true, rw c.n.ensures (n_cases c.args.self.now.set))))
 
-pub returns : goal.returns
-unfolding F HasAddress value_at
-returns c = λ j lane left a held.
-    let p : Params = params c.args.self.now.set in
-    let pk : List ℕ = c.args.self.now.pk_seed.now in
-    let bytes : List ℕ = digest_bytes (column j c.args.x.now) 8 in
-    let high : p.n ≤ 32 = n_high c.args.self.now.set in
-    let x : List ℕ = take c.n.result bytes in
-    let most : c.n.result ≤ 32 = omega (arith, c.n.ensures, high) in
-    let long_x = length-take-le c.n.result bytes (omega (arith, length-digest_bytes (column j c.args.x.now) 8, most)) in
-    let lx : length x ≤ 32 = omega (arith, long_x, most) in
-    let state = c.splat_all-state.ensures j lane ∙ c.args.self.now.short_state in
-    let block = ap (λ (l : List ℕ). second_block l x) held in
-    ap (λ (h : List ℕ). take p.n (digest_bytes h 8)) (c.compress_each.ensures j lane left _ (c.second_block.ensures.words j lane) ∙ ap₂ compress state block)
-    ∙ sym (tweaked_is p pk a x c.args.self.now.len high lx)
-    ∙ ap (λ (k : ℕ). tweaked_hash SHA_256 p pk a (value_at c.args.x.now j k)) c.n.ensures
+pub groups-init : goal.groups-init
+groups-init over c = (refl, λ i lt. absurd (omega (arith, lt)), λ i ge. refl)
+
+pub groups-preserved : goal.groups-preserved
+groups-preserved over c =
+    let lanes = c.args.self.now in
+    let p = params lanes.set in
+    let old = c.args.x.now in
+    let Hashed : ℕ → List (List ℕ) → Type 0 = λ i y. (j : ℕ) → j < 8 → c.args.step < slice_index (group c.args.counts.now i) j → (a : Address)
+    → HasAddress (group c.args.adrs.now i) j a → value_at y j p.n ≡ F p lanes.pk_seed.now a (value_at (group old i) j p.n) in
+    let now = c.groups.invariant.2 c.groups.g (omega arith) in
+    done_next Hashed c.groups.g old c.groups.x c.f_of_group.result (omega arith)
+    (λ j lane left a held.
+    c.f_of_group.ensures j lane left a held ∙ ap (λ (y : List (List ℕ)). F p lanes.pk_seed.now a (value_at y j p.n)) now)
+    c.groups.invariant
+
+pub returns-then-is_joined : goal.returns-then-is_joined
+unfolding F
+returns-then-is_joined over c = λ g j in_batch lane left a held.
+    let lanes = c.args.self.now in
+    c.digests_of_two.ensures g j in_batch lane a held
+    ∙ ap (λ (k : ℕ). tweaked_hash SHA_256 (params lanes.set) lanes.pk_seed.now a (value_at (group c.args.x.now g) j k)) c.n.ensures
+
+pub returns-after-groups : goal.returns-after-groups
+returns-after-groups over c = λ g j in_batch lane left a held. c.groups.invariant.1 g (omega (arith, in_batch)) j lane left a held

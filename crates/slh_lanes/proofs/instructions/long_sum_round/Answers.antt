@@ -1,0 +1,5 @@
+use Rattle.std.proofs.Common.{arith}
+use Rattle.slh_lanes.proofs.instructions.long_sum_round.Goals as goal
+
+pub returns : goal.returns
+returns c = c.round.ensures 0 (omega arith)

@@ -1,0 +1,81 @@
+/*
+ * Compares four functions of slh_lanes::instructions as they are proved (model_) with what the rules of tools/ make of
+ * them (rule_): on random words, on words such as 0 and the highest bit, on single bits, on a mixture, and on each input
+ * that differs in one bit from zeros or from ones. Usage: sha_instructions TRIES SEED.
+ */
+#include <stdint.h>
+#include <stdio.h>
+#include <stdlib.h>
+#include <string.h>
+
+void model_four_rounds(void *to, const void *state, const void *sums);
+void rule_four_rounds(void *to, const void *state, const void *sums);
+void model_two_rounds(void *to, const void *state, const void *sums);
+void rule_two_rounds(void *to, const void *state, const void *sums);
+void model_next_words(void *to, const void *w0, const void *w1, const void *w2, const void *w3);
+void rule_next_words(void *to, const void *w0, const void *w1, const void *w2, const void *w3);
+void model_next_pair(void *to, const void *w0, const void *w2, const void *w9, const void *w14);
+void rule_next_pair(void *to, const void *w0, const void *w2, const void *w9, const void *w14);
+
+/* Bytes of a vector, and of the longest input and result. */
+enum { VECTOR = 16, INPUT = 5 * VECTOR, RESULT = 4 * VECTOR, KINDS = 4 };
+static const uint64_t corners[] = {0, 1, 0x7fffffff7fffffff, 0x8000000080000000, UINT64_MAX, 0x5555555555555555,
+                                   0x8000000000000000, 0xfffffffffffffffe};
+static long passed, failed;
+static uint64_t drawn;
+
+/* SplitMix64. */
+static uint64_t draw(void) {
+    uint64_t z = drawn += 0x9e3779b97f4a7c15;
+    z = (z ^ z >> 30) * 0xbf58476d1ce4e5b9;
+    z = (z ^ z >> 27) * 0x94d049bb133111eb;
+    return z ^ z >> 31;
+}
+
+static uint64_t word_of_kind(int kind) {
+    uint64_t it = draw();
+    if (kind == 3) kind = it >> 60 & 3 ? 1 : 0;
+    return kind == 0 ? it : kind == 1 ? corners[it & 7] : (uint64_t)1 << (it & 63);
+}
+
+static void compare(const unsigned char *model, const unsigned char *rule, size_t len) {
+    memcmp(model, rule, len) == 0 ? passed++ : failed++;
+}
+
+static void compare_all(const unsigned char *it) {
+    unsigned char model[RESULT], rule[RESULT];
+    model_four_rounds(model, it, it + 2 * VECTOR);
+    rule_four_rounds(rule, it, it + 2 * VECTOR);
+    compare(model, rule, 2 * VECTOR);
+    model_two_rounds(model, it, it + 4 * VECTOR);
+    rule_two_rounds(rule, it, it + 4 * VECTOR);
+    compare(model, rule, 4 * VECTOR);
+    model_next_words(model, it, it + VECTOR, it + 2 * VECTOR, it + 3 * VECTOR);
+    rule_next_words(rule, it, it + VECTOR, it + 2 * VECTOR, it + 3 * VECTOR);
+    compare(model, rule, VECTOR);
+    model_next_pair(model, it, it + VECTOR, it + 2 * VECTOR, it + 3 * VECTOR);
+    rule_next_pair(rule, it, it + VECTOR, it + 2 * VECTOR, it + 3 * VECTOR);
+    compare(model, rule, VECTOR);
+}
+
+int main(int count, char **words) {
+    unsigned char it[INPUT];
+    if (count != 3) return 2;
+    long tries = atol(words[1]);
+    drawn = strtoull(words[2], NULL, 10);
+    for (long i = 0; i < tries; i++) {
+        for (int k = 0; k < INPUT; k += 8) {
+            uint64_t word = word_of_kind((int)(i % KINDS));
+            memcpy(it + k, &word, sizeof word);
+        }
+        compare_all(it);
+    }
+    for (int bit = 0; bit < 8 * INPUT; bit++)
+        for (int ones = 0; ones < 2; ones++) {
+            memset(it, ones ? 0xff : 0, sizeof it);
+            it[bit / 8] ^= (unsigned char)(1 << bit % 8);
+            compare_all(it);
+        }
+    printf("%ld passed, %ld failed\n", passed, failed);
+    return failed != 0;
+}
