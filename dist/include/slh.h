@@ -5,20 +5,24 @@
  *
  *   slh_keygen, slh_public            to make a secret key, and to give away its public key
  *   slh_check                         to check a secret key that comes from elsewhere, once
- *   slh_sign, slh_verify              to sign and verify a message in memory
+ *   slh_self_test                     to test key generation, signing and verifying by known answers
+ *   slh_sign_twice, slh_hash_sign_digest_twice, slh_hash_sign_twice
+ *                                     to sign two times and compare, as you should: one fault can cost the key
+ *   slh_sign, slh_verify              to sign once, and to verify, a message in memory
  *   slh_hash_sign_digest, slh_hash_verify_digest
  *                                     to sign and verify a message that is read in pieces: you compute its digest
  *   slh_hash_sign, slh_hash_verify    to sign and verify the digest of a message in memory, which these compute
  *   slh_verify_front, slh_verify_hashed
  *                                     to verify in the pure form a message that you hash in pieces
- *   slh_sign_twice, slh_hash_sign_digest_twice, slh_hash_sign_twice
- *                                     to sign two times and compare, if memory or the processor may fail
- *   slh_sign_jobs, slh_sign_start, slh_answer_place, slh_sign_job, slh_sign_join
+ *   slh_verify_many                   to verify many signatures in one call, in less time
+ *   slh_verify_hardened, slh_hash_verify_digest_hardened
+ *                                     to verify in a boot loader, on a machine that an attacker may disturb
+ *   slh_sign_jobs, slh_sign_start, slh_hash_sign_start, slh_answer_place, slh_sign_job, slh_sign_join
  *                                     to compute one signature by threads or processes of your own
  *   slh_keygen_jobs, slh_keygen_job, slh_keygen_join
  *                                     to compute one key by them
  *   slh_erase                         to overwrite seeds, keys and answers in your buffers
- *   slh_level                         to ask for the x86-64 level of the code that runs
+ *   slh_level                         to ask for the processor's level whose code runs
  *   slh_lengths, slh_refusal_name, slh_refusal_text, slh_version
  *                                     lengths by a set's number, the name of a refusal and a sentence for it, the
  *                                     library's version
@@ -32,7 +36,7 @@
  *   for an output also written, until the call returns. It may be null if the number is 0. No number is above
  *   PTRDIFF_MAX.
  * - A pointer to one number (slh_lengths, slh_sign_jobs, slh_answer_place, slh_keygen_jobs) is not null, and is aligned
- *   as its type.
+ *   as its type. So are the arrays of slh_verify_many, whose lengths count elements. They may be null if these are 0.
  * - An output overlaps no other argument, and nothing else writes to an argument while the call runs. scratch is an
  *   output, too.
  * - Seeds and randomizers are n fresh bytes from a source that is fit for keys: this library draws none. A randomizer
@@ -59,11 +63,12 @@
  * The seeds are SK.seed, SK.prf and PK.seed, in this order. A digest or a hash takes the place of the message. An
  * output stands behind a signature.
  *
+ * A call returns SLH_DONE (0), SLH_INVALID (30, only slh_check and the verify calls), or a refusal's number. The
+ * exceptions are slh_version, slh_level, slh_erase, slh_refusal_text, and the two hardened calls, which return
+ * SLH_HARDENED_VALID or SLH_HARDENED_INVALID. The other calls check their arguments in this order, and return the first
+ * number that applies:
  *
- * Each call returns SLH_DONE (0), SLH_INVALID (30, only slh_check and the verify calls), or a refusal's number.
- * Exceptions are slh_version, slh_level, slh_erase and slh_refusal_text. Calls check their arguments in this order, and
- * return the first number that applies:
- *
+ *   SLH_OLD_PROCESSOR          the processor is below x86-64-v2, and the library has several levels (slh_level)
  *   SLH_NO_SUCH_REFUSAL        slh_refusal_name alone: the number is not a result's
  *   SLH_NO_SUCH_SET            the number is not a set's
  *   SLH_NO_SUCH_FUNCTION       the number is not a pre-hash function's
@@ -81,9 +86,11 @@
  *   SLH_ANSWERS_DISAGREE       the answers don't fit together
  *   SLH_CONTEXT_TOO_LONG       signing under a context of over 255 bytes
  *   SLH_FAULT                  two computations of one signature differ (the calls whose names end in _twice)
+ *   SLH_SELF_TEST_FAILED       slh_self_test alone: an answer is not the known one
  *
- * An output is written if SLH_DONE is returned. For every other number it is unchanged; only scratch is zeros after
- * SLH_FAULT. Test for SLH_DONE.
+ * An output is written if SLH_DONE is returned. For every other number it is unchanged, with three exceptions: scratch
+ * is zeros after SLH_FAULT, and may have a signature after SLH_SELF_TEST_FAILED; slh_verify_many writes its verdicts
+ * also if it returns another number. Test for SLH_DONE.
  */
 #ifndef SLH_H
 #define SLH_H
@@ -151,6 +158,17 @@ SLH_MUST_USE SLH_API
 uint32_t slh_check(uint32_t set, const uint8_t *sk, size_t sk_len);
 
 /*
+ * To test a set on this machine before it is used, as when a service starts: generates a known key, signs a known
+ * message, and compares PK.root and the SHA-256 of the signature with the answers of OpenSSL. The signature has to be
+ * valid, and invalid for another message. scratch has as many bytes as a signature of the set, and gets this one. The
+ * test takes as long as slh_keygen, slh_sign and two slh_verify.
+ * Returns: SLH_DONE if all answers are the known ones, SLH_SELF_TEST_FAILED if one is not; SLH_NO_SUCH_SET,
+ * SLH_BAD_OUTPUT_LENGTH (scratch).
+ */
+SLH_MUST_USE SLH_API
+uint32_t slh_self_test(uint32_t set, uint8_t *scratch, size_t scratch_len);
+
+/*
  * To sign a message in memory, in the pure form (Algorithm 22). sk has 4n bytes, the context at most
  * 255 (most use none), the randomizer n fresh random bytes or none, and sig as many as a signature of the set.
  * Returns: SLH_DONE; SLH_NO_SUCH_SET, SLH_BAD_LENGTH, SLH_BAD_RANDOMIZER_LENGTH, SLH_BAD_OUTPUT_LENGTH,
@@ -185,6 +203,34 @@ uint32_t slh_hash_sign(uint32_t set, uint32_t function, const uint8_t *sk, size_
                        size_t randomizer_len, uint8_t *sig, size_t sig_len);
 
 /*
+ * An item of slh_verify_many: a public key, a message, a context and a signature, each with its length in bytes. The
+ * lengths have 64 bits and the struct 64 bytes on each machine that the library is compiled for.
+ */
+typedef struct slh_signed {
+    const uint8_t *pk;
+    uint64_t pk_len;
+    const uint8_t *msg;
+    uint64_t msg_len;
+    const uint8_t *ctx;
+    uint64_t ctx_len;
+    const uint8_t *sig;
+    uint64_t sig_len;
+} slh_signed;
+
+/*
+ * To verify many signatures of one parameter set, any number in one call, in the pure form: each item has its own key,
+ * message, context and signature. Eight signatures are hashed side by side, in the SIMD lanes of the processor, so that
+ * this takes less time than a call of slh_verify for each. Writes to verdicts[i] what slh_verify returns for items[i]:
+ * SLH_DONE, SLH_INVALID or SLH_BAD_LENGTH. items_len and verdicts_len are equal. If the call is refused, each verdict
+ * is the number of the refusal. So no verdict is SLH_DONE unless its signature is valid.
+ * Returns: SLH_DONE if all signatures are valid, and else the first verdict that is not SLH_DONE; SLH_NO_SUCH_SET,
+ * SLH_BAD_OUTPUT_LENGTH.
+ */
+SLH_MUST_USE SLH_API
+uint32_t slh_verify_many(uint32_t set, const slh_signed *items, size_t items_len, uint32_t *verdicts,
+                         size_t verdicts_len);
+
+/*
  * To verify in the pure form a message that you hash in pieces, as by OpenSSL or a device. The signature has to be
  * known first. This writes the front, the bytes that are hashed before the message (section 11.2): R, PK.seed, PK.root,
  * a zero byte, the length of the context as one byte, and the context. So front has 3n + 2 + ctx_len bytes, at most
@@ -213,9 +259,10 @@ uint32_t slh_verify_hashed(uint32_t set, const uint8_t *pk, size_t pk_len, const
 
 /*
  * To sign as slh_sign does, and to find a computation that went wrong: signs two times into the two halves of scratch,
- * compares all bytes, and copies the signature to sig only if both are equal. scratch has 2 * sig_len bytes, and is
- * zeros after SLH_DONE and SLH_FAULT. SLH_FAULT means that the two signatures differ: memory or the processor failed.
- * Both are overwritten then. This takes twice the time of slh_sign.
+ * compares all bytes, and writes the signature to sig only if both are equal. Then it compares the bytes in sig with
+ * the second signature, and puts back the bytes that sig had if they differ. scratch has 2 * sig_len bytes, and is
+ * zeros after SLH_DONE and SLH_FAULT. SLH_FAULT means that bytes differ: memory or the processor failed. No signature
+ * is left then. This takes twice the time of slh_sign.
  * Returns: SLH_DONE; SLH_NO_SUCH_SET, SLH_BAD_LENGTH, SLH_BAD_RANDOMIZER_LENGTH, SLH_BAD_OUTPUT_LENGTH (also for
  * scratch), SLH_CONTEXT_TOO_LONG, SLH_FAULT.
  */
@@ -268,8 +315,10 @@ void slh_erase(void *bytes, size_t n);
 
 /*
  * To ask which code runs: 2, 3 or 4 for that of x86-64-v2, x86-64-v3 or x86-64-v4, the best level that processor and
- * system have. 0 if the library has only one level: on ARM, and in libslh-v2.a, libslh-v3.a and libslh-v4.a. All give
- * equal bytes.
+ * system have. On Linux on 64-bit ARM 2 for NEON, 3 for SHA-256's instructions, and 4 if SHA-512's are there, too. All
+ * give equal bytes. 0 on a processor below x86-64-v2: there this library has no code, and its calls return
+ * SLH_OLD_PROCESSOR. Also 0 if the library has only one level: on other machines, and in libslh-v2.a, libslh-v3.a and
+ * libslh-v4.a. These return no SLH_OLD_PROCESSOR.
  */
 SLH_MUST_USE SLH_API
 uint32_t slh_level(void);

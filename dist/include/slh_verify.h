@@ -6,11 +6,15 @@
  *   slh_verify               a whole message in memory
  *   slh_hash_verify_digest   an image that is read in pieces: hash it yourself, and hand in the digest
  *   slh_hash_verify          a message in memory that was signed by its digest
+ *   slh_verify_hardened, slh_hash_verify_digest_hardened
+ *                            the first two for boot loaders, on a machine that an attacker may disturb
+ *   slh_version              the version of the library
  *
- * A signature is valid where one of them returns SLH_DONE, and nowhere else. Test for SLH_DONE. The hardened calls, for
- * boot loaders, return other numbers, which SLH_IS_VALID tests:
+ * A signature is valid only if one of the first three returns SLH_DONE:
  *
  *   if (slh_verify(SLH_DSA_SHA2_128F, pk, sizeof pk, msg, msg_len, NULL, 0, sig, sig_len) != SLH_DONE) return reject();
+ *
+ * The hardened calls return other numbers, which SLH_IS_VALID tests.
  *
  * Duties of the caller, which nothing checks: the number of bytes, at most PTRDIFF_MAX, follows each pointer. The
  * pointer points to that many bytes. They may be read until the call returns, and nothing else writes to them. If the
@@ -32,10 +36,10 @@
 
 /* The version of this header: three numbers, the number that slh_version returns for it, and the text. */
 #define SLH_VERSION_MAJOR 0
-#define SLH_VERSION_MINOR 13
+#define SLH_VERSION_MINOR 14
 #define SLH_VERSION_PATCH 0
 #define SLH_VERSION_NUMBER (1000000 * SLH_VERSION_MAJOR + 1000 * SLH_VERSION_MINOR + SLH_VERSION_PATCH)
-#define SLH_VERSION "0.13.0"
+#define SLH_VERSION "0.14.0"
 
 /* Marks each call whose result has to be checked: compilers that can do so warn if it is ignored. */
 #if defined(__cplusplus) && __cplusplus >= 201703L
@@ -85,7 +89,8 @@ enum slh_function {
  * The results of the calls of this header and of slh.h. No call returns 1. OpenSSL and BoringSSL return 1 for a valid
  * signature: if SLH_INVALID were 1, their test `== 1` would accept exactly the forgeries. Only the portable C returns
  * SLH_NO_MEMORY (docs/MACHINES.md): malloc refused the memory of the call, the arguments do not fit into the device's
- * memory, or another call uses it. This is checked first, and nothing is written.
+ * memory, or another call uses it. This is checked first, and nothing is written. So is SLH_OLD_PROCESSOR, which only
+ * the library of several x86-64 levels returns: the processor is below x86-64-v2 (slh.h, slh_level).
  */
 enum slh_result {
     SLH_DONE = 0,
@@ -106,7 +111,9 @@ enum slh_result {
     SLH_BAD_START = 28,
     SLH_INVALID = 30,
     SLH_NO_MEMORY = 37,
-    SLH_FAULT = 38
+    SLH_FAULT = 38,
+    SLH_OLD_PROCESSOR = 39,
+    SLH_SELF_TEST_FAILED = 40
 };
 
 /* n of each set: the length of a hash value, of a seed and of a randomizer in bytes. */
@@ -137,7 +144,7 @@ enum slh_result {
 #define SLH_MAX_SIGNATURE 49856
 
 /*
- * The bytes of memory that the portable slh_verify.c needs for a set (docs/MACHINES.md). They are for its signature, a
+ * The bytes of memory that the portable slh_verify.c needs for a set (docs/DEVICES.md). They are for its signature, a
  * context, a digest or a message of 64 bytes, the stack and the constants of the proved code. Add the further bytes of
  * a longer message.
  */
@@ -195,10 +202,10 @@ uint32_t slh_hash_verify(uint32_t set, uint32_t function, const uint8_t *pk, siz
                          size_t msg_len, const uint8_t *ctx, size_t ctx_len, const uint8_t *sig, size_t sig_len);
 
 /*
- * The results of the hardened calls. Each number is the sum of two halves, and each half comes from its own comparison
- * with PK.root: a fault that turns one comparison gives neither number. SLH_IS_VALID tests a variable, which it reads
- * three times, so that a test that is skipped does not decide. Write it as the whole condition of the `if` that boots.
- * No code behind that `if` may boot. `volatile` keeps both writes:
+ * The results of the hardened calls. Each number is the sum of two halves. The computed root is compared with PK.root
+ * two times, one time for each half: a fault that turns one comparison gives neither number. SLH_IS_VALID tests a
+ * variable, which it reads three times, so that a test that is skipped does not decide. Write it as the whole condition
+ * of the `if` that boots. No code behind that `if` may boot. `volatile` keeps both writes:
  *
  *   volatile uint32_t verdict = SLH_HARDENED_INVALID;
  *   verdict = slh_hash_verify_digest_hardened(SLH_DSA_SHA2_128S, SLH_SHA2_256, pk, sizeof pk, digest, sizeof digest,
@@ -215,7 +222,7 @@ uint32_t slh_hash_verify(uint32_t set, uint32_t function, const uint8_t *pk, siz
 
 /*
  * To verify as slh_verify does, on a machine that an attacker disturbs, as by a pulse on its supply. One comparison
- * that is turned does not turn the verdict. docs/MACHINES.md lists the faults that were tried, and the processor. No
+ * that is turned does not turn the verdict. docs/DEVICES.md lists the faults that were tried, and the processor. No
  * other fault is claimed to be harmless.
  * Returns: SLH_HARDENED_VALID if slh_verify returns SLH_DONE, and else SLH_HARDENED_INVALID. slh_verify tells why it
  * refuses a call.

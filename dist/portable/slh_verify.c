@@ -1,5 +1,5 @@
 /*
- * Verifying signatures of SLH-DSA (FIPS 205) with SHA-2 as portable C: the calls of slh_verify.h. Version 0.13.0.
+ * Verifying signatures of SLH-DSA (FIPS 205) with SHA-2 as portable C: the calls of slh_verify.h. Version 0.14.0.
  *
  * SPDX-License-Identifier: MIT OR Apache-2.0
  *
@@ -28,7 +28,7 @@
  * (docs/LIBRARY.md, "What is proved, and up to where"). Not proved are the compiler of the kit, wasm2c,
  * tools/lay_out.py, tools/portable.py, which also adds up how deep the stack is, the C before and behind the functions,
  * and your compiler.
- * tests/portable_tests.sh runs vectors of other implementations through this file, on the machines that docs/MACHINES.md
+ * tests/test_portable.py runs vectors of other implementations through this file, on the machines that docs/MACHINES.md
  * lists. Nothing is claimed of time.
  *
  *   -DSLH_CHECK_MEMORY     each load and store is looked at, whether it stays in the memory of its call
@@ -55,7 +55,7 @@
 #endif
 #define MEMORY_BYTES (SLH_VERIFY_MEMORY - 2 * 8)
 
-#define MODULE_VERSION 13000
+#define MODULE_VERSION 14000
 #define ADDRESS_BITS 32
 #define STACK_TOP UINT32_C(1048576)
 #define STACK_BYTES 6432

@@ -1,0 +1,48 @@
+//! Many signatures that are verified in one call.
+
+use crate::{call::done, Error, ParameterSet, PublicKey};
+
+/// An item of [`verify_many`]: a signature with its key, message and context, all borrowed.
+#[derive(Clone, Copy, Debug)]
+pub struct Signed<'a, P: ParameterSet> {
+    /// The key that has to have signed.
+    pub public: &'a PublicKey<P>,
+    /// The message.
+    pub message: &'a [u8],
+    /// The context, which is invalid above 255 bytes.
+    pub context: &'a [u8],
+    /// The bytes of a signature, which is invalid if it has another length than the set's.
+    pub signature: &'a [u8],
+}
+
+impl<P: ParameterSet> Signed<'_, P> {
+    fn given(&self) -> slh_sys::slh_signed {
+        let pk = self.public.as_bytes().as_ref();
+        slh_sys::slh_signed {
+            pk: pk.as_ptr(),
+            pk_len: pk.len() as u64,
+            msg: self.message.as_ptr(),
+            msg_len: self.message.len() as u64,
+            ctx: self.context.as_ptr(),
+            ctx_len: self.context.len() as u64,
+            sig: self.signature.as_ptr(),
+            sig_len: self.signature.len() as u64,
+        }
+    }
+}
+
+/// Verifies signatures of the pure form, any number in one call, in less time than a call for each takes (Algorithm 24).
+/// The results are those of the items, in order: `Error::Invalid` as in
+/// [`Verifier::verify_with`](crate::Verifier::verify_with). Only `Ok` says that an item's signature is valid.
+#[must_use = "only Ok says that a signature is valid"]
+pub fn verify_many<P: ParameterSet>(items: &[Signed<'_, P>]) -> Vec<Result<(), Error>> {
+    let given: Vec<_> = items.iter().map(Signed::given).collect();
+    let mut verdicts = vec![slh_sys::SLH_INVALID; given.len()];
+    // SAFETY: each pointer is that of a slice, and its length follows. The items borrow theirs until the call returns.
+    // The verdicts overlap nothing.
+    let _ = unsafe {
+        slh_sys::slh_verify_many(P::NUMBER, given.as_ptr(), given.len(), verdicts.as_mut_ptr(), verdicts.len())
+    };
+    // A refusal of the call is each verdict, too.
+    verdicts.into_iter().map(done).collect()
+}
