@@ -48,7 +48,7 @@ def pytest_addoption(parser):
     group.addoption("--vectors", metavar="FOLDER", default=str(VECTORS), help="vector files (default: tests/vectors)")
     group.addoption("--all", action="store_true", help="draw nothing, and run what is drawn otherwise")
     group.addoption("--one", action="store_true", help="run the first test of each file alone, for a new machine")
-    group.addoption("--write", action="store_true", help="write tests/instructions.txt anew")
+    group.addoption("--write", action="store_true", help="write measured numbers: tests/instructions.txt, c/exports/depths")
 
 
 def chosen_release(config):
@@ -117,6 +117,15 @@ def pytest_itemcollected(item):
             item.add_marker(marker)
 
 
+@pytest.hookimpl(hookwrapper=True)
+def pytest_make_collect_report(collector):
+    """A file that has no test has failed: its tests may have lost their names."""
+    outcome = yield
+    report = outcome.get_result()
+    if isinstance(collector, pytest.Module) and report.passed and not report.result:
+        report.outcome, report.longrepr = "failed", f"{collector.nodeid}: it has no test"
+
+
 def leave(config, items, left):
     """Runs these items alone, in place of all."""
     config.hook.pytest_deselected(items=[it for it in items if it not in left])
@@ -172,9 +181,32 @@ def pytest_runtest_setup(item):
 @pytest.hookimpl(hookwrapper=True)
 def pytest_runtest_makereport(item, call):
     outcome = yield
+    report = outcome.get_result()
     if call.when == "teardown":
         taken = processor_seconds() - getattr(item, "processor_seconds", processor_seconds())
-        outcome.get_result().user_properties.append(("processor seconds", taken))
+        report.user_properties.append(("processor seconds", taken))
+    fault = report.skipped and not hasattr(report, "wasxfail") and fault_of_skip(cause(report))
+    if fault:
+        report.outcome, report.longrepr = "failed", fault
+
+
+def fault_of_skip(why):
+    """Why a test may not be skipped for a cause: it says nothing, or a tool that setup.sh installs is missing, although
+    the test command has found that none is (SLH_TOOLS). What one release of Debian alone has may be missing."""
+    if why in ("Skipped", "unconditional skip"):
+        return "it was skipped without a cause"
+    if os.environ.get("SLH_TOOLS") == "all" and is_cured_by_setup(why):
+        return f"it was skipped, since {why}: but tools/setup.sh finds that no tool is missing"
+    return None
+
+
+def is_cured_by_setup(why):
+    """Whether the brackets of a cause name tools/setup.sh, or a package that it installs."""
+    cure = "".join(re.findall(r"\((.*)\)", why))
+    lists = re.findall(r'^of_\w+="(.*?)"', (HERE / "tools/setup.sh").read_text(), re.M | re.S)
+    packages = {*" ".join(lists).split()}
+    named = "to be had by" in cure and "Debian 1" not in cure and packages & {*re.findall(r"[\w.+-]+", cure)}
+    return bool(named) or "tools/setup.sh" in cure
 
 
 class Told:
@@ -573,7 +605,8 @@ def content_of(cc, words):
     of the linker."""
     linked = [it for it in words if str(it).endswith((".a", ".o", ".so", ".lib"))]
     scripts = [it for it in words if str(it).endswith(".ld")]
-    text = succeed(cc, "-E", "-P", *[it for it in words if it not in linked])
+    # Here clang warns of words for the linker.
+    text = succeed(cc, "-E", "-P", *[it for it in words if it not in linked], "-Wno-unused-command-line-argument")
     total = hashlib.sha256(repr(without_folders(words)).encode() + succeed(cc, "--version") + text)
     for it in [*linked, *scripts]:
         total.update(pathlib.Path(it).read_bytes())

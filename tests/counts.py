@@ -1,8 +1,6 @@
-"""Counts for the programs in Python that tests run what passed and what failed, and reads the options that they have in
-common."""
+"""Counts what passed and what failed in the programs in Python that tests and the test command run."""
 import os
 import pathlib
-import subprocess
 import sys
 
 HERE = pathlib.Path(__file__).resolve().parent.parent
@@ -35,35 +33,3 @@ def end_counts():
 def nothing_to_test(why):
     print(f"{pathlib.Path(sys.argv[0]).name}: {why}", file=sys.stderr)
     sys.exit(2)
-
-
-def take_options(words):
-    """Of a script's words: the release behind --dist, or None; whether there is --few; and the other words."""
-    release, few = None, False
-    while words[:1] in (["--dist"], ["--few"]):
-        if words.pop(0) == "--few":
-            few = True
-            continue
-        release = pathlib.Path(words.pop(0) if words else "").resolve()
-        if not (release / "BUILD").is_file() or not (release / "SHA256SUMS").is_file():
-            nothing_to_test("--dist needs a folder that has a release")
-    return release, few, words
-
-
-def programs_here(release):
-    """The programs of a release that this processor can run, as tools/released.sh tells them."""
-    script = 'here=$0 && . "$0/tools/released.sh" && dist=$1 && programs_here'
-    words = ["bash", "-c", script, str(HERE), str(release)]
-    return subprocess.run(words, stdout=subprocess.PIPE, text=True, check=True).stdout.splitlines()
-
-
-def choose_program(release, given):
-    """The path of the program to test: that of the release for this processor, else the one that is given."""
-    program = pathlib.Path((programs_here(release) or [release / "none"])[0] if release else given).resolve()
-    try:
-        done = subprocess.run([program, "params"], stdout=subprocess.PIPE, stderr=subprocess.DEVNULL)
-    except OSError:
-        done = None
-    if not done or done.returncode or not done.stdout:
-        nothing_to_test(f"there is no program that can be run: {program}")
-    return str(program)

@@ -25,6 +25,7 @@ enum { SET = SLH_DSA_SHA2_128F, KEY = SLH_DSA_SHA2_128F_SECRET_KEY, N = SLH_DSA_
 enum { BATCHES = 200, CALLS = 10000, MOST_NANOSECONDS = 20 };
 
 extern uint32_t slh_choice; /* 0 before anybody asked */
+enum { V2_SHA = 5 };        /* as in c/exports/exports.h */
 
 static unsigned passed, failed;
 static struct slh_processor processor;
@@ -45,14 +46,17 @@ static void tell(const char *what, int is_right) {
 static uint32_t level_for(struct slh_processor it) {
     processor = it;
     slh_choice = 0;
+    asked = 0;
     return slh_level();
 }
 
 static void test_processors(void) {
     for (int i = 0; i < PROCESSORS; i++) {
         tell(processors[i].name, level_for(processors[i].it) == processors[i].level);
-        tell("its vectors", slh_choice >> 8 == processors[i].vectors);
-        tell("it is asked once", slh_choice != 0);
+        tell("its vectors", (slh_choice >> 8 & 0xff) == processors[i].vectors);
+        tell("its single messages", slh_choice >> 16 == (processors[i].by_sha != NOTHING));
+        tell("its chains", ((slh_choice & 0xff) == V2_SHA) == (processors[i].by_sha == ALL));
+        tell("it is asked once", asked == 1);
     }
 }
 
@@ -75,15 +79,21 @@ static void test_lacking(void) {
     };
     for (size_t i = 0; i < sizeof rows / sizeof *rows; i++) {
         char what[64];
-        uint32_t words[4];
+        uint32_t words[5];
         struct slh_processor it = processors[SKYLAKE].it;
         memcpy(words, &it, sizeof words);
-        words[rows[i].word] &= ~((uint32_t)1 << rows[i].bit);
+        words[1 + rows[i].word] &= ~((uint32_t)1 << rows[i].bit);
         memcpy(&it, words, sizeof words);
         snprintf(what, sizeof what, "without bit %u of word %zu", (unsigned)rows[i].bit, rows[i].word);
         tell(what, level_for(it) == rows[i].level);
     }
-    tell("nothing at all", level_for((struct slh_processor){0, 0, 0, 0}) == 0);
+    tell("nothing at all", level_for((struct slh_processor){0, 0, 0, 0, 0}) == 0);
+    struct slh_processor it = processors[EPYC_ROME].it;
+    it.leaf_7_ebx &= ~((uint32_t)1 << 29);
+    tell("EPYC without SHA", level_for(it) == 3 && slh_choice >> 16 == 0);
+    it = processors[EPYC_ROME].it;
+    it.leaf_7_ebx &= ~((uint32_t)1 << 5);
+    tell("EPYC without AVX2", level_for(it) == 2 && (slh_choice & 0xff) == V2_SHA);
 }
 
 /*
@@ -120,6 +130,12 @@ static void test_calls_below_v2(void) {
     const slh_signed *const items = items_of;
     uint32_t *const verdicts = verdicts_of;
     const size_t items_len = 2, verdicts_len = 2;
+    const uint32_t kind = SLH_SECRET_KEY;
+    const uint8_t *const file = painted;
+    uint8_t *const key = outputs;
+    char *const text = (char *)outputs;
+    uint32_t *const set_read = jobs_of, *const kind_read = jobs_of;
+    const size_t file_len = KEY, key_len = KEY, text_len = KEY;
     const size_t a_len = KEY, b_len = KEY, c_len = KEY, msg_len = KEY, ctx_len = KEY, random_len = KEY;
     const size_t digest_len = KEY, hash_len = KEY, answers_len = KEY, sk_len = KEY, pk_len = KEY, start_len = KEY;
     const size_t answer_len = KEY, sig_len = KEY, scratch_len = KEY, front_len = KEY, name_len = KEY;

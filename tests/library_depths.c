@@ -2,7 +2,7 @@
  * Measures how deep each call that takes secrets goes below its caller's stack pointer, and compares it with the depth
  * that c/exports/depths/ has for it and for the set: no call goes deeper, and each reaches the last 256 bytes.
  *
- * It is linked with a libslh.a whose slh_clear is weak (tests/library_parts.sh makes it so), and brings an slh_clear
+ * It is linked with a libslh.a whose slh_clear is weak (tests/machines.py makes it so), and brings an slh_clear
  * that clears nothing, and keeps the depth that it is asked to clear and the stack pointer where that begins. The calls
  * run on a stack that was filled with one byte value: the lowest byte that no longer has it was used.
  *
@@ -25,6 +25,12 @@
 #include <ucontext.h>
 #endif
 
+/* What is cleared beyond a depth, for SHA instructions that do not run here (SLH_MORE_DEPTH in c/exports/exports.c). */
+#ifdef _WIN32
+enum { BEYOND = 256 };
+#else
+enum { BEYOND = 0 };
+#endif
 enum { STACK = 1 << 18, PAINT = 0x5c, SETS = 6, FUNCTIONS = 6, CUTTINGS = 2, SHIFT = 16, ROOM = 128, MOST_UNUSED = 256 };
 
 static _Alignas(64) uint8_t stack[STACK];
@@ -33,7 +39,8 @@ static uint8_t scratch[2 * SLH_MAX_SIGNATURE];
 static uint8_t msg[1000], ctx[255], start[SLH_MAX_START], *answers, *key_answers;
 static size_t pk_len, sk_len, sig_len, n, start_len, answers_len, key_answer_len;
 static uint32_t set, levels, function, functions, job, jobs, key_jobs, result;
-static uint8_t *begin;
+static uint8_t *begin, key_read_to[SLH_MAX_SECRET_KEY];
+static char key_file[SLH_MAX_KEY_FILE];
 static size_t asked;
 
 uint32_t slh_clear(uint32_t result_, size_t depth, uint32_t vectors);
@@ -45,7 +52,7 @@ uint32_t slh_clear(uint32_t result_, size_t depth, uint32_t vectors) {
 #if defined(__x86_64__)
     begin -= 8;
 #endif
-    asked = depth;
+    asked = depth - BEYOND;
     return result_;
 }
 
@@ -54,6 +61,18 @@ static void keygen(void) { result = slh_keygen(set, seeds, n, seeds + n, n, seed
 static void public(void) { result = slh_public(set, sk, sk_len, pk, pk_len); }
 
 static void check(void) { result = slh_check(set, sk, sk_len); }
+
+static void key_write(void) {
+    result = slh_key_write(set, SLH_SECRET_KEY, sk, sk_len, key_file, sizeof key_file);
+}
+
+/* Of no set there is no file: that of the last one is read again. */
+static void key_read(void) {
+    uint32_t set_read, kind_read;
+    result = slh_key_read((const uint8_t *)key_file, strlen(key_file), &set_read, &kind_read, key_read_to,
+                          sizeof key_read_to);
+    if (result == SLH_DONE && set > SETS) result = SLH_NO_SUCH_SET;
+}
 
 static void sign(void) {
     result = slh_sign(set, sk, sk_len, msg, sizeof msg, ctx, sizeof ctx, seeds, n, sig, sig_len);
@@ -129,6 +148,8 @@ static const struct row {
     {"keygen", keygen, NOTHING, 1},
     {"public", public, NOTHING, 1},
     {"check", check, NOTHING, 1},
+    {"key_write", key_write, NOTHING, 1},
+    {"key_read", key_read, NOTHING, 1},
     {"sign", sign, NOTHING, 1},
     {"hash_sign_digest", hash_sign_digest, FUNCTIONS_TRIED, 0},
     {"hash_sign", hash_sign, FUNCTIONS_TRIED, 0},

@@ -448,11 +448,23 @@ static void look(const struct work *w, const char *name, uint32_t detail, void (
 #define KEY OF(w->sk, w->sk_len)
 #define SEEDS OF(w->seeds, w->n), OF(w->seeds + w->n, w->n), OF(w->seeds + 2 * w->n, w->n)
 
+/* The set is not an argument, but in the file. */
+static void look_at_reading(struct work *w) {
+    static uint8_t file[SLH_MAX_KEY_FILE];
+    static uint32_t set_read, kind_read;
+    memcpy(file, out, sizeof file);
+    look(w, "slh_key_read", 0, (void (*)(void))slh_key_read,
+         (const word[ARGS]){OF(file, 36 + 2 * w->sk_len), (word)&set_read, (word)&kind_read, OF(out, w->sk_len)});
+    must(set_read == w->set && memcmp(out, w->sk, w->sk_len) == 0, "another key is read");
+}
+
 static void look_at_keys(struct work *w) {
     uint32_t ranges = 2;
     CALL(slh_keygen, 0, SEEDS, OF(out, w->sk_len));
     CALL(slh_public, 0, KEY, OF(out, w->pk_len));
     CALL(slh_check, 0, KEY);
+    CALL(slh_key_write, 0, SLH_SECRET_KEY, KEY, OF(out, SLH_MAX_KEY_FILE));
+    look_at_reading(w);
     for (uint32_t job = 0; job < ranges; job++)
         CALL(slh_keygen_job, job, 1, SEEDS, job, OF(w->key_answers + 2 * w->n * job, 2 * w->n));
     CALL(slh_keygen_join, 0, 1, SEEDS, OF(w->key_answers, 2 * w->n * ranges), OF(out, w->sk_len));

@@ -19,6 +19,7 @@ static const struct {
 };
 
 static uint8_t sk[4 * SLH_MAX_N], pk[SLH_MAX_PUBLIC_KEY], sig[SLH_MAX_SIGNATURE], start[512];
+static uint8_t scratch[2 * SLH_MAX_SIGNATURE];
 static const uint8_t msg[] = "abc";
 static size_t pk_len, sk_len, sig_len, n;
 
@@ -36,6 +37,12 @@ static void keygen(uint32_t set) {
 
 static void sign(uint32_t set) {
     must(slh_sign(set, sk, sk_len, msg, 3, msg, 0, msg, 0, sig, sig_len), SLH_DONE, "slh_sign");
+}
+
+// As packages and the provider sign.
+static void sign_twice(uint32_t set) {
+    must(slh_sign_twice(set, sk, sk_len, msg, 3, msg, 0, msg, 0, scratch, 2 * sig_len, sig, sig_len), SLH_DONE,
+         "slh_sign_twice");
 }
 
 // Any bytes serve as a signature and as a key: how many hashes it takes follows from the digits, and these are fixed.
@@ -68,6 +75,7 @@ static void make(const char *task, size_t i, int counts) {
     if (counts) CALLGRIND_ZERO_STATS;
     if (!strcmp(task, "keygen")) keygen(sets[i].set);
     if (!strcmp(task, "sign")) sign(sets[i].set);
+    if (!strcmp(task, "twice")) sign_twice(sets[i].set);
     if (!strcmp(task, "verify")) verify(sets[i].set);
     if (!strcmp(task, "jobs")) jobs(sets[i].set, sets[i].fors_levels);
     if (counts) CALLGRIND_DUMP_STATS_AT(label);
@@ -82,5 +90,6 @@ int main(void) {
         for (int counts = 0; counts < 2; counts++) make("verify", i, counts);
         for (size_t task = 0; sets[i].signs && task < 3; task++)
             for (int counts = 0; counts < 2; counts++) make(tasks[task], i, counts);
+        if (sets[i].set == SLH_DSA_SHA2_128F) make("twice", i, 1);
     }
 }

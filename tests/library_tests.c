@@ -546,7 +546,10 @@ static void names(void) {
         {SLH_BAD_ANSWERS_LENGTH, "BadAnswersLength"},       {SLH_ANSWERS_DISAGREE, "AnswersDisagree"},
         {SLH_NO_SUCH_JOB, "NoSuchJob"},                     {SLH_BAD_START_LENGTH, "BadStartLength"},
         {SLH_BAD_START, "BadStart"},                        {SLH_FAULT, "Fault"},
-        {SLH_SELF_TEST_FAILED, "SelfTestFailed"},
+        {SLH_NOT_A_KEY_FILE, "NotAKeyFile"},                {SLH_UNKNOWN_SET, "UnknownSet"},
+        {SLH_BAD_HEX, "BadHex"},                            {SLH_BAD_KEY_LENGTH, "BadKeyLength"},
+        {SLH_TRAILING_BYTES, "TrailingBytes"},              {SLH_SELF_TEST_FAILED, "SelfTestFailed"},
+        {SLH_NO_SUCH_KIND, "NoSuchKind"},
 #ifdef SLH_PORTABLE
         {SLH_NO_MEMORY, "NoMemory"},
 #endif
@@ -587,6 +590,7 @@ static void texts(void) {
         SLH_BAD_SEED_LENGTH, SLH_BAD_DIGEST_LENGTH, SLH_BAD_RANDOMIZER_LENGTH, SLH_BAD_OUTPUT_LENGTH,
         SLH_NO_SUCH_REFUSAL, SLH_BAD_ANSWERS_LENGTH, SLH_ANSWERS_DISAGREE, SLH_NO_SUCH_JOB, SLH_BAD_START_LENGTH,
         SLH_BAD_START, SLH_INVALID, SLH_NO_MEMORY, SLH_FAULT, SLH_OLD_PROCESSOR, SLH_SELF_TEST_FAILED,
+        SLH_NOT_A_KEY_FILE, SLH_UNKNOWN_SET, SLH_BAD_HEX, SLH_BAD_KEY_LENGTH, SLH_TRAILING_BYTES, SLH_NO_SUCH_KIND,
     };
     const char *none = slh_refusal_text(0xffffffffu);
     size_t found = 0;

@@ -113,6 +113,9 @@ class Through:
 here = pathlib.Path(__file__).resolve().parent.parent
 # What the words of the command say. A program that imports this file sets the library.
 few = verify_only = is_through = False
+# Whether of a sign test under a set whose name ends in s the first call alone is made. A program that imports this file
+# may set it.
+is_brief = False
 library, vectors = None, here / "tests/vectors"
 
 
@@ -123,9 +126,9 @@ def loaded(path):
 
 def take(words):
     """Takes the words of the command."""
-    global few, verify_only, is_through, library, vectors
+    global few, verify_only, is_through, is_brief, library, vectors
     few, verify_only = ("--few" in words[:1]), ("--verify-only" in words[:1])
-    is_through = words[few or verify_only] == "--through"
+    is_through = is_brief = words[few or verify_only] == "--through"
     library, vectors = (words[(few or verify_only) + is_through :] + [vectors])[:2]
     library = Through(library) if is_through else loaded(library)
     vectors = pathlib.Path(vectors)
@@ -269,7 +272,7 @@ def jobs_pass(test, xmss, fors, wanted):
 
 def sign_passes(test):
     wanted = bytes.fromhex(test["signature"])
-    is_refused, is_dear = len(test.get("context", "")) > 510, is_through and test["set"].endswith("s")
+    is_refused, is_dear = len(test.get("context", "")) > 510, is_brief and test["set"].endswith("s")
     given = calls(test, "sign", bytes.fromhex(test["sk"]), bytes.fromhex(test["random"]))
     for name, *arguments in given[:1] if is_dear else given:
         out = painted(lengths(SETS.index(test["set"]) + 1)[2])

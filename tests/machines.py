@@ -18,9 +18,9 @@ COUNTS = re.compile(r"(\d+) passed, (\d+) failed(?:, \d+ skipped)?")
 # The proved calls; the libraries, and not the modules for WebAssembly, have three more.
 CALLS = [f"slh_{it}" for it in """
     answer_place check hash_sign hash_sign_digest hash_sign_digest_twice hash_sign_start hash_sign_twice hash_verify
-    hash_verify_digest hash_verify_digest_hardened keygen keygen_job keygen_jobs keygen_join lengths public refusal_name
-    self_test sign sign_internal sign_job sign_jobs sign_join sign_start sign_twice verify verify_front verify_hardened
-    verify_hashed verify_internal verify_many version""".split()]
+    hash_verify_digest hash_verify_digest_hardened key_read key_write keygen keygen_job keygen_jobs keygen_join lengths
+    public refusal_name self_test sign sign_internal sign_job sign_jobs sign_join sign_start sign_twice verify
+    verify_front verify_hardened verify_hashed verify_internal verify_many version""".split()]
 LIBRARY_CALLS = sorted([*CALLS, "slh_erase", "slh_level", "slh_refusal_text"])
 VERIFY_CALLS = [f"slh_{it}" for it in
                 "hash_verify hash_verify_digest hash_verify_digest_hardened verify verify_hardened version".split()]
@@ -30,7 +30,7 @@ ALSO_OF_C = ["memcmp", "bcmp"]
 OF_RUNTIME = re.compile("_ITM_|__cxa_finalize|__gmon_start__")
 
 # The names of its own that an archive of several objects defines.
-OF_ARCHIVE = re.compile(r"slh_(\w+_(v[234]|proved)|clear|choice|choose|ask_processor|probe|mem(cpy|move|set))")
+OF_ARCHIVE = re.compile(r"slh_(\w+_(v[234]|proved)|clear|choice|choose|has_sha|ask_processor|sha256|probe|mem(cpy|move|set))")
 
 # The targets of which SLH_SEED draws one. The test commands of a release and of a few tests run all, as --all does.
 OTHERS = [] if os.environ.get("SLH_MODE") in ("release", "few") else [pytest.mark.drawn("the other target", "target")]
@@ -105,10 +105,10 @@ def qemu(name):
     return emulator(f"qemu-{name}", f"qemu-{name}-static")
 
 
-def best_level():
-    """The best level of x86-64 that this processor and system have, in glibc's judgement: 2, 3 or 4."""
-    said = run("/lib64/ld-linux-x86-64.so.2", "--help").output.decode()
-    return next((it for it in (4, 3) if re.search(rf"^ *x86-64-v{it} \(supported", said, re.M)), 2)
+def qemu_with_sha(processor):
+    """The words of an emulator of x86-64 that knows SHA instructions, for a processor of its own."""
+    need("qemu-x86_64-10")
+    return "qemu-x86_64-10", "-cpu", processor
 
 
 # ---- symbols
@@ -135,6 +135,18 @@ def is_closed(nm, archive, mark="", others=()):
     assert [it for it in LIBRARY_CALLS if ("T", it) not in found] == []
     assert sorted(it for it in defined - set(LIBRARY_CALLS) if not OF_ARCHIVE.fullmatch(it)) == []
     assert sorted({name for kind, name in found if kind == "U"} - defined - {*OF_C, *ALSO_OF_C, *others}) == []
+
+
+def notes(readelf, file):
+    """What readelf shows of the notes of a file."""
+    return succeed(readelf, "-nW", file).decode()
+
+
+def first_instructions(objdump, file):
+    """The name of each function of a file, with the name of its first instruction."""
+    text = succeed(objdump, "-d", "--no-show-raw-insn", file).decode()
+    found = re.findall(r"^[0-9a-f]+ <([^>]+)>:\n *[0-9a-f]+:\t(\S+)", text, re.M)
+    return {name.partition("@")[0]: instruction for name, instruction in found}
 
 
 def of_kind(kind, names):
@@ -249,19 +261,24 @@ def as_numbers(data):
 
 
 def example_judges_images(compiled, machine, include, library, image):
-    """The example that verifies finds an image valid, and a damaged one invalid. It refuses a signature that is too
-    long and a file that is missing, which it names."""
+    """So does the example that verifies, over a library."""
     program = compiled("verify_image", "-std=c99", *STRICT, *machine.words, "-I", image.folder, "-I", include,
                        HERE / "examples/verify_image.c", library, cc=machine.cc)
+    judges_images(image, *machine.runs, program)
+
+
+def judges_images(image, *command):
+    """A program finds an image valid, and a damaged one invalid. It refuses a signature that is too long, and a file
+    that is missing, which it names."""
 
     def outcome(*names):
-        return text_of(run(*machine.runs, program, *map(image.file, names)))
+        return text_of(run(*command, *map(image.file, names)))
 
     assert outcome("image", "image.sig") == (0, "valid")
     assert outcome("damaged", "image.sig") == (1, "invalid")
     assert outcome("image", "long.sig") == outcome("none", "image.sig") == outcome("image", "none") == outcome() \
         == (2, "")
-    lacking = run(*machine.runs, program, image.file("image"), image.file("none"))
+    lacking = run(*command, image.file("image"), image.file("none"))
     assert str(image.file("none")).encode() in lacking.errors
 
 
@@ -289,11 +306,32 @@ uint32_t slh_clear(uint32_t result, size_t depth, uint32_t vectors) {
 """
 
 
+# From how many places a call is measured, by level: code that aligns its stack to 32 or 64 bytes takes more from some.
+SHIFTS = {2: "1", 3: "2", 4: "4"}
+HEAD_OF_DEPTHS = "/* How deep each call goes, in bytes: for a number of no set, and for each set. By pytest --write. */\n"
+
+
 def depths_program(compiled, machine, include, archive, folder):
     """The program that measures how deep calls go, over an archive whose slh_clear is its own."""
     with_weak(machine, archive, folder / "weak.a", "slh_clear")
     return compiled("depths.exe", "-std=c11", *STRICT, "-O1", "-static", *machine.words, "-I", include,
                     TESTS / "library_depths.c", folder / "weak.a", cc=machine.cc)
+
+
+def how_deep(config):
+    """Under an emulator few calls are measured, and with --write all."""
+    return "full" if config.option.write else "few"
+
+
+def check_depths(config, target, how, *command):
+    """Each call clears as deep as it goes, by the program of depths_program: `few` measures few calls under the sets
+    whose names end in s, and `full` all. With --write what is measured becomes the depths of the target."""
+    if not config.option.write:
+        return counted(*command, *(["few"] if how == "few" else []))
+    if how == "few":
+        pytest.skip("with --write all calls are measured")
+    measured = succeed(*command, "write", timeout=7200).decode().replace("\r\n", "\n")
+    return (HERE / f"c/exports/depths/{target}.h").write_text(HEAD_OF_DEPTHS + measured)
 
 
 def search_program(compiled, machine, include, *words):
@@ -303,12 +341,14 @@ def search_program(compiled, machine, include, *words):
 
 
 def search_finds_what_is_left(compiled, machine, include, archive, folder):
-    """After each call under 128f the search finds secrets if nothing is cleared."""
+    """After each call under 128f the search finds secrets if nothing is cleared. slh_key_write may leave none."""
     (folder / "clears_nothing.c").write_text(CLEARS_NOTHING)
     with_weak(machine, archive, folder / "weak.a", "slh_clear")
     program = search_program(compiled, machine, include, folder / "clears_nothing.c", folder / "weak.a")
     status, text = text_of(run(*machine.runs, program, "2"))
-    assert status == 1 and re.fullmatch("0 passed, [1-9][0-9]* failed", text.splitlines()[-1]), text[-4000:]
+    *lines, last = text.splitlines()
+    assert status == 1 and re.fullmatch(r"[01] passed, [1-9]\d* failed", last), text[-4000:]
+    assert [it for it in lines if it.endswith(": yes") and " slh_key_write " not in it] == [], text[-4000:]
 
 
 # ---- packages

@@ -1,5 +1,5 @@
-"""What the tests of packages share: the level of this processor, an image to verify, the counts of other runners,
-the search for secrets in the memory of a program, and a library with another known answer."""
+"""What the tests of packages share: the level of this processor, the counts of other runners, the search for secrets in
+the memory of a program, and a library with another known answer."""
 import contextlib
 import ctypes
 import json
@@ -22,33 +22,6 @@ GO_MODULE = re.match(r"module (\S+)\n", (HERE / "bindings/go/go.mod").read_text(
 def says_best_level(*words, **options):
     """Whether a program over a package prints slh_level, and it is the best one."""
     return run(*words, **options).output.decode() == f"{best_level()}\n"
-
-
-# ---- an image, and programs that verify it
-
-
-def write_image(folder):
-    """Writes image, image.sig and public_key.h: a message of the vectors that OpenSSL signed in the pre-hash form with
-    SHA2-256, under the empty context."""
-    wanted = {"kind": "sign", "form": "SHA2-256", "context": ""}
-    tests = json.loads((VECTORS / "slh-dsa-sha2-128f.json").read_text())
-    test = next(it for it in tests if wanted.items() <= it.items())
-    (folder / "image").write_bytes(bytes.fromhex(test["message"]))
-    (folder / "image.sig").write_bytes(bytes.fromhex(test["signature"]))
-    (folder / "public_key.h").write_text(",".join(map(str, bytes.fromhex(test["sk"])[32:])) + "\n")
-
-
-def judge_images(folder, program):
-    """Runs a program that verifies an image: it is valid, a damaged one is invalid (1), and a signature that is too
-    long, or a file that is missing and named, is refused (2)."""
-    image, sig, none = (folder / it for it in ("image", "image.sig", "none"))
-    damaged, long = folder / "damaged", folder / "long.sig"
-    damaged.write_bytes(image.read_bytes() + b"x")
-    long.write_bytes(sig.read_bytes() + b"x")
-    refused = [((image, long), 2, b""), ((none, sig), 2, b""), ((image, none), 2, b""), ((), 2, b"")]
-    for words, status, line in [((image, sig), 0, b"valid\n"), ((damaged, sig), 1, b"invalid\n"), *refused]:
-        assert run(program, *words)[:2] == (status, line), words
-    assert os.fsencode(none) in run(program, image, none).errors
 
 
 # ---- other runners

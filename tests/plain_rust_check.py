@@ -22,6 +22,9 @@ import json
 import pathlib
 import sys
 
+# The files of the crate that are not of the proved crates.
+OF_PACKAGE, BY_HAND = "bindings/rust/slh/src", "tools/plain_rust/slh/src"
+MADE = ["numbers.rs", "refusal_text.rs"]
 OPEN, CLOSE = "([{", ")]}"
 WORD = frozenset("abcdefghijklmnopqrstuvwxyzABCDEFGHIJKLMNOPQRSTUVWXYZ0123456789_")
 
@@ -225,6 +228,57 @@ def exports(tokens, at, crate):
     return None
 
 
+def each_level(tokens, at, crate):
+    """In slh_lanes `Simd<WORD, N>` gets a level, and so do the parameters of each item of such a file: those that end
+    with the number of lanes N, or with N and M."""
+    if crate != "slh_lanes":
+        return None
+    if tokens[at:at + 2] == ["Simd", "<"] and tokens[at + 3:at + 6] == [",", "N", ">"]:
+        return at + 6, [*tokens[at:at + 5], ",", "L", ">"]
+    for names in "N", "NM":
+        parameters = [it for name in names for it in ("const", name, ":", "usize", ",")][:-1]
+        end = at + 1 + len(parameters)
+        if tokens[at:end + 1] == ["<", *parameters, ">"] and has_lanes(tokens):
+            return end + 1, [*tokens[at:end], ",", "L", ":", "Level", ">"]
+    return None
+
+
+def has_lanes(tokens):
+    return any(tokens[at] == "Simd" and tokens[at + 3:at + 6] == [",", "N", ">"] for at in range(len(tokens) - 6))
+
+
+# The calls of slh_lanes in whose place functions of the module of levels are called.
+OF_LEVELS = {"rounds : : compress (": "compress (", "run : : < Words , Rounds >": "run",
+             "run : : < TwoWords , Rounds >": "run",
+             "compress_part : : < LongWords , u64x4 , Rounds >": "compress_four"}
+
+
+def kernels(tokens, at, crate):
+    """In slh_lanes the calls of `rounds::compress`, of `run` by `Rounds`, and of `compress_part` on four words of 64 bits
+    go to the module of levels. These three functions are inlined. Each module is the crate's. All other calls by `Rounds`
+    are of single words, or of four words of 32 bits."""
+    if crate != "slh_lanes":
+        return None
+    if tokens[at] == "mod":
+        return at + 1, "pub ( crate ) mod".split()
+    for call, instead in OF_LEVELS.items():
+        end = at + len(call.split())
+        if " ".join(tokens[at:end]) == call:
+            return end, f"crate : : levels : : {instead}".split()
+    if tokens[at] == "Rounds" and tokens[at + 1] == ">" and tokens[at - 2:at] != ["u32x4", ","]:
+        if tokens[at - 1] != "<" or not tokens[at - 4].endswith("_singles"):
+            raise Different("a call by Rounds is not known")
+    inline = "# [ inline ( always ) ] pub ( crate ) fn".split()
+    is_own = tokens[at:at + 5] == "pub ( crate ) fn".split()
+    if is_own and tokens[at + 5] in ("compress", "run") and tokens[at + 6:at + 8] == ["<", "W"]:
+        return at + 5, inline
+    if tokens[at:at + 3] == ["fn", "compress_part", "<"]:
+        return at + 1, inline
+    return None
+
+
+# Before an item that takes memory.
+OF_ALLOC = '# [ cfg ( feature = "alloc" ) ] '
 RULES = {
     "derived drop": derived_drop,
     "model": model,
@@ -232,17 +286,22 @@ RULES = {
     "random generator": random_generator,
     "vectors": fixed(("use std : : simd : : prelude : : *", "use crate : : vectors : : *")),
     "core names": fixed(("use std : : str", "use core : : str")),
-    "memory": fixed(("use std : : alloc : : AllocError ;", "use crate : : memory : : AllocError ;"),
+    "memory": fixed(("use std : : alloc : : AllocError ;", OF_ALLOC + "use crate : : memory : : AllocError ;"),
                     ("use std : : alloc : : { AllocError , Allocator } ;",
-                     "use crate : : memory : : { AllocError , Allocator , String , Vec } ;"),
+                     OF_ALLOC + "use crate : : memory : : { AllocError , Allocator , String , Vec } ;"),
                     ("hex : :", "crate : : memory : : hex : :")),
+    "with alloc": fixed(*((it, OF_ALLOC + it) for it in
+                          ("mod key_front", "mod key_text", "pub use key_front", "pub use key_text",
+                           "impl From < AllocError"))),
     "crate paths": crate_paths,
     "sibling paths": sibling_paths,
     "labels": labels,
     "let chains": let_chains,
     "exports": exports,
-    "widths": fixed(("short : Width : : Eight", "short : crate : : vectors : : SHORT"),
-                    ("long : Width : : Eight", "long : crate : : vectors : : LONG")),
+    "widths": fixed(("short : Width : : Eight", "short : crate : : levels : : short ( )"),
+                    ("long : Width : : Eight", "long : crate : : levels : : long ( )")),
+    "each level": each_level,
+    "kernels": kernels,
 }
 
 
@@ -349,7 +408,7 @@ def sources_of(folder, crates):
 def difference(out, counts, folder, crate, name, inner):
     """The difference of a file from its source, or none."""
     try:
-        rust = (out / "slh_plain" / "src" / rust_of(crate, inner)).read_text()
+        rust = (out / "slh" / "src" / rust_of(crate, inner)).read_text()
         met = compare(crate, name, (folder / name).read_text(), rust)
     except (Different, OSError, ValueError, IndexError) as why:
         return f"{name}: {why}"
@@ -360,10 +419,10 @@ def difference(out, counts, folder, crate, name, inner):
 
 def differences(out, counts, folder):
     """How many files were compared, and their differences."""
-    written, files = out / "slh_plain" / "src", list(sources_of(folder, sorted({it.split("/")[1] for it in counts})))
+    written, files = out / "slh" / "src", list(sources_of(folder, sorted({it.split("/")[1] for it in counts})))
     found = [difference(out, counts, folder, *it) for it in files]
-    by_hand = ["lib.rs", "memory.rs", "vectors.rs"]
-    own = {written / it for it in [*by_hand, *(rust_of(crate, inner) for crate, _, inner in files)]}
+    package = [it.name for base in (OF_PACKAGE, BY_HAND) for it in (folder / base).glob("*.rs")]
+    own = {written / it for it in [*package, *MADE, *(rust_of(crate, inner) for crate, _, inner in files)]}
     strangers = [f"{it}: made of no source" for it in sorted(set(written.rglob("*.rs")) - own)]
     return len(files), [it for it in found if it] + strangers
 

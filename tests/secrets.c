@@ -186,9 +186,20 @@ static void learn(uint32_t function, const uint8_t *it) {
     must(result == SLH_DONE && known_count > d, "the signature is not valid, or digits_of was not wrapped");
 }
 
+/* That a byte of a key file is a digit, and that it is a number, are verdicts. Which digit it is stays secret. */
+static void key_files(void) {
+    static char file[SLH_MAX_KEY_FILE];
+    uint32_t set_read, kind_read;
+    TRY("slh_key_write", 0, 0, slh_key_write(set, SLH_SECRET_KEY, sk, sk_len, file, sizeof file));
+    TRY_UP_TO("slh_key_read", 1, 16 * (unsigned)n, 0,
+              slh_key_read((const uint8_t *)file, 36 + 2 * sk_len, &set_read, &kind_read, made, sk_len));
+    must(memcmp(made, sk, sk_len) == 0, "another key");
+}
+
 static void keys(void) {
     TRY("slh_keygen", 0, 0, slh_keygen(set, seeds, n, seeds + n, n, seeds + 2 * n, n, made, sk_len));
     TRY("slh_public", 0, 0, slh_public(set, sk, sk_len, made, pk_len));
+    key_files();
     TRY_UP_TO("slh_check", 1, (unsigned)n / 4 + 1, 0, slh_check(set, sk, sk_len));
 }
 

@@ -3,7 +3,8 @@
  * them (rule_): on random words, on words such as 0 and the highest bit, on single bits, on a mixture, and on each input
  * that differs in one bit from zeros or from ones. Usage: sha_instructions TRIES SEED.
  */
-#include <stdint.h>
+#include "drawn_words.h"
+
 #include <stdio.h>
 #include <stdlib.h>
 #include <string.h>
@@ -19,24 +20,7 @@ void rule_next_pair(void *to, const void *w0, const void *w2, const void *w9, co
 
 /* Bytes of a vector, and of the longest input and result. */
 enum { VECTOR = 16, INPUT = 5 * VECTOR, RESULT = 4 * VECTOR, KINDS = 4 };
-static const uint64_t corners[] = {0, 1, 0x7fffffff7fffffff, 0x8000000080000000, UINT64_MAX, 0x5555555555555555,
-                                   0x8000000000000000, 0xfffffffffffffffe};
 static long passed, failed;
-static uint64_t drawn;
-
-/* SplitMix64. */
-static uint64_t draw(void) {
-    uint64_t z = drawn += 0x9e3779b97f4a7c15;
-    z = (z ^ z >> 30) * 0xbf58476d1ce4e5b9;
-    z = (z ^ z >> 27) * 0x94d049bb133111eb;
-    return z ^ z >> 31;
-}
-
-static uint64_t word_of_kind(int kind) {
-    uint64_t it = draw();
-    if (kind == 3) kind = it >> 60 & 3 ? 1 : 0;
-    return kind == 0 ? it : kind == 1 ? corners[it & 7] : (uint64_t)1 << (it & 63);
-}
 
 static void compare(const unsigned char *model, const unsigned char *rule, size_t len) {
     memcmp(model, rule, len) == 0 ? passed++ : failed++;

@@ -23,13 +23,13 @@ PATIENCE = 600
 SANITIZED = ("-g", "-fsanitize=address,undefined", "-fno-sanitize-recover=all")
 
 # The Debian package of a command, if it has another name than the command.
-PACKAGES = {"cc": "gcc", "nm": "binutils", "objdump": "binutils", "readelf": "binutils", "size": "binutils",
+PACKAGES = {"cc": "gcc", "clang++": "clang", "nm": "binutils", "objdump": "binutils", "readelf": "binutils", "size": "binutils",
             "strip": "binutils", "sha256sum": "coreutils", "rt": "the Rattle kit", "openssl-3.5": "tools/setup.sh",
             "ssss-split": "ssss", "systemd-creds": "systemd", "systemd-analyze": "systemd", "node": "nodejs",
             "tsc": "node-typescript", "go": "golang-go", "gofmt": "golang-go", "ld.lld": "lld", "llvm-nm": "llvm",
-            "llvm-objdump": "llvm", "wasm2c-1.0.36": "tools/setup.sh", "dpkg-deb": "dpkg",
-            "dpkg-shlibdeps": "dpkg-dev", "man": "man-db", "musl-gcc": "musl-tools", "ninja": "ninja-build",
-            "rustfmt": "rustfmt, or that of rustup", "unshare": "util-linux",
+            "llvm-objdump": "llvm", "wasm2c-1.0.36": "tools/setup.sh", "qemu-x86_64-10": "tools/setup.sh",
+            "dpkg-deb": "dpkg", "dpkg-shlibdeps": "dpkg-dev", "man": "man-db", "musl-gcc": "musl-tools",
+            "ninja": "ninja-build", "rustfmt": "rustfmt, or that of rustup", "unshare": "util-linux",
             "x86_64-w64-mingw32-objdump": "binutils-mingw-w64-x86-64"}
 PACKAGES |= {f"{it}-gcc": f"gcc-{it.replace('x86_64-w64-mingw32', 'mingw-w64-x86-64')}" for it in (
     "aarch64-linux-gnu", "arm-linux-gnueabihf", "arm-none-eabi", "riscv64-linux-gnu", "s390x-linux-gnu",

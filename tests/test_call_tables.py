@@ -69,7 +69,8 @@ def test_a_new_call_is_written(copy):
     rust, script, c = ((copy / it).read_text() for it in WRITTEN)
     assert ("    /// To try.\n    #[must_use]\n    pub fn slh_new(set: u32, sk: *const u8, sk_len: usize, "
             "kind: *mut u32, out: *mut u8, out_len: usize) -> u32;\n") in rust
-    assert '"slh_new"' in script.split("const SECRET")[1].split("]")[0]
+    secret = script.split("const SECRET")[1].split("]")[0]
+    assert '"slh_new"' in secret and '"slh_key_read"' in secret
     assert ("    uint8_t numbers[1][8];\n    struct part parts[] = {READ(sk), WORD(0), WRITE(out)};\n"
             "    RUN(new, set, B(0), P(1), B(2));\n    if (result == SLH_DONE) *kind = get32(numbers[0]);\n"
             "    return result;\n") in c

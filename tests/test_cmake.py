@@ -1,12 +1,14 @@
-"""Builds programs over the library as CMake finds it, installed or by FetchContent, and those of slh.hpp, the header
-for C++."""
+"""Builds programs over the library as CMake finds it: installed, or in a clone that FetchContent takes. A damaged
+release is refused. `cmake --install` of a clone installs as tools/library.sh does."""
 import re
+import shutil
 
 import pytest
 
-from conftest import chosen_release
-from packages import check_part, check_script, judge_images, lines_of, says_best_level, write_image
-from support import HERE, TESTS, need, succeed
+import machines
+from conftest import released, takes_dist
+from packages import says_best_level
+from support import HERE, need, run, succeed
 
 OF_CMAKE = HERE / "bindings/cmake/tests"
 LEVEL = '#include <slh.h>\n#include <stdio.h>\nint main(void) { return printf("%u\\n", slh_level()) < 0; }\n'
@@ -17,9 +19,7 @@ pytestmark = pytest.mark.slow
 
 @pytest.fixture(scope="module")
 def image(tmp_path_factory):
-    folder = tmp_path_factory.mktemp("image")
-    write_image(folder)
-    return folder
+    return machines.make_image(tmp_path_factory.mktemp("image"))
 
 
 @pytest.fixture(scope="module")
@@ -38,7 +38,7 @@ def configures(installed):
 @pytest.fixture(scope="module")
 def built(configures, image, tmp_path_factory):
     """The folder of the programs of bindings/cmake/tests over each target."""
-    return configures(OF_CMAKE, tmp_path_factory.mktemp("cmake") / "built", f"-DKEY={image}")
+    return configures(OF_CMAKE, tmp_path_factory.mktemp("cmake") / "built", f"-DKEY={image.folder}")
 
 
 def test_page_asks_for_this_version():
@@ -47,8 +47,8 @@ def test_page_asks_for_this_version():
 
 
 @TARGETS
-def test_vectors_over_target(built, name):
-    check_script(lines_of(TESTS / "library_vectors.py", "--few", "--through", built / f"calls_{name}"))
+def test_vectors_over_target(pytestconfig, built, name):
+    machines.vectors_through(pytestconfig, built / f"calls_{name}", few=True)
 
 
 @pytest.mark.usefixtures("built_by_the_kit")
@@ -69,42 +69,175 @@ def test_library_that_a_program_asks_for(built, name, asks):
 
 
 def test_verify_judges_images(built, image):
-    judge_images(image, built / "verify_image")
+    machines.judges_images(image, built / "verify_image")
 
 
 # ---- by FetchContent
 
 
 @pytest.fixture(scope="module")
-def fetched(installed, pytestconfig):
-    """The lines of the tests of a clone that FetchContent takes, with --release also over that release."""
+def fetches(image):
+    """Configures the project that takes a CLONE by FetchContent, and builds it in a folder."""
     need("cmake", "cc")
-    given = [it for it in [chosen_release(pytestconfig)] if it]
-    return lines_of(OF_CMAKE / "fetched.sh", installed, *given, timeout=1800)
+
+    def makes(clone, built, *words):
+        succeed(*words_of_cmake(image, clone, built), *words)
+        succeed("cmake", "--build", built, "--parallel", "2", timeout=1800)
+        return built
+
+    return makes
 
 
-@pytest.mark.parametrize("part", ["release", "install", "prefix"])
-def test_fetched_clone(fetched, part, pytestconfig):
-    if part != "prefix" and not chosen_release(pytestconfig):
-        pytest.skip("no release is given (--release FOLDER)")
-    check_part(fetched, f"{part}: ")
+def words_of_cmake(image, clone, built):
+    return ["cmake", "-S", OF_CMAKE / "fetched", "-B", built, f"-DCLONE={clone}", f"-DSOURCES={HERE}",
+            f"-DKEY={image.folder}", "-DCMAKE_C_FLAGS=-O1"]
 
 
-# ---- slh.hpp
+def stops(text, *words):
+    """A command of CMake fails, and says this."""
+    done = run(*words)
+    assert done.status != 0 and text in " ".join(done.errors.decode().split()), done
 
 
 @pytest.fixture(scope="module")
-def of_header(installed):
-    return lines_of(OF_CMAKE / "slh_hpp.sh", installed, timeout=1800)
+def of_prefix(fetches, installed, tmp_path_factory):
+    """The folder of the programs over an installed library."""
+    return fetches(HERE, tmp_path_factory.mktemp("fetched") / "prefix", f"-DSLH_PREFIX={installed}")
 
 
-def test_header_is_short(of_header):
-    check_part(of_header, "slh.hpp has at most")
+@TARGETS
+def test_vectors_over_fetched_prefix(pytestconfig, of_prefix, name):
+    machines.vectors_through(pytestconfig, of_prefix / f"calls_{name}", few=True)
 
 
-@pytest.mark.parametrize("compiler", ["g++", "clang++"])
-@pytest.mark.parametrize("part", [" compiles", ", c++17: types", ", c++20: types", ", without exceptions", " takes: ",
-                                  " refuses: "], ids=lambda it: re.sub(r"\W+", " ", it).strip())
-def test_header_by_compiler(of_header, compiler, part):
-    skipped = [it for it in of_header if it.startswith((f"C++ by {compiler}", "C++: SKIPPED"))]
-    check_part(skipped or of_header, "C++" if skipped else compiler + part)
+def test_fetched_prefix_judges_images(of_prefix, image):
+    machines.judges_images(image, of_prefix / "verify_image")
+
+
+def test_fetched_prefix_is_the_given_one(of_prefix, installed):
+    assert f"{installed}/lib/libslh.a" in (of_prefix / "CMakeFiles/calls_slh.dir/link.txt").read_text()
+
+
+def test_fetched_prefix_without_a_library_is_refused(fetches, image, tmp_path):
+    stops("slh-config.cmake", *words_of_cmake(image, HERE, tmp_path / "built"), f"-DSLH_PREFIX={tmp_path}")
+
+
+# ---- over a release
+
+
+@pytest.fixture(scope="module")
+def dist(pytestconfig, release):
+    """The release, which has to be of these sources: the programs make each call."""
+    if not takes_dist(pytestconfig) or released(pytestconfig, "has_sources_of_release") is None:
+        pytest.skip("no release of these sources is tested (--release=FOLDER)")
+    return release
+
+
+def clone_of(dist, folder):
+    """A clone whose dist/ is the release."""
+    folder.mkdir()
+    shutil.copy(HERE / "CMakeLists.txt", folder)
+    shutil.copytree(dist, folder / "dist")
+    return folder
+
+
+@pytest.fixture(scope="module")
+def whole(dist, tmp_path_factory):
+    """A clone with the release, and with all that it takes to install."""
+    clone = clone_of(dist, tmp_path_factory.mktemp("whole") / "clone")
+    for it in ("VERSION", "tools", "bindings/cmake", "bindings/debian"):
+        (clone / it).parent.mkdir(exist_ok=True)
+        (shutil.copytree if (HERE / it).is_dir() else shutil.copy)(HERE / it, clone / it)
+    return clone
+
+
+@pytest.fixture(scope="module")
+def of_release(fetches, whole, tmp_path_factory):
+    """The folder of the programs over a clone with the release."""
+    return fetches(whole, tmp_path_factory.mktemp("fetched") / "built")
+
+
+@pytest.mark.parametrize("name", ["slh", "shared", "portable"])
+def test_vectors_over_fetched_release(pytestconfig, of_release, name):
+    machines.vectors_through(pytestconfig, of_release / f"calls_{name}", few=True)
+
+
+def test_fetched_release_judges_images(of_release, image):
+    machines.judges_images(image, of_release / "verify_image")
+
+
+def damage(path):
+    with open(path, "a") as file:
+        file.write("x")
+
+
+def add_header(path):
+    path.write_text("#include_next <string.h>\n")
+
+
+def forget(path):
+    """Takes a file out of the list of hashes."""
+    sums = path.parent.parent / "SHA256SUMS"
+    sums.write_text(re.sub(rf".*  {path.parent.name}/{path.name}\n", "", sums.read_text()))
+
+
+DAMAGED = ["x86-64/libslh.a", "x86-64/libslh.so.0", "x86-64-v2/libslh_verify.a", "portable/slh.c", "include/slh.h"]
+
+
+@pytest.mark.parametrize("file, change", [*((it, damage) for it in DAMAGED), ("include/string.h", add_header),
+                                          ("x86-64/libslh.a", type(HERE).unlink), ("x86-64/libslh.a", forget)])
+def test_fetched_release_that_is_damaged_is_refused(fetches, dist, image, tmp_path, file, change):
+    """A changed file, one that is missing, and one without a hash, which a header may not be, either."""
+    clone = clone_of(dist, tmp_path / "clone")
+    change(clone / "dist" / file)
+    stops(f"dist/{file}", *words_of_cmake(image, clone, tmp_path / "built"))
+
+
+# ---- what a clone installs
+
+
+@pytest.fixture(scope="module")
+def installing(whole, tmp_path_factory):
+    """The folder in which a clone is configured to be installed."""
+    need("cmake", "cc")
+    folder = tmp_path_factory.mktemp("installing") / "built"
+    succeed("cmake", "-S", whole, "-B", folder)
+    return folder
+
+
+@pytest.fixture(scope="module")
+def by_script(dist, tmp_path_factory):
+    """The folder into which tools/library.sh installs."""
+    folder = tmp_path_factory.mktemp("by_script") / "prefix"
+    succeed(HERE / "tools/library.sh", "--dist", dist, folder)
+    return folder
+
+
+def test_clone_has_the_version(installing, dist):
+    version = re.search("^version (.*)$", (dist / "BUILD").read_text(), re.M)[1]
+    assert f"\nCMAKE_PROJECT_VERSION:STATIC={version}\n" in (installing / "CMakeCache.txt").read_text()
+
+
+def test_clone_installs_as_the_script_does(installing, by_script, tmp_path):
+    succeed("cmake", "--install", installing, "--prefix", tmp_path / "by_cmake")
+    succeed("diff", "-r", tmp_path / "by_cmake", by_script)
+
+
+def test_clone_installs_below_destdir(installing, by_script, tmp_path):
+    succeed("env", f"DESTDIR={tmp_path}", "cmake", "--install", installing, "--prefix", "/usr")
+    succeed("diff", "-r", tmp_path / "usr", by_script)
+
+
+def test_project_over_a_clone_installs_nothing_of_it(of_release, tmp_path):
+    succeed("cmake", "--install", of_release, "--prefix", tmp_path / "of_user")
+    assert not (tmp_path / "of_user/include/slh.h").exists()
+
+
+def test_clone_that_is_damaged_installs_nothing(installing, whole, dist, tmp_path):
+    """The release is damaged after the clone was configured."""
+    damage(whole / "dist/x86-64/libslh.a")
+    try:
+        stops("has installed nothing", "cmake", "--install", installing, "--prefix", tmp_path / "to")
+    finally:
+        shutil.copy(dist / "x86-64/libslh.a", whole / "dist/x86-64")
+    assert not (tmp_path / "to/lib/libslh.a").exists()

@@ -10,7 +10,8 @@ import shutil
 
 import pytest
 
-from packages import text_of, write_image
+import machines
+from packages import text_of
 from support import HERE, best_level, need, run, succeed
 
 ENV = {**os.environ, "LC_ALL": "C.UTF-8"}
@@ -204,7 +205,7 @@ def in_a_root(debs, tmp_path_factory):
     work = tmp_path_factory.mktemp("root")
     (work / "over").mkdir()
     (work / "files").mkdir()
-    write_image(work / "files")
+    machines.make_image(work / "files")
 
     def outcome_of(script):
         (work / "script").write_text(script)

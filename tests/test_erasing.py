@@ -32,13 +32,29 @@ def drawn(name, parameter):
 @pytest.mark.parametrize("archive, how", [
     *(pytest.param(it, "few", marks=pytest.mark.slow) for it in ARCHIVES),
     *(pytest.param(it, "full", marks=drawn("depths in full", "archive")) for it in ARCHIVES)])
-def test_each_call_clears_as_deep_as_it_goes(compiled, include, lib, tmp_path, archive, how):
-    """`few` measures few calls under the sets whose names end in s. Code that aligns its stack to 32 or 64 bytes is
-    called from 2 or 4 places."""
+def test_depths(pytestconfig, compiled, include, lib, tmp_path, archive, how):
+    """Each call clears as deep as it goes."""
     level = ARCHIVES[archive] or best_level()
     need_level(level)
+    if pytestconfig.option.write and not ARCHIVES[archive]:
+        pytest.skip("with --write the archive of each level is measured")
     program = machines.depths_program(compiled, MACHINE, include, lib / archive, tmp_path)
-    counted(program, str(1 << (level - 2)), *(["few"] if how == "few" else []))
+    machines.check_depths(pytestconfig, f"x86-64-v{level}", how, program, machines.SHIFTS[level])
+
+
+# Processors that hash all or single messages by SHA instructions, in an emulator, and whose depths are theirs.
+WITH_SHA = {"Denverton": ("x86-64-v2-sha", 2), "EPYC-Rome": ("x86-64-v3", 3)}
+EMULATED = [pytest.mark.slow, pytest.mark.emulator]
+
+
+@pytest.mark.parametrize("processor", [pytest.param(it, marks=EMULATED) for it in WITH_SHA])
+def test_depths_by_sha_instructions(pytestconfig, compiled, include, lib, tmp_path, processor):
+    target, level = WITH_SHA[processor]
+    if pytestconfig.option.write and not target.endswith("-sha"):
+        pytest.skip("with --write the archive of each level is measured")
+    program = machines.depths_program(compiled, MACHINE, include, lib / "libslh.a", tmp_path)
+    machines.check_depths(pytestconfig, target, machines.how_deep(pytestconfig),
+                          *machines.qemu_with_sha(processor), program, machines.SHIFTS[level])
 
 
 def test_caller_erases_its_buffer(compiled, include, lib):
@@ -80,6 +96,14 @@ def test_calls_leave_no_secret(search, library, of_set):
     pytest.param(it, marks=drawn("searched under all sets", "library")) for it in LIBRARIES])
 def test_calls_leave_no_secret_under_all_sets(search, library):
     search(library)
+
+
+@pytest.mark.parametrize("processor, of_set", [
+    pytest.param(processor, name, marks=[*EMULATED, pytest.mark.drawn(f"the set of {processor}", "of_set")])
+    for processor in WITH_SHA for name in SETS])
+def test_calls_by_sha_instructions_leave_no_secret(compiled, include, lib, processor, of_set):
+    program = machines.search_program(compiled, MACHINE, include, lib / "libslh.a")
+    counted(*machines.qemu_with_sha(processor), program, SETS[of_set])
 
 
 @pytest.mark.slow

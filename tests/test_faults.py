@@ -13,10 +13,10 @@ import os
 import platform
 import random
 import re
-import sys
 
 import pytest
 
+import program_faults
 from conftest import STRICT
 from machines import counted
 from support import TESTS, best_level, need_level, run, succeed
@@ -126,7 +126,27 @@ def test_plain_verdict_in_place_of_a_hardened_one_is_found(linked):
 
 # ---- the program
 
+FORMS = {"pure": [], "pre-hash": ["--prehash", "SHA2-256"], "two workers": ["--workers", "2"]}
+
+
+@pytest.fixture
+def signs(program, tmp_path):
+    """The command that signs under 128s, whose signatures take long enough. SLH_SEED draws the flips."""
+    random.seed(os.environ["SLH_SEED"])
+    key, message = tmp_path / "key", tmp_path / "message"
+    key.write_bytes(succeed(program, "keygen", "--set", "SLH-DSA-SHA2-128s", stdin=bytes(range(48)).hex().encode()))
+    message.write_bytes(b"Dear reader,\n")
+    return [program, "sign", "--key", key, "--message", message]
+
 
 @SLOW
-def test_program_finds_a_flip_between_two_signatures(program):
-    counted(sys.executable, TESTS / "program_faults.py", program)
+@pytest.mark.parametrize("form", FORMS)
+def test_program_finds_a_flip_between_two_signatures(signs, form):
+    once = [*signs, *FORMS[form]]
+    assert program_faults.refused_and_wrong(once, [*once, "--twice"]) == (program_faults.WANTED, 0)
+
+
+@SLOW
+def test_program_that_signs_once_refuses_no_run(signs):
+    """So --twice finds the flips of the test above."""
+    assert program_faults.refused_and_wrong(signs, signs, tries=20)[0] == 0

@@ -15,7 +15,7 @@ import shutil
 
 import pytest
 
-from conftest import is_chosen_by_name, skip_unless_asked
+from conftest import skip_unless_asked
 from support import HERE, block_of, run, succeed
 
 NAMES = {"12": "bookworm", "13": "trixie"}

@@ -1,24 +1,49 @@
 """Builds the library for C from source, by cargo and stock rustc without the kit (tools/library.sh --from-source), and
-tests it as it is installed: by the tests of the library that need nothing of the kit. What stands in the way is named.
+tests it as it is installed, for x86-64-v3 or, if it is drawn, for x86-64-v2:
+
+- It passes each test of tests/vectors (library_vectors.py), and the tests of the library that need nothing of the kit.
+- Key generation, signing and verifying of 128f take at most 1.1 of the instructions of tests/instructions.txt.
+- What stands in the way of a build is named.
 
 The crates are Debian's, and no network is used. `pytest --all` also does so in a new Debian 13, by the lines of the
 page: this takes 2 GB of the folder for temporary files, and downloads 200 MB the first time.
 """
 import os
+import pathlib
+import platform
 import re
 import shutil
 import sys
 
 import pytest
 
+import library_vectors
 from packages import text_of
-from support import HERE, block_of, need, passed_by, run, succeed
+from support import HERE, TESTS, best_level, block_of, callgrind, need, passed_by, run, succeed
 
 LEAST_RUSTC = 1, 85
+MOST_INSTRUCTIONS = 1.1
 PAGE = "tools/plain_rust/README.md"
 SOURCES = ["bindings", "c", "crates", "crates.txt", "docs", "examples", "tests", "tools", "CHANGELOG.md",
            "CMakeLists.txt", "LICENSE-APACHE", "LICENSE-MIT", "README.md", "SECURITY.md", "VERSION"]
+CRATES = ["sha2", "arrayvec", "rand_core", "thiserror", "getrandom", "zeroize"]
 SKIPPED = "the library was built from source (tools/plain_rust/README.md tells what it lacks)"
+# For each target of rustc Debian's name of the machine, that of its compiler, and that of qemu.
+MACHINES = {"aarch64-unknown-linux-gnu": ("arm64", "aarch64-linux-gnu", "aarch64"),
+            "riscv64gc-unknown-linux-gnu": ("riscv64", "riscv64-linux-gnu", "riscv64"),
+            "armv7-unknown-linux-gnueabihf": ("armhf", "arm-linux-gnueabihf", "arm"),
+            "s390x-unknown-linux-gnu": ("s390x", "s390x-linux-gnu", "s390x")}
+# Unpacks rustc's library for the machine $0. The packages that Debian installs with it are for programs there. A list of
+# packages that the mirror lacks for the machine is not needed.
+UNPACK = """
+version=$(dpkg-query -W -f '${Version}' libstd-rust-dev)
+mkdir -p "$0" && cd "$0"
+dpkg --add-architecture "$0"
+apt-get -q update || true
+apt-get -q -o APT::Sandbox::User=root download "libstd-rust-dev:$0=$version"
+dpkg --remove-architecture "$0"
+dpkg-deb -x libstd-rust-dev_*.deb /
+"""
 PROGRAM = """#include <slh.h>
 #include <stdio.h>
 int main(void) {
@@ -37,7 +62,7 @@ def need_rust():
     version = re.search(r"(\d+)\.(\d+)", succeed("rustc", "--version").decode())
     if tuple(map(int, version.groups())) < LEAST_RUSTC:
         pytest.skip("rustc is older than 1.85 (Debian 13 has it in the package rustc)")
-    for crate in ("sha2", "arrayvec", "rand_core", "thiserror"):
+    for crate in CRATES:
         if not os.path.exists("/usr/share/cargo/registry") or not [
                 it for it in os.listdir("/usr/share/cargo/registry") if re.match(rf"{crate}-\d", it)]:
             pytest.skip(f"there is no {crate} (to be had by librust-{crate.replace('_', '-')}-dev)")
@@ -51,13 +76,60 @@ def installs(*words, **options):
 # ---- the library
 
 
+def levels():
+    """The levels for which the library is built: one of them is drawn. Other machines have none."""
+    if platform.machine() != "x86_64":
+        return ["default"]
+    return ["x86-64-v3", "x86-64-v2"] if best_level() >= 3 else ["x86-64-v2"]
+
+
+@pytest.fixture(scope="module", params=[
+    pytest.param(it, marks=pytest.mark.drawn("the level of plain Rust", "level")) for it in levels()])
+def level(request):
+    return request.param
+
+
 @pytest.fixture(scope="module")
-def prefix(tmp_path_factory):
+def prefix(level, tmp_path_factory):
     need_rust()
     folder = tmp_path_factory.mktemp("source") / "prefix"
-    outcome = installs(folder, env={**os.environ, "CARGO_BUILD_JOBS": "2"})
+    flags = {} if level == "default" else {"RUSTFLAGS": f"-C target-cpu={level}"}
+    outcome = installs(folder, env={**os.environ, "CARGO_BUILD_JOBS": "2", **flags})
     assert outcome.status == 0, text_of(outcome)[-4000:]
     return folder
+
+
+def rows():
+    """The tests of tests/vectors, each a case by its file and its number there. Its kind is not in the name, so that
+    `-k verify`, which takes seconds elsewhere, builds no library here."""
+    for file, number, test in library_vectors.all_tests():
+        name = pathlib.Path(file).stem.removeprefix("slh-dsa-sha2-").replace("smoke", "few")
+        yield pytest.param(test, id=f"{name} {number}{' faults' * (test['kind'] == 'faults')}")
+
+
+@pytest.mark.slow
+@pytest.mark.parametrize("row", rows())
+def test_row(pytestconfig, prefix, monkeypatch, row):
+    """Each test of each vector file passes. Sets whose names end in s sign by the first call alone, and with --all by
+    jobs and by digests, too: the code for these is that of the other sets."""
+    monkeypatch.setattr(library_vectors, "library", library_vectors.loaded(prefix / "lib/libslh.so"))
+    monkeypatch.setattr(library_vectors, "is_brief", not pytestconfig.option.all)
+    assert library_vectors.passes(row)
+
+
+@pytest.mark.slow
+def test_128f_takes_few_instructions(prefix, level, compiled, tmp_path):
+    """Keys, signing and verifying: at most 1.1 of those of libslh."""
+    need("valgrind", "cc")
+    table = [line.split() for line in (TESTS / "instructions.txt").read_text().splitlines()]
+    wanted = {f"{task} {of_set}": int(count) for it, task, of_set, count in table if f"x86-64-{it}" == level}
+    if not wanted:
+        pytest.skip(f"tests/instructions.txt has no counts for {level} (only for x86-64)")
+    program = compiled("instructions", "-std=c11", "-O1", "-I", HERE / "c/include",
+                       TESTS / "library_instructions.c", prefix / "lib/libslh.a")
+    counted = dict(callgrind(tmp_path, program)[1])
+    ratios = {it: counted[it] / wanted[it] for it in ("keygen 128f", "sign 128f", "verify 128f")}
+    assert max(ratios.values()) <= MOST_INSTRUCTIONS, ratios
 
 
 @pytest.mark.slow
@@ -136,6 +208,45 @@ def test_debian_13_builds_the_source_package(debian_13):
     debian_13.succeed("bash", "-e", "-c", "cd package && lintian --allow-root --fail-on error -- *.changes")
 
 
+def cargo_there(root, *words):
+    """Runs cargo in the workspace, which is written if it is not there."""
+    script = """
+    [ -e rust ] || { mkdir -p rust/.cargo && tools/plain_rust.py rust/plain_rust; }
+    printf '[source.crates-io]\nreplace-with = "debian"\n[source.debian]\ndirectory = "/usr/share/cargo/registry"\n' \
+        >rust/.cargo/config.toml
+    cd "rust/plain_rust/$0" && cargo "$@" --offline
+    """
+    root.succeed("bash", "-e", "-c", script, *words)
+
+
+def test_debian_13_compiles_the_crate_for_no_system(debian_13):
+    """For WebAssembly, without `std`. Nothing runs."""
+    debian_13.install("libstd-rust-dev-wasm32")
+    cargo_there(debian_13, "slh", "check", "--no-default-features", "--features", "zeroize", "--target",
+                "wasm32-unknown-unknown")
+
+
+def test_debian_13_has_the_traits_of_signature(debian_13):
+    """The tests of the crate slh-signature pass over the crate from source."""
+    debian_13.install("librust-signature-dev")
+    cargo_there(debian_13, "slh-signature", "test")
+
+
+@pytest.mark.emulator
+@pytest.mark.parametrize("target", MACHINES)
+def test_debian_13_builds_a_library_for_another_machine(debian_13, target):
+    """By Debian's rustc, with its library for that machine, and qemu runs the vectors. On s390x numbers begin with their
+    highest byte."""
+    machine, compiler, emulator = MACHINES[target]
+    debian_13.install(f"gcc-{compiler}", f"libc6-dev-{machine}-cross", "qemu-user")
+    debian_13.succeed("bash", "-e", "-c", UNPACK, machine)
+    debian_13.succeed("tools/library.sh", "--from-source", "--target", target, f"/slh/{machine}")
+    debian_13.succeed(f"{compiler}-gcc", "-std=c99", "-O1", "-static", "-I", f"{machine}/include",
+                      "tests/target_calls.c", f"{machine}/lib/libslh.a", "-o", f"{machine}/calls")
+    assert passed_by(debian_13.run("python3", "tests/library_vectors.py", "--through",
+                                   f"qemu-{emulator} {machine}/calls", "tests/vectors"))
+
+
 # ---- missing tools and crates
 
 
@@ -193,5 +304,5 @@ def test_crates_that_are_not_found(tmp_path):
     need_rust()
     env = {**os.environ, "SLH_CRATES": str(tmp_path), "CARGO_HOME": str(tmp_path / "cargo"), "CARGO_NET_OFFLINE": "true"}
     outcome = installs(tmp_path / "prefix", env=env)
-    assert is_refused(outcome, "cargo does not find the crates sha2 arrayvec rand_core thiserror (Debian: librust-sha2-dev",
+    assert is_refused(outcome, f"cargo does not find the crates {' '.join(CRATES)} (Debian: librust-sha2-dev",
                       tmp_path / "prefix")

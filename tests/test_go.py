@@ -34,6 +34,27 @@ func main() {{
 	}}
 }}
 """
+# The calls that begin with no key.
+VERIFIES = f"""package main
+
+import (
+	"fmt"
+
+	"{GO_MODULE}"
+)
+
+func main() {{
+	_, generated := slh.Generate(nil, slh.SHA2_128f)
+	_, taken := slh.NewPublicKey(slh.SHA2_128f, make([]byte, 32))
+	verified := slh.VerifyMany([]slh.Signed{{{{Key: &slh.PublicKey{{}}}}}})
+	fmt.Printf("%v\\n%v\\n%v\\n%v\\n", generated, taken, verified[0], slh.SHA2_128f.SelfTest())
+	_, parsed := slh.ParseSecretKey([]byte("slh-dsa-secret 2\\n"))
+	_, named := slh.ParseSet("128f")
+	fmt.Printf("%v\\n%v\\n", parsed, named)
+}}
+"""
+WITHOUT_CGO = ("slh: this program was built without cgo, and so without libslh: set CGO_ENABLED=1, and install a C"
+               " compiler")
 
 pytestmark = pytest.mark.slow
 
@@ -74,11 +95,12 @@ def page(env, tmp_path_factory):
     """The folder of a module over the package, as a user has it."""
     folder = tmp_path_factory.mktemp("page")
     (folder / "main.go").write_text(f'package main\n\nimport _ "{GO_MODULE}"\n\nfunc main() {{}}\n')
-    for name in "erased", "level", "self_test":
+    for name in "erased", "level", "self_test", "verifies":
         (folder / name).mkdir()
     shutil.copy(HERE / "bindings/tests/erased.go", folder / "erased/main.go")
     (folder / "level/main.go").write_text(LEVEL)
     (folder / "self_test/main.go").write_text(SELF_TEST)
+    (folder / "verifies/main.go").write_text(VERIFIES)
     version = (HERE / "VERSION").read_text().strip()
     succeed("go", "mod", "init", "page", cwd=folder, env=env)
     succeed("go", "mod", "edit", "-require", f"{GO_MODULE}@v{version}", "-replace", f"{GO_MODULE}={PACKAGE}",
@@ -110,6 +132,19 @@ def test_build_without_the_library_names_what_to_set(env, page):
                             env=bare)
 
 
-def test_build_without_cgo_names_what_to_set(env, page):
-    assert refuses_to_build("set_CGO_ENABLED_to_1_and_install_a_C_compiler", "go", "build", "-o", page / "none", ".",
-                            cwd=page, env={**env, "CGO_ENABLED": "0"})
+def test_header_with_another_number_is_refused(env, page, installed, tmp_path):
+    """The package has the numbers of its own, so that it can be built without the header."""
+    shutil.copytree(installed / "include", tmp_path / "include")
+    header = tmp_path / "include/slh_verify.h"
+    text = header.read_text()
+    header.write_text(text.replace("SLH_CONTEXT_TOO_LONG = 2,", "SLH_CONTEXT_TOO_LONG = 7,"))
+    assert header.read_text() != text
+    assert refuses_to_build("out of bounds", "go", "build", "-o", page / "none", ".", cwd=page,
+                            env={**env, "CGO_CFLAGS": f"-I{tmp_path}/include"})
+
+
+def test_program_without_cgo_says_what_is_missing(env, page):
+    """It is built, as part of a larger program may be, and the first call of the package names what to set."""
+    bare = {**env, "CGO_ENABLED": "0", "CGO_CFLAGS": "", "CGO_LDFLAGS": ""}
+    succeed("go", "build", "-o", page / "without_cgo", "./verifies", cwd=page, env=bare)
+    assert succeed(page / "without_cgo").decode().splitlines() == [WITHOUT_CGO] * 5 + ['slh: 12 UnknownSet: "128f"']

@@ -56,10 +56,14 @@ def test_unknown_words_are_refused(of_kit, words):
 
 
 @pytest.mark.parametrize("words, files", [
-    (["x86-64-v4"], {"lanes": "3 2", "word": "-march=x86-64-v4", "size": "fast", "rules": ""}),
+    (["x86-64-v4"], {"lanes": "3 2", "word": "-march=x86-64-v4", "size": "fast",
+                     "rules": "for_single_x86.sed for_pads_x86.sed"}),
     (["wasm64", "1", "small"], {"lanes": "0 0", "word": "-msimd128", "size": "small"}),
-    (["aarch64-sha256"], {"lanes": "4 0", "word": "-march=armv8-a+sha2", "rules": "for_sha256_arm.sed"}),
-    (["aarch64", "8", "module"], {"lanes": "2 2", "word": "module", "size": "fast", "rules": ""})], ids=lambda it: " ".join(it))
+    (["aarch64-sha256"], {"lanes": "4 0", "word": "-march=armv8-a+sha2",
+                          "rules": "for_sha256_arm.sed for_pads_arm.sed"}),
+    (["windows-x86-64-v2"], {"rules": "for_single_x86.sed"}),
+    (["x86-64-v2-sha"], {"lanes": "4 1", "word": "-msha"}),
+    (["aarch64", "8", "module"], {"lanes": "2 2", "word": "module", "size": "fast", "rules": "for_pads_arm.sed"})], ids=lambda it: " ".join(it))
 def test_toolchain_has_what_the_compiler_reads(of_kit, tmp_path, words, files):
     """Its compiler is tools/clang.sh, and all else is the kit's."""
     folder = tmp_path / "made"

@@ -47,6 +47,7 @@ store <4 x i32> splat (i32 7), ptr %r0, align 16
 %r1 = icmp eq ptr %r0, null
 %r1 = add nuw i64 %r0, 1
 %r1 = trunc i64 %r0 to i32
+%r1 = bitcast <16 x i1> %r0 to i16
 ret { ptr, i64 } %r1
 %r1 = call { ptr, i64 } @"slh_core::keys::it"(ptr %r0, i64 3)
 switch i8 %r1, label %a [
@@ -73,6 +74,7 @@ store ptr null, ptr %r0, align 8
 %r1 = extractvalue { i8, { ptr, i64 } } %r0, 1
 %r1 = phi ptr [ %r0, %a ], [ %r2, %b ]
 %r1 = bitcast i64 %r0 to <2 x i32>
+%r1 = bitcast <64 x i1> %r0 to ptr
 %r1 = insertelement <2 x ptr> poison, ptr %r0, i64 0
 %r1 = call i32 %r0(ptr %r2)
 %r1 = tail call i32 @f(ptr %r2)

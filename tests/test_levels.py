@@ -1,12 +1,14 @@
-"""Tests that the library for C of all levels of x86-64 runs the code for the best level that processor and system have:
-the choice for each processor of processors.h, and for one that lacks one thing; tests/vectors/ by each level; 64
-threads whose first calls come at once; and lesser processors, which qemu-x86_64 emulates.
+"""Tests that the library for C of all levels of x86-64 runs the code for the best level that processor and system have,
+and the SHA instructions where the processor has them: the choice for each processor of processors.h, and for one that
+lacks one thing; tests/vectors/ by each level and by SHA instructions; 64 threads whose first calls come at once; and
+other processors, which qemu-x86_64 emulates.
 
 The library is linked with names of its own made weak, so that a program can answer in place of the processor. SLH_SEED
 draws the processor whose code is tried by the vectors.
 """
 import ctypes
 import os
+import pathlib
 import sys
 
 import pytest
@@ -22,6 +24,9 @@ ARCHIVES = {"libslh.a": 2, **{f"libslh-v{it}.a": it for it in LEVELS}}
 PROCESSORS = {"nehalem": 2, "haswell": 3, "skylake": 4, "skylake whose system saves no zmm": 3}
 # Processors below x86-64-v2. Most of them lack one of its features alone.
 BELOW_V2 = ["core2duo", "kvm64", *(f"Nehalem,-{it}" for it in "pni ssse3 cx16 sse4-1 sse4-2 popcnt lahf-lm".split())]
+# Emulated processors with SHA instructions, and such without of the same level. qemu emulates none of x86-64-v4.
+WITH_SHA = {"denverton": ("Denverton", "Nehalem", 2), "epyc": ("EPYC", "Haswell", 2),
+            "epyc-rome": ("EPYC-Rome", "Haswell", 3)}
 VALID, ILLEGAL = Outcome(0, b"valid\n"), -4
 # A program that verifies and has all calls.
 BESIDE = """\
@@ -75,6 +80,11 @@ def example(linked):
 def letter(tmp_path):
     (tmp_path / "letter").write_text("a letter\n")
     return tmp_path / "letter"
+
+
+def has_sha():
+    """Whether this processor has SHA instructions, in Linux's judgement."""
+    return " sha_ni" in pathlib.Path("/proc/cpuinfo").read_text()
 
 
 # ---- the choice
@@ -156,6 +166,52 @@ def test_processor_below_v2_is_refused(emulated, level_of, example, lib, letter,
 def test_emulated_processor_signs(emulated, level_of, example, lib, letter, name, level):
     assert emulated(name, level_of(lib / "libslh.a")).status == level
     assert emulated(name, example(lib / "libslh.a"), letter).output == VALID.output
+
+
+@pytest.fixture(scope="module")
+def emulated_with_sha():
+    """Runs a program on an emulated processor, by an emulator that knows SHA instructions."""
+    return lambda name, *words, **options: run(*machines.qemu_with_sha(name), *words, **options)
+
+
+@pytest.mark.parametrize("archive", [pytest.param(it, marks=EMULATED) for it in [*ARCHIVES][:3]])
+def test_processor_with_sha_instructions_signs(emulated_with_sha, example, lib, letter, archive):
+    assert emulated_with_sha("EPYC-Rome", example(lib / archive), letter).output == VALID.output
+
+
+@pytest.mark.parametrize("name", [
+    pytest.param(it, marks=[*EMULATED, pytest.mark.drawn("the processor with SHA instructions", "name")])
+    for it in WITH_SHA])
+def test_vectors_by_sha_instructions(pytestconfig, linked, lib, emulated_with_sha, level_of, name):
+    emulates, _, level = WITH_SHA[name]
+    assert emulated_with_sha(emulates, level_of(lib / "libslh.a")).status == level
+    program = linked("-std=c11", *STRICT, TESTS / "target_calls.c", lib / "libslh.a")
+    machines.vectors_through(pytestconfig, *machines.qemu_with_sha(emulates), program)
+
+
+@pytest.mark.parametrize("name", [pytest.param(it, marks=EMULATED) for it in WITH_SHA])
+def test_sha_instructions_run_if_chosen(emulated_with_sha, linked, weak, letter, name):
+    """A processor without them signs by the choice for such a one, and ends at an illegal instruction by the other: so
+    they ran elsewhere in these tests. One that has them signs by either choice."""
+    emulates, without, _ = WITH_SHA[name]
+    program = linked(HERE / "examples/sign_file.c", TESTS / "forced_level.c", weak)
+
+    def outcome(emulated, choice):
+        return emulated_with_sha(emulated, program, letter, env={**os.environ, "PROCESSOR": choice})
+
+    assert outcome(without, without.lower()).output == VALID.output
+    assert outcome(without, name).status == ILLEGAL
+    assert outcome(emulates, without.lower()).output == outcome(emulates, name).output == VALID.output
+
+
+@pytest.mark.slow
+def test_sha_instructions_run_at_the_highest_level(linked, weak, letter):
+    """By x86-64-v4, which no emulator has: a processor without them ends at an illegal instruction, and one that has
+    them signs."""
+    need_level(4)
+    program = linked(HERE / "examples/sign_file.c", TESTS / "forced_level.c", weak)
+    done = run(program, letter, env={**os.environ, "PROCESSOR": "skylake with SHA instructions"})
+    assert done == VALID if has_sha() else done.status == ILLEGAL
 
 
 @pytest.mark.parametrize("other", [pytest.param(it, marks=EMULATED) for it in ("haswell", "skylake")])

@@ -9,7 +9,8 @@ import sys
 import pytest
 
 from conftest import STRICT, chosen_release, is_from_source
-from machines import LIBRARY_CALLS, OF_C, VERIFY_CALLS, counted, numbers_are_those_of, of_kind, symbols
+from machines import (LIBRARY_CALLS, OF_C, VERIFY_CALLS, counted, first_instructions, notes, numbers_are_those_of,
+                      of_kind, symbols)
 from support import HERE, SANITIZED, TESTS, VECTORS, need, run, succeed, tool_of
 
 CC, CXX = tool_of("cc"), tool_of("g++")
@@ -90,6 +91,34 @@ def test_shared_object_has_its_name(lib):
     need("readelf")
     assert re.search(r"SONAME.*\[libslh\.so\.0\]", succeed("readelf", "-d", lib / "libslh.so.0").decode())
     assert (lib / "libslh.so").readlink().name == str((lib / "libslh.so").readlink()) == "libslh.so.0"
+
+
+def test_shared_object_has_a_build_id(lib):
+    """Debuggers find its symbols by it."""
+    need("readelf")
+    assert re.search(r"Build ID: [0-9a-f]{40}$", notes("readelf", lib / "libslh.so.0"), re.M)
+
+
+@pytest.mark.usefixtures("built_by_the_kit")
+@pytest.mark.parametrize("file", ["libslh.so.0", "libslh.a", "libslh-v2.a", "libslh-v3.a", "libslh-v4.a",
+                                  "libslh_verify.a"])
+def test_code_is_marked_for_ibt_and_a_shadow_stack(lib, file):
+    """The linker marks what it makes only if each object is."""
+    need("readelf")
+    assert "Properties: x86 feature: IBT, SHSTK" in notes("readelf", lib / file)
+
+
+@pytest.mark.usefixtures("built_by_the_kit")
+def test_indirect_branches_find_pads(lib):
+    """A call begins with a pad. Inside, indirect branches go to C's functions, by the loader's table, or go by a table
+    of jumps, which an exemption marks."""
+    need("objdump")
+    first = first_instructions("objdump", lib / "libslh.so.0")
+    assert {it: first[it] for it in LIBRARY_CALLS} == dict.fromkeys(LIBRARY_CALLS, "endbr64")
+    text = succeed("objdump", "-d", "--no-show-raw-insn", lib / "libslh.so.0").decode()
+    branches = re.findall(r"\t((?:notrack )?(?:call|jmp) +\*.*)", text)
+    assert branches
+    assert [it for it in branches if not re.match(r"notrack jmp +\*%|(call|jmp) +\*0x[0-9a-f]+\(%rip\)", it)] == []
 
 
 @pytest.mark.usefixtures("built_by_the_kit")

@@ -15,7 +15,7 @@ import typing
 
 import pytest
 
-from support import HERE, free_port, need, run, succeed
+from support import HERE, free_port, need, succeed
 
 PROGRAMS = ["openssl", "nginx-light", "apache2", "haproxy", "lighttpd", "lighttpd-mod-openssl", "stunnel4", "curl",
             "wget", "python3", "python3-cryptography", "nodejs", "php-cli", "ruby", "osslsigncode", "sbsigntool",

@@ -3,22 +3,21 @@ crates, which cargo builds without the kit. The sources are tested, whatever rel
 
 - Small texts become what a table states, and constructs that are not known are refused.
 - tests/plain_rust_check.py compares the result with the sources, and refuses the results of wrong generators.
-- `cargo clippy` and `cargo doc` warn of nothing, and `cargo test` passes. The module of vectors gives what arrays give,
-  at each level of x86-64 that this processor has. Key files are as they are written by hand.
-- The library for C that cargo builds for a level passes each test of tests/vectors (library_vectors.py).
-- Key generation, signing and verifying of 128f take at most 1.1 of the instructions of tests/instructions.txt.
-- The package for Rust passes tests of its calls without a library for C.
+- `cargo clippy` warns of nothing with each feature alone and with all, `cargo doc` with all. `cargo package` makes a
+  small package.
+- The module of vectors gives what arrays give, at each level of x86-64 that this processor has.
+- The package, compiled for the oldest processor, passes its tests. Code for AVX2 runs if the processor has it. Nothing
+  that was erased is in the memory of a program.
 
-The last three are run for x86-64-v3 or, if it is drawn, for x86-64-v2. No network is used: cargo takes Debian's
-packages of the crates. The first case writes the workspace and builds it, for a minute. Both stay in out/tests, by what
-they are made of.
+test_from_source.py tests the library for C. No network is used: cargo takes Debian's packages of the crates. The
+workspace and what cargo builds in it stay in out/tests, by what they are made of.
 """
 import hashlib
 import importlib.util
 import json
 import os
 import pathlib
-import platform
+import random
 import re
 import shutil
 import sys
@@ -26,18 +25,33 @@ import typing
 
 import pytest
 
-import library_vectors
 from conftest import cache_folder, make_once
-from packages import count_tests
-from support import HERE, TESTS, best_level, callgrind, need, need_level, run, succeed
+from packages import check_memory, count_tests, is_key_file, with_another_root
+from support import HERE, TESTS, callgrind, need, need_level, run, succeed
 
 DEBIAN = pathlib.Path("/usr/share/cargo/registry")
-CRATES = ["sha2", "arrayvec", "rand_core", "thiserror"]
+CRATES = ["sha2", "arrayvec", "rand_core", "thiserror", "getrandom", "zeroize"]
 LEAST_RUSTC = 1, 85
-MOST_INSTRUCTIONS = 1.1
+MOST_PACKED = 400_000
+MOST_UNSAFE_LINES = 400
 # What the workspace is made of. The folders are searched for all that no build has left there.
 MADE_OF = ["VERSION", "bindings", "c", "crates", "tools/plain_rust", "tools/plain_rust.py"]
 LEFT_BY_BUILDS = {"out", "target", "node_modules", "__pycache__"}
+# The status of a program that an instruction ended which the processor lacks.
+ILLEGAL = -4
+# Programs of a user, as examples of the crate: that of bindings/tests, and one that asks for self-tests.
+ERASED = HERE / "bindings/tests/erased.rs"
+SELF_TEST = """use slh::{Error, ParameterSet, SlhDsaSha2_128f, SlhDsaSha2_192f};
+fn main() {
+    for result in [SlhDsaSha2_192f::self_test(), SlhDsaSha2_128f::self_test()] {
+        match result {
+            Ok(()) => println!("passed"),
+            Err(error @ Error::SelfTestFailed) => println!("{error}"),
+            Err(error) => panic!("another error: {error}"),
+        }
+    }
+}
+"""
 # What cargo says of tests that passed, with their number.
 OF_CARGO = r"^test result: ok\. (\d+) passed; 0 failed;"
 
@@ -57,6 +71,7 @@ check = module(TESTS / "plain_rust_check.py")
 # ---- small texts
 
 
+OF_ALLOC = '#[cfg(feature = "alloc")] '
 BECOMES = [
     ("clauses",
      "fn f(x: u8) -> u8\n    requires small { x < 2 }\n    ensures { result ≡ x } by { refl }\n{\n    x\n}\n",
@@ -91,8 +106,11 @@ BECOMES = [
      "use crate::slh_few::a;\nuse crate::slh_hash::{b};\npub(crate) use crate::slh_few::c;\n"),
     ("a clone of an allocator", "let x = f(alloc.clone()?, y)?;\n", "let x = f(alloc.clone(), y)?;\n"),
     ("memory", "use std::alloc::AllocError;\nuse std::alloc::{AllocError, Allocator};\nfn f() { hex::encode(a) }\n",
-     "use crate::memory::AllocError;\nuse crate::memory::{AllocError, Allocator, String, Vec};\n"
+     f"{OF_ALLOC}use crate::memory::AllocError;\n{OF_ALLOC}use crate::memory::{{AllocError, Allocator, String, Vec}};\n"
      "fn f() { crate::memory::hex::encode(a) }\n"),
+    ("items that take memory", "pub use key_text::f;\nmod key_text;\nmod lines;\nimpl From<AllocError> for A {\n}\n",
+     f"{OF_ALLOC}pub use key_text::f;\n{OF_ALLOC}mod key_text;\nmod lines;\n"
+     f"{OF_ALLOC}impl From<AllocError> for A {{\n}}\n"),
     ("vectors and names of core", "use std::simd::prelude::*;\nuse std::str;\n",
      "use crate::vectors::*;\nuse core::str;\n"),
     ("random generators", "use rand_core::Rng;\nfn f<R: Rng>() {}\n",
@@ -126,13 +144,40 @@ REFUSED = [
 ]
 
 
+# The same of files of slh_lanes.
+OF_LANES = [
+    ("vectors have a level", "impl<const N: usize> Lanes for Simd<u32, N> {}\n",
+     "impl<const N: usize, L: Level> Lanes for Simd<u32, N, L> {}\n"),
+    ("kernels",
+     "mod a;\nfn f() { rounds::compress(x); run::<TwoWords, Rounds>(x); }\n"
+     "fn g() { compress_part::<LongWords, u64x4, Rounds>(x) }\n",
+     "pub(crate) mod a;\nfn f() { crate::levels::compress(x); crate::levels::run(x); }\n"
+     "fn g() { crate::levels::compress_four(x) }\n"),
+    ("functions that are inlined", "pub(crate) fn run<W: A, C: B<W>>() {}\nfn compress_part<G, W>() {}\n",
+     "#[inline(always)] pub(crate) fn run<W: A, C: B<W>>() {}\n"
+     "#[inline(always)] pub(crate) fn compress_part<G, W>() {}\n"),
+    ("calls of the build's level",
+     "fn f() { run_part::<u32x4, Rounds>(x); run_singles::<Rounds>(x); run::<W, C>(x) }\n",
+     "fn f() { run_part::<u32x4, Rounds>(x); run_singles::<Rounds>(x); run::<W, C>(x) }\n"),
+]
+
+REFUSED_OF_LANES = [
+    ("chains of other vectors", "fn f() { run::<u32x8, Rounds>(x) }\n"),
+    ("a part of other vectors", "fn f() { run_part::<u32x8, Rounds>(x) }\n"),
+    ("another function by rounds", "fn f() { hash::<Rounds>(x) }\n"),
+    ("another function of the rounds", "fn f() { rounds::begin(x) }\n"),
+    ("a name of a function of the rounds", "use crate::rounds::compress;\n"),
+    ("another name of the rounds", "use crate::rounds::Rounds as R;\n"),
+]
+
+
 def named(table):
     """The rows of a table as cases, each by its name."""
     return [pytest.param(*row, id=name) for name, *row in table]
 
 
-def plain(text):
-    return generator.plain(text, generator.Source("slh_few", "source"))[0].split("\n", 1)[1]
+def plain(text, crate="slh_few"):
+    return generator.plain(text, generator.Source(crate, "source"))[0].split("\n", 1)[1]
 
 
 @pytest.mark.parametrize("text, wanted", named(BECOMES))
@@ -146,6 +191,18 @@ def test_as_plain_rust(text, wanted):
 def test_unknown_construct_is_refused(text):
     with pytest.raises(generator.Refused):
         plain(text)
+
+
+@pytest.mark.parametrize("text, wanted", named(OF_LANES))
+def test_lanes_as_plain_rust(text, wanted):
+    assert "".join(plain(text, "slh_lanes").split()) == "".join(wanted.split())
+
+
+@pytest.mark.parametrize("text", named(REFUSED_OF_LANES))
+def test_unknown_use_of_the_rounds_is_refused(text):
+    """It could be one that should run by AVX2."""
+    with pytest.raises(generator.Refused):
+        plain(text, "slh_lanes")
 
 
 # ---- the workspace
@@ -185,11 +242,19 @@ def content():
 
 
 def write_workspace(folder):
-    """Writes the workspace. Its tests read the version and the vectors of the repository, above it."""
+    """Writes the workspace. Its tests read the version and the vectors of the repository, above it, and run `./slh`."""
     (folder / "out").mkdir(parents=True)
     for name in "VERSION", "tests":
         (folder / name).symlink_to(HERE / name)
+    (folder / "slh").write_text(f'#!/bin/sh\nexec "{HERE}/slh" "$@"\n')
+    (folder / "slh").chmod(0o755)
     succeed(sys.executable, HERE / "tools/plain_rust.py", "--counts", folder / "counts.json", folder / "out/plain_rust")
+    crate = folder / "out/plain_rust/slh"
+    shutil.copy(ERASED, crate / "examples")
+    (crate / "examples" / "self_test.rs").write_text(SELF_TEST)
+    with open(crate / "Cargo.toml", "a") as manifest:
+        for name in "erased", "self_test":
+            manifest.write(f'\n[[example]]\nname = "{name}"\nrequired-features = ["std"]\n')
     (folder / ".cargo").mkdir()
     (folder / ".cargo/config.toml").write_text(
         f'[source.crates-io]\nreplace-with = "debian"\n[source.debian]\ndirectory = "{DEBIAN}"\n')
@@ -223,6 +288,14 @@ def test_result_is_the_sources_without_ghosts(workspace):
     assert compared and not found
 
 
+def test_layout(workspace):
+    """Of the files that are copied. In lib.rs rustfmt does not find the modules."""
+    folders = ["bindings/rust/slh", "bindings/rust/slh-signature", "tools/plain_rust/slh"]
+    files = [it for folder in folders for it in (HERE / folder).rglob("*.rs") if not LEFT_BY_BUILDS & {*it.parts}]
+    files.remove(HERE / "bindings/rust/slh/src/lib.rs")
+    succeed("rustfmt", "--edition", "2024", "--check", "--config-path", HERE / "bindings/rust", *sorted(files))
+
+
 def test_links_of_the_page_lead_somewhere(workspace):
     """They lead on from a folder three below the top, as dist/rust/slh and out/plain_rust/slh are."""
     links = re.findall(r"\]\((\.\./[^)#]+)", (workspace.out / "slh/README.md").read_text())
@@ -245,7 +318,11 @@ WRONG = [
     ("a derived drop is left in", "#[derive(Debug, Error)]", "#[derive(Debug, Drop, Error)]"),
     ("a path leads to another crate", "crate::slh_few::context", "crate::slh_tree::context"),
     ("a path has the rule twice", "crate::slh_few::wots", "crate::slh_few::slh_few::wots"),
-    ("a width is the other one", "short: crate::vectors::SHORT", "short: crate::vectors::LONG"),
+    ("a width is the other one", "short: crate::levels::short()", "short: crate::levels::long()"),
+    ("a level is lost", "Simd<u32, N, L>", "Simd<u32, N>"),
+    ("another function has a level", "fn part_of_six<G", "fn part_of_six<L: Level, G"),
+    ("a part goes to the levels", "run_part::<u32x4, Rounds>", "crate::levels::run_part"),
+    ("a call does not go to the levels", "crate::levels::compress(state", "rounds::compress(state"),
     ("a block is empty", "{ DONE } else { INVALID }", "{ DONE } else { DONE }"),
     ("an argument is exchanged", "sk_seed, sk_prf", "sk_prf, sk_seed"),
     ("a doc comment is lost", "/// Draws n bytes.\n", ""),
@@ -257,16 +334,16 @@ WRONG = [
 @pytest.fixture
 def copied(workspace, tmp_path):
     """A copy of the sources of the workspace, which a test may change."""
-    shutil.copytree(workspace.out / "slh_plain/src", tmp_path / "slh_plain/src")
+    shutil.copytree(workspace.out / "slh/src", tmp_path / "slh/src")
     return tmp_path
 
 
 @pytest.mark.parametrize("lost, more", [([], ["more.rs"]), (["slh_tree.rs"], [])], ids=["too many", "too few"])
 def test_other_files_are_refused(workspace, copied, lost, more):
     for it in lost:
-        (copied / "slh_plain/src" / it).unlink()
+        (copied / "slh/src" / it).unlink()
     for it in more:
-        (copied / "slh_plain/src" / it).write_text("")
+        (copied / "slh/src" / it).write_text("")
     assert len(check.differences(copied, workspace.counts, HERE)[1]) == 1
 
 
@@ -274,7 +351,7 @@ def test_other_files_are_refused(workspace, copied, lost, more):
 def test_wrong_result_is_refused(workspace, copied, old, new):
     """A result in which something is another one."""
     files = check.sources_of(HERE, sorted({it.split("/")[1] for it in workspace.counts}))
-    paths = {it: copied / "slh_plain/src" / check.rust_of(it[0], it[2]) for it in files}
+    paths = {it: copied / "slh/src" / check.rust_of(it[0], it[2]) for it in files}
     file, path = next((it, path) for it, path in paths.items() if old in path.read_text())
     assert not check.difference(copied, workspace.counts, HERE, *file)
     path.write_text(path.read_text().replace(old, new, 1))
@@ -293,19 +370,62 @@ def finds_a_difference(crate, name):
     return dict(met) != dict(counted)
 
 
-def test_generator_that_leaves_a_word_of_a_clause_is_refused(monkeypatch):
-    right = generator.clauses
+# What is removed by a wrong generator, of the spans that the right one removes: pairs of a span and its kind.
+WRONG_SPANS = {
+    "the first word of a clause stays": lambda found: [*found[:-1], moved(found[-1], 1, 0)],
+    "the last token of a clause stays": lambda found: [*found[:-1], moved(found[-1], 0, -1)],
+    "a token more is removed": lambda found: [*found[:-1], moved(found[-1], 0, 1)],
+    "the token before a clause is removed": lambda found: [moved(it, -(it == first_clause(found)), 0) for it in found],
+    "a clause stays": lambda found: found[:-1],
+    "the first ghost stays": lambda found: found[1:],
+}
 
-    def one_token_left(tokens, pairs, place):
-        found = right(tokens, pairs, place)
-        if found:
-            (first, past, lead), kind = found[-1]
-            found[-1] = (first + 1, past, lead), kind
-        return found
 
+def first_clause(found):
+    return next(it for it in found if it[1] == "clause")
+
+
+def moved(ghost, first, past):
+    """The span of a ghost with other ends."""
+    (begin, end, lead), kind = ghost
+    return (begin + first, end + past, lead), kind
+
+
+@pytest.mark.parametrize("spans", WRONG_SPANS.values(), ids=WRONG_SPANS)
+def test_generator_with_wrong_spans_is_refused(monkeypatch, spans):
+    right = generator.ghosts
     assert not finds_a_difference("slh_tree", "paths.rt")
-    monkeypatch.setattr(generator, "clauses", one_token_left)
+    monkeypatch.setattr(generator, "ghosts", lambda tokens: spans(right(tokens)))
     assert finds_a_difference("slh_tree", "paths.rt")
+
+
+def changed(tokens, place, other, draw):
+    """The tokens with one that is lost, doubled, exchanged with the next one, or another one."""
+    it, following = tokens[place:place + 2]
+    twice = it._replace(lead=" " + it.lead)
+    new = draw.choice([[following], [it, twice, following], [it._replace(text=following.text),
+                       following._replace(text=it.text)], [it._replace(text=other.text), following]])
+    return [*tokens[:place], *new, *tokens[place + 2:]]
+
+
+def test_changed_token_is_refused(workspace):
+    """In each file one token is another one, somewhere. Commas are left out: before a bracket they are layout."""
+    draw, tried = random.Random(os.environ["SLH_SEED"]), 0
+    for crate, name, inner in check.sources_of(HERE, sorted({it.split("/")[1] for it in workspace.counts})):
+        text = (workspace.out / "slh/src" / check.rust_of(crate, inner)).read_text()
+        tokens, tail = generator.tokens_of(text)
+        place, other = draw.randrange(len(tokens) - 1), draw.choice(tokens)
+        wrong = generator.text_of(changed(tokens, place, other, draw), tail)
+        words = [[it.text for it in generator.tokens_of(of)[0]] for of in (text, wrong)]
+        if words[0] == words[1] or "," in (tokens[place].text, tokens[place + 1].text, other.text):
+            continue
+        tried += 1
+        try:
+            met = dict(check.compare(crate, name, (HERE / name).read_text(), wrong))
+        except (check.Different, ValueError, IndexError):
+            continue
+        assert met != workspace.counts[name], (name, tokens[place].line, wrong)
+    assert tried > 50
 
 
 def twice(rule):
@@ -332,6 +452,29 @@ def test_wrong_rule_is_refused(workspace, monkeypatch, rule, change):
     assert finds_a_difference(crate, name)
 
 
+def without_tests(text):
+    """The code of a file before its tests, and without comments."""
+    return re.sub(r"//.*", "", re.split(r"#\[cfg\((?:test|all\(test)", text)[0])
+
+
+def files_with(workspace, word):
+    """The files of the crate whose code has this word."""
+    source = workspace.out / "slh/src"
+    return sorted(str(it.relative_to(source)) for it in source.rglob("*.rs")
+                  if re.search(rf"\b{word}\b", without_tests(it.read_text())))
+
+
+def test_code_is_unsafe_in_one_short_module_alone(workspace):
+    """Whoever reviews unsafe code reads at most 400 lines."""
+    assert files_with(workspace, "unsafe") == ["vectors.rs"]
+    assert len((workspace.out / "slh/src/vectors.rs").read_text().splitlines()) <= MOST_UNSAFE_LINES
+
+
+def test_one_module_alone_makes_vectors_of_avx2(workspace):
+    """Its code runs only if the processor has AVX2."""
+    assert files_with(workspace, "Avx2") == ["levels.rs", "vectors.rs"]
+
+
 # ---- the crates
 
 
@@ -348,116 +491,155 @@ def crates(workspace):
     return workspace
 
 
+def with_all(pytestconfig):
+    """Skips a test that compiles the crate once more."""
+    if not pytestconfig.option.all:
+        pytest.skip("the crate is compiled once more with --all alone")
+
+
 @pytest.mark.slow
 def test_clippy_warns_of_nothing(crates):
-    own = [word for it in ("slh_plain", "slh_exports", "slh_library", "slh_verify_library", "slh-sys") for word in ("-p", it)]
-    done = crates.cargo("clippy", *own, "--features", "slh_plain/alloc", "--all-targets", "--", "-D", "warnings")
+    done = crates.cargo("clippy", "--workspace", "--features", "slh/zeroize", "--all-targets", "--", "-D", "warnings")
+    assert done.status == 0, done.errors.decode()[-4000:]
+
+
+def features():
+    """Those of the crate, but for the list of those that it has by default."""
+    text = (HERE / "bindings/rust/slh/Cargo.toml").read_text()
+    [table] = re.findall(r"^\[features\]\n((?:[^\[\n].*\n|\n)*)", text, re.M)
+    return [it for it in re.findall(r"^(\w+) =", table, re.M) if it != "default"]
+
+
+@pytest.mark.slow
+@pytest.mark.parametrize("feature", ["", *features()], ids=lambda it: it or "none")
+def test_each_feature_alone_warns_of_nothing(crates, feature):
+    done = crates.cargo("clippy", "-p", "slh", "--no-default-features", "--features", feature, "--lib", "--", "-D",
+                        "warnings")
     assert done.status == 0, done.errors.decode()[-4000:]
 
 
 @pytest.mark.slow
 def test_doc_warns_of_nothing(crates):
-    done = crates.cargo("doc", "--no-deps", "--features", "slh_plain/alloc", RUSTDOCFLAGS="-D warnings")
+    done = crates.cargo("doc", "--no-deps", "--features", "slh/zeroize", RUSTDOCFLAGS="-D warnings")
     assert done.status == 0, done.errors.decode()[-4000:]
 
 
 @pytest.mark.slow
-def test_key_files_are_read_and_written(crates):
-    done = crates.cargo("test", "-p", "slh_plain", "--features", "alloc", "--test", "key_files")
-    assert count_tests(done, OF_CARGO) == 3
+def test_package_is_small(pytestconfig, crates):
+    """`cargo package` makes and builds it: of sources alone, which are below 400 KB when packed."""
+    with_all(pytestconfig)
+    done = crates.cargo("package", "-p", "slh", "--allow-dirty")
+    assert done.status == 0, done.errors.decode()[-4000:]
+    [packed] = (crates.out / "target/package").glob("slh-*.crate")
+    assert packed.stat().st_size < MOST_PACKED
+    names = [it.split("/", 1)[1] for it in succeed("tar", "tzf", packed).decode().split()]
+    texts = {"README.md", "LICENSE-APACHE", "LICENSE-MIT"}
+    of_cargo = {"Cargo.toml", "Cargo.toml.orig", "Cargo.lock", ".cargo_vcs_info.json"}
+    assert texts <= {*names} <= {*texts, *of_cargo, *(it for it in names if re.fullmatch(r"src/[a-z0-9_/]+\.rs", it))}
+
+
+@pytest.fixture(scope="module")
+def lanes(crates):
+    """Compiles the program that compares vectors with arrays, once for a level: lanes(LEVEL) is its path."""
+    def compiles(level):
+        path = crates.folder / f"lanes-{level}"
+        if not path.exists():
+            succeed("rustc", "--edition", "2024", "--test", "-O", "-C", f"target-cpu=x86-64-v{level}", "-o", path,
+                    crates.out / "slh/tests/lanes.rs")
+        return path
+
+    return compiles
 
 
 @pytest.mark.slow
 @pytest.mark.parametrize("level", [2, 3, 4])
-def test_vectors_are_arrays(crates, tmp_path, level):
+def test_vectors_are_arrays(lanes, level):
     need_level(level)
-    succeed("rustc", "--edition", "2024", "--test", "-O", "-C", f"target-cpu=x86-64-v{level}", "-o",
-            tmp_path / "vectors", crates.out / "slh_plain/tests/vectors.rs")
-    assert count_tests(run(tmp_path / "vectors"), OF_CARGO) == 10
+    assert count_tests(run(lanes(level)), OF_CARGO) == 18
 
 
-# ---- the library and the package, for a level
+# ---- the package, for the oldest processor
 
 
-def levels():
-    """The levels for which a library is built: one of them is drawn. Other machines have none."""
-    if platform.machine() != "x86_64":
-        return ["default"]
-    return ["x86-64-v3", "x86-64-v2"] if best_level() >= 3 else ["x86-64-v2"]
+@pytest.mark.slow
+def test_package_passes_its_tests(crates):
+    """Compiled for the oldest processor: code for AVX2 runs if this one has it. The vectors and the lines of the page
+    are among them."""
+    count_tests(crates.cargo("test", "--release", "-p", "slh", "--features", "zeroize"), OF_CARGO)
 
 
-BY_LEVEL = pytest.mark.parametrize("level", [
-    pytest.param(it, marks=pytest.mark.drawn("the level of plain Rust", "level")) for it in levels()], scope="module")
-
-
-def for_level(folder, level):
-    """The environment in which cargo builds for a level: its folder, and the words for rustc."""
-    flags = {} if level == "default" else {"RUSTFLAGS": f"-C target-cpu={level}"}
-    return {"CARGO_TARGET_DIR": str(folder / f"target-{level}"), **flags}
+@pytest.mark.slow
+def test_traits_of_signature_pass_their_tests(crates):
+    if not [*DEBIAN.glob("signature-2*")]:
+        pytest.skip("there is no signature 2 (to be had by Debian 13's package librust-signature-dev)")
+    manifest = crates.out / "slh-signature/Cargo.toml"
+    count_tests(crates.cargo("test", "--manifest-path", manifest, RUSTFLAGS="-Dwarnings"), OF_CARGO)
 
 
 @pytest.fixture(scope="module")
-def built(crates):
-    """Builds the library for C for a level, once: built(LEVEL) is the folder that has it."""
-    folders = {}
-
-    def builds(level):
-        if level not in folders:
-            done = crates.cargo("build", "--release", "-p", "slh_library", **for_level(crates.folder, level))
-            assert done.status == 0, done.errors.decode()[-4000:]
-            folders[level] = crates.folder / f"target-{level}" / "release"
-        return folders[level]
-
-    return builds
+def examples(crates):
+    """The folder of the example of the package, and of the programs of a user."""
+    done = crates.cargo("build", "--release", "-p", "slh", "--features", "zeroize", "--examples")
+    assert done.status == 0, done.errors.decode()[-4000:]
+    return crates.out / "target/release/examples"
 
 
-def rows():
-    """The tests of tests/vectors, each a case by its file and its number there. Its kind is not in the name, so that
-    `-k verify`, which takes seconds elsewhere, builds no library here."""
-    for file, number, test in library_vectors.all_tests():
-        name = pathlib.Path(file).stem.removeprefix("slh-dsa-sha2-").replace("smoke", "few")
-        yield pytest.param(test, id=f"{name} {number}{' faults' * (test['kind'] == 'faults')}")
+@pytest.fixture
+def example(examples):
+    """The example, which signs a file."""
+    return examples / "sign_threads"
 
 
 @pytest.mark.slow
-@BY_LEVEL
-@pytest.mark.parametrize("row", rows())
-def test_row(built, monkeypatch, level, row):
-    """Each test of each vector file passes by the library for C."""
-    monkeypatch.setattr(library_vectors, "library", library_vectors.loaded(built(level) / "libslh.so"))
-    assert library_vectors.passes(row)
+def test_nothing_erased_is_in_memory(examples, installed_as_is):
+    """Neither in the heap nor on the stacks of threads."""
+    check_memory(installed_as_is / "lib/libslh.so.0", examples / "erased")
 
 
 @pytest.mark.slow
-@BY_LEVEL
-def test_package_passes_its_tests(crates, level):
-    done = crates.cargo("test", "--release", "-p", "slh", "--test", "calls", **for_level(crates.folder, level))
-    count_tests(done, OF_CARGO)
+def test_another_known_answer_is_told(examples, tmp_path):
+    """By the self-test of its set. That of another set passes."""
+    another = tmp_path / "self_test"
+    another.write_bytes(with_another_root((examples / "self_test").read_bytes()))
+    another.chmod(0o755)
+    assert succeed(examples / "self_test") == b"passed\npassed\n"
+    assert succeed(another) == b"passed\n40 SelfTestFailed: an answer of the self-test is not the known one\n"
 
 
-@pytest.fixture(scope="module")
-def instructions(built, compiled, tmp_path_factory):
-    """The instructions of calls by the library for a level, counted once: by task and set."""
-    counted = {}
-
-    def counts(level):
-        if level not in counted:
-            program = compiled("instructions", "-std=c11", "-O1", "-I", HERE / "c/include",
-                               TESTS / "library_instructions.c", built(level) / "libslh.a")
-            counted[level] = dict(callgrind(tmp_path_factory.mktemp("parts"), program)[1])
-        return counted[level]
-
-    return counts
+@pytest.fixture
+def letter(tmp_path):
+    (tmp_path / "letter").write_text("Dear reader,")
+    return tmp_path / "letter"
 
 
 @pytest.mark.slow
-@BY_LEVEL
-def test_128f_takes_few_instructions(instructions, level):
-    """Keys, signing and verifying: at most 1.1 of those of libslh."""
-    need("valgrind", "cc")
-    table = [line.split() for line in (TESTS / "instructions.txt").read_text().splitlines()]
-    wanted = {f"{task} {of_set}": int(count) for it, task, of_set, count in table if f"x86-64-{it}" == level}
-    if not wanted:
-        pytest.skip(f"tests/instructions.txt has no counts for {level} (only for x86-64)")
-    ratios = {it: instructions(level)[it] / wanted[it] for it in ("keygen 128f", "sign 128f", "verify 128f")}
-    assert max(ratios.values()) <= MOST_INSTRUCTIONS, ratios
+def test_example_writes_a_key_file(example, letter):
+    assert succeed(example, "2", letter) == b"valid\n" and is_key_file(letter.with_suffix(".pub"))
+
+
+@pytest.mark.slow
+def test_code_for_avx2_runs_here(example, letter):
+    """Valgrind names the functions that ran."""
+    need("valgrind")
+    need_level(3)
+    assert callgrind(letter.parent, example, "1", letter)[0] == b"valid\n"
+    assert "vectors::by_avx2::compiled" in (letter.parent / "part").read_text()
+
+
+@pytest.mark.slow
+@pytest.mark.emulator
+@pytest.mark.parametrize("processor", ["core2duo", "Haswell,-avx2", "Haswell"])
+def test_emulated_processor_signs(example, letter, processor):
+    """With AVX2, and without: the emulator ends a program that takes instructions that the processor lacks."""
+    need("qemu-x86_64")
+    done = run("qemu-x86_64", "-cpu", processor, example, "1", letter)
+    assert (done.status, done.output) == (0, b"valid\n"), done.errors
+
+
+@pytest.mark.slow
+@pytest.mark.emulator
+@pytest.mark.parametrize("processor, status", [("Haswell,-avx2", ILLEGAL), ("Haswell", 0)])
+def test_emulator_ends_what_takes_avx2(lanes, processor, status):
+    """As the module of vectors that is compiled for x86-64-v3."""
+    need("qemu-x86_64")
+    assert run("qemu-x86_64", "-cpu", processor, lanes(3), "eight_short", "--exact").status == status

@@ -22,6 +22,7 @@ import board as boards
 import machines
 from conftest import STRICT, takes_dist
 from machines import CALLS, LIBRARY_CALLS, OF_C, VERIFY_CALLS, counted, of_kind, symbols, text_of
+from packages import count_tests
 from support import HERE, TESTS, Outcome, need, run, succeed
 
 # The compiler of each machine, and its name for qemu.
@@ -149,9 +150,10 @@ def a_line_for_each_call():
     seed = bytes(range(16)).hex()
     sk, pk, sig, name, out = f"b{4 * seed}", f"b{2 * seed}", f"b{17088 * '00'}", f"b{20 * '00'}", "ba5a5a5a5"
     seeds = f"b{seed} b{seed} b{seed}"
+    key_file = f"b{f'slh-dsa-secret 2{chr(10)}SLH-DSA-SHA2-128f{chr(10)}{4 * seed}{chr(10)}'.encode().hex()}"
     return [f"slh_{it}" for it in (
         "lengths n2 p00 p01 p02 p03", f"keygen n2 {seeds} {sk}", f"public n2 {sk} {pk}", f"check n2 {sk}",
-        f"self_test n2 {sig}",
+        f"key_read {key_file} p00 p00 b{64 * '00'}", f"key_write n2 n2 {sk} b{293 * '00'}", f"self_test n2 {sig}",
         f"sign n2 {sk} b00 b b {sig}", f"verify n2 {pk} b00 b {sig}", f"hash_sign n2 n2 {sk} b00 b b {sig}",
         f"hash_verify n2 n2 {pk} b00 b {sig}", f"hash_sign_digest n2 n2 {sk} {pk} b b {sig}",
         f"hash_verify_digest n2 n2 {pk} {pk} b {sig}", f"sign_twice n2 {sk} b00 b b {sig} {sig}",
@@ -350,13 +352,13 @@ def test_target_of_cmake(prefix, quick, tmp_path):
 
 @pytest.mark.slow
 def test_feature_of_rust(prefix, quick, tmp_path):
+    """The crate slh-sys with the portable C signs and verifies."""
     need("cargo")
-    shutil.copy(quick / "letter", tmp_path)
-    done = run("cargo", "run", "-q", "--locked", "--offline", "--manifest-path", HERE / "bindings/rust/Cargo.toml",
-               "--features", "portable", "--example", "sign_threads", "2", tmp_path / "letter",
+    done = run("cargo", "test", "-q", "--locked", "--offline", "--manifest-path", HERE / "bindings/rust/Cargo.toml",
+               "--features", "portable", "--test", "calls",
                env={**os.environ, "CARGO_TARGET_DIR": str(tmp_path / "cargo"), "SLH_PREFIX": str(prefix),
                     "CC": str(quick / "cc")})
-    assert text_of(done) == (0, "valid"), done.errors.decode()
+    count_tests(done, r"^test result: ok\. (\d+) passed; 0 failed;")
 
 
 @pytest.mark.slow

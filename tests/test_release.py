@@ -56,8 +56,28 @@ def lists_sets(done):
 
 def test_each_file_has_the_hash_that_is_listed(release):
     listed = dict(reversed(it.split(maxsplit=1)) for it in (release / "SHA256SUMS").read_text().splitlines())
-    files = [it for it in release.rglob("*") if it.is_file() and it.name != "SHA256SUMS"]
+    files = [it for it in release.rglob("*") if it.is_file() and it.name not in ("SHA256SUMS", "SHA256SUMS.sig")]
     assert {str(it.relative_to(release)): hashlib.sha256(it.read_bytes()).hexdigest() for it in files} == listed
+
+
+def test_programs_alone_may_be_run(release):
+    """Beside shared objects, as linkers write them."""
+    may_run = {str(it.relative_to(release)) for it in release.rglob("*") if it.is_file() and it.stat().st_mode & 0o111}
+    programs = {it for it in may_run if not it.endswith((".so.0", ".dll", ".wasm"))}
+    assert programs == {f"x86-64{it}/slh" for it in ("", "-v2", "-v3", "-v4")}
+
+
+@slow
+def test_plain_rust_is_what_its_tool_writes(release, tmp_path):
+    need("rustfmt")
+    build = (release / "BUILD").read_text()
+    made_by = {"sources": succeed(HERE / "tools/sources.sh"), "rust": succeed(HERE / "tools/sources.sh", "rust"),
+               "rustfmt": succeed("rustfmt", "--version").split()[1]}
+    for name, value in made_by.items():
+        if f"\n{name} {value.decode().strip()}\n" not in build:
+            pytest.skip(f"the release was made by another {name} (tools/release.sh makes it anew)")
+    succeed(HERE / "tools/plain_rust.py", tmp_path / "rust")
+    succeed("diff", "-r", tmp_path / "rust", release / "rust")
 
 
 REGISTERS = [("x86-64-v2", "xmm", "ymm"), ("x86-64-v3", "ymm", "zmm"), ("x86-64-v4", "zmm", "tmm")]
@@ -648,9 +668,10 @@ def test_build_for_an_emulated_processor(stand_ins, processor_name, number):
 
 
 @slow
-@pytest.mark.parametrize("place, number", enumerate([2, 3, 4, 3, 2, 2, None]))
+@pytest.mark.parametrize("place, number", enumerate([
+    2, 3, 4, 3, 2, 2, 4, None, None, 2, 3, 3, 3, 3, 3]))
 def test_build_for_each_processor_of_a_table(stand_ins, place, number):
-    """It is compiled for each processor of tests/processors.h."""
+    """It is compiled for each processor of tests/processors.h. No program hashes all of SHA-256 by SHA instructions."""
     need("cc")
     stand_ins.copy.path.joinpath("chooser").unlink(missing_ok=True)
     succeed("cc", "-std=c11", *STRICT, "-O2", "-ffreestanding", "-fno-stack-protector", "-nostdlib", "-static",

@@ -38,6 +38,10 @@ def test_the_bill_has_each_file(bill, copy):
         assert {name: it[algorithm] for name, it in found.items()} == wanted and len(wanted) > 10
 
 
+def test_the_bill_of_the_release_is_its_own(release):
+    succeed(SBOM, "--check", release)
+
+
 def test_the_bill_has_what_spdx_asks_for(bill, copy):
     """SPDX 2.3, clauses 6 to 8 and 11: the fields that are mandatory, and the code of a package's files."""
     assert (bill["spdxVersion"], bill["dataLicense"], bill["SPDXID"]) == ("SPDX-2.3", "CC0-1.0", "SPDXRef-DOCUMENT")

@@ -1,34 +1,19 @@
-"""Builds and uses the crates for Rust, over the library as it is installed: their own tests by cargo, an example, a
-program of a user, what it leaves in memory, and a library that fails its self-test. No network is used."""
+"""Builds and uses the crate slh-sys, which declares the calls of the library as it is installed: its own tests by
+cargo, a program of a user, and builds that find no library. test_plain_rust.py tests the crate slh. No network is used.
+"""
 import os
-import pathlib
-import shutil
 
 import pytest
 
-from packages import check_memory, count_tests, is_key_file, refuses_to_build, says_best_level, write_another_library
-from support import HERE, Outcome, need, run, succeed
+from packages import count_tests, refuses_to_build, says_best_level
+from support import HERE, need, run, succeed
 
 CRATES = HERE / "bindings/rust"
 MANIFEST = ["--manifest-path", CRATES / "Cargo.toml"]
 LOCKED = ["--locked", "--offline", *MANIFEST]
 # What cargo says of tests that passed, with their number.
 OF_CARGO = r"^test result: ok\. (\d+) passed; 0 failed;"
-LEVEL = """use slh as _;
-extern "C" { fn slh_level() -> u32; }
-fn main() { println!("{}", unsafe { slh_level() }) }
-"""
-SELF_TEST = """use slh::{Error, ParameterSet, SlhDsaSha2_128f, SlhDsaSha2_192f};
-fn main() {
-    for result in [SlhDsaSha2_192f::self_test(), SlhDsaSha2_128f::self_test()] {
-        match result {
-            Ok(()) => println!("passed"),
-            Err(error @ Error::SelfTestFailed) => println!("{error}"),
-            Err(error) => panic!("another error: {error}"),
-        }
-    }
-}
-"""
+LEVEL = "fn main() { println!(\"{}\", unsafe { slh_sys::slh_level() }) }\n"
 
 pytestmark = pytest.mark.slow
 
@@ -57,63 +42,31 @@ def test_layout():
     succeed("cargo", "fmt", *MANIFEST, "--all", "--check")
 
 
-def test_crates_pass_their_tests(env):
-    """The lines of their README are among them."""
+def test_crate_passes_its_tests(env):
     outcome = run("cargo", "test", *LOCKED, env={**env, "RUSTFLAGS": "-Dwarnings"}, timeout=1800)
     count_tests(outcome, OF_CARGO)
 
 
-@pytest.fixture(scope="module")
-def example(env, installed, tmp_path_factory):
-    """The outcome of the example over the library of pkg-config, and the public key that it has written."""
-    letter = tmp_path_factory.mktemp("example") / "letter"
-    letter.write_text("a letter\nof two lines")
+def test_crate_finds_the_library_of_pkg_config(env, installed):
     env = {**env, "PKG_CONFIG_PATH": str(installed / "lib/pkgconfig")}
     del env["SLH_PREFIX"]
-    outcome = run("cargo", "run", "-q", *LOCKED, "--example", "sign_threads", "2", letter, env=env)
-    return outcome, letter.with_suffix(".pub")
-
-
-def test_example_signs_by_threads(example):
-    assert example[0] == Outcome(0, b"valid\n")
-
-
-def test_public_key_of_the_example_is_a_key_file(example):
-    assert is_key_file(example[1])
-
-
-# ---- a program of a user
+    count_tests(run("cargo", "test", *LOCKED, "--test", "calls", env=env, timeout=1800), OF_CARGO)
 
 
 @pytest.fixture(scope="module")
 def page(tmp_path_factory):
     """The manifest of a program as a user has it, in a folder of its own."""
     folder = tmp_path_factory.mktemp("page")
-    (folder / "src/bin").mkdir(parents=True)
-    (folder / "src/bin/erased.rs").write_bytes((HERE / "bindings/tests/erased.rs").read_bytes())
-    (folder / "src/bin/level.rs").write_text(LEVEL)
-    (folder / "src/bin/self_test.rs").write_text(SELF_TEST)
+    (folder / "src").mkdir()
+    (folder / "src/main.rs").write_text(LEVEL)
     (folder / "Cargo.toml").write_text(f'[package]\nname = "page"\nedition = "2021"\n[dependencies]\n'
-                                       f'slh = {{ path = "{CRATES}/slh" }}\n')
+                                       f'slh-sys = {{ path = "{CRATES}/slh-sys" }}\n')
     return ["--manifest-path", folder / "Cargo.toml"]
 
 
 @pytest.mark.usefixtures("built_by_the_kit")
-def test_nothing_erased_is_in_memory(env, built, page, installed):
-    succeed("cargo", "build", "-q", "--offline", *page, "--bin", "erased", env=env)
-    check_memory(installed / "lib/libslh.so.0", built / "debug/erased")
-
-
-@pytest.mark.usefixtures("built_by_the_kit")
 def test_code_for_the_best_level_runs(env, page):
-    assert says_best_level("cargo", "run", "-q", "--offline", *page, "--bin", "level", env=env)
-
-
-def test_another_answer_of_the_library_is_told(env, page, installed, tmp_path):
-    """By the self-test of its set. That of another set passes."""
-    another = {**env, "SLH_PREFIX": str(write_another_library(installed, tmp_path))}
-    said = succeed("cargo", "run", "-q", "--offline", *page, "--bin", "self_test", env=another)
-    assert said == b"passed\n40 SelfTestFailed: an answer of the self-test is not the known one\n"
+    assert says_best_level("cargo", "run", "-q", "--offline", *page, env=env)
 
 
 # ---- without a library
@@ -130,40 +83,3 @@ def test_relative_path_of_the_library_is_named(bare_env):
 
 def test_documentation_needs_no_library(bare_env, tmp_path):
     succeed("cargo", "doc", "--no-deps", *LOCKED, env={**bare_env, "CARGO_TARGET_DIR": str(tmp_path / "docs")})
-
-
-# ---- traits of other crates
-
-# Debian's packages have the sources of the crates that these two need. No network is used.
-REGISTRY = pathlib.Path("/usr/share/cargo/registry")
-OF_TRAITS = pytest.mark.parametrize("crate, needed, package", [
-    pytest.param("slh-rand-core", "rand_core-0.6*", "librust-rand-core-dev", id="slh-rand-core"),
-    pytest.param("slh-signature", "signature-2*", "librust-signature-dev", id="slh-signature"),
-])
-
-
-@pytest.fixture(scope="module")
-def of_traits(built):
-    """The folder of the crates without what cargo has written into it."""
-    folder = built / "traits"
-    shutil.copytree(CRATES, folder / "rust", ignore=shutil.ignore_patterns("Cargo.lock", "target"))
-    for it in HERE.glob("LICENSE-*"):
-        shutil.copy(it, folder)
-    return folder / "rust"
-
-
-@OF_TRAITS
-def test_layout_of_crate_of_traits(of_traits, crate, needed, package):
-    need("rustfmt")
-    succeed("cargo", "fmt", "--manifest-path", of_traits / crate / "Cargo.toml", "--check")
-
-
-@OF_TRAITS
-def test_crate_of_traits_passes_its_tests(of_traits, env, crate, needed, package):
-    if not [*REGISTRY.glob(needed)]:
-        pytest.skip(f"there is no {REGISTRY / needed} (to be had by the package {package})")
-    registry = ['source.crates-io.replace-with="debian"', f'source.debian.directory="{REGISTRY}"']
-    outcome = run("cargo", "test", "--offline", "--manifest-path", of_traits / crate / "Cargo.toml",
-                  *(word for it in registry for word in ("--config", it)), env={**env, "RUSTFLAGS": "-Dwarnings"},
-                  timeout=1800)
-    count_tests(outcome, OF_CARGO)

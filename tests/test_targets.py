@@ -5,13 +5,15 @@ packages that take it. Programs run by qemu. Nothing here runs the code for macO
 Of keys and of signing some tests are run, and with --all all: tests/library_vectors.py says which.
 """
 import re
+import shutil
 
 import pytest
 
 import machines
 from conftest import STRICT
-from machines import LIBRARY_CALLS, OF_C, OTHERS, VERIFY_CALLS, counted, of_kind, symbols, text_of
-from support import TESTS, need, run, succeed
+from machines import (LIBRARY_CALLS, OF_C, OTHERS, VERIFY_CALLS, counted, first_instructions, notes, of_kind, symbols,
+                      text_of)
+from support import TESTS, VECTORS, need, run, succeed
 
 # For each target with Linux: the triple of its compiler, and its names for qemu, in a wheel's tags, and for CMake.
 LINUX = {
@@ -97,6 +99,55 @@ def test_shared_object_defines_the_calls(machine, prefix):
 @ON_AARCH64
 def test_verify_archive_defines_six_calls(machine, verify_archive):
     assert symbols(machine.tool("nm"), verify_archive) == of_kind("U", OF_C) + of_kind("W", VERIFY_CALLS)
+
+
+# ---- pads for indirect branches
+
+UNPADDED = "int unpadded(void);\nint unpadded(void) { return 7; }\n"
+CALLS_UNPADDED = "int unpadded(void);\nint main(void) { return unpadded(); }\n"
+
+
+@ON_LINUX
+def test_shared_object_has_a_build_id(machine, prefix):
+    assert re.search(r"Build ID: [0-9a-f]{40}$", notes(machine.tool("readelf"), prefix / "lib/libslh.so.0"), re.M)
+
+
+@ON_AARCH64
+@pytest.mark.parametrize("file", ["libslh.so.0", "libslh.a", "libslh_verify.a"])
+def test_code_is_marked_for_pads_and_signed_returns(machine, prefix, file):
+    """The linker marks what it makes only if each object is."""
+    assert "Properties: AArch64 feature: BTI, PAC" in notes(machine.tool("readelf"), prefix / "lib" / file)
+
+
+@ON_AARCH64
+def test_each_call_begins_with_a_pad(machine, prefix):
+    """test_vectors_by_the_shared_object runs them."""
+    first = first_instructions(machine.tool("objdump"), prefix / "lib/libslh.so.0")
+    assert {it: first[it] for it in LIBRARY_CALLS if first[it] not in ("bti", "paciasp")} == {}
+
+
+@ON_AARCH64
+@pytest.mark.parametrize("protection, status", [("none", -4), ("pac-ret+bti", 7)])
+def test_emulator_looks_for_pads(emulated, compiled, tmp_path, protection, status):
+    """Else the next test would say nothing: it stops at a function without one, in what is marked."""
+    (tmp_path / "unpadded.c").write_text(UNPADDED)
+    (tmp_path / "calls.c").write_text(CALLS_UNPADDED)
+    shared = compiled("libunpadded.so", "-shared", "-fPIC", f"-mbranch-protection={protection}", "-Wl,-z,force-bti",
+                      "-nostdlib", tmp_path / "unpadded.c", cc=emulated.cc)
+    program = compiled("calls", tmp_path / "calls.c", shared, f"-Wl,-rpath,{shared.parent}", cc=emulated.cc)
+    assert run(*emulated.runs, "-L", f"/usr/{LINUX['aarch64'][0]}", program).status == status
+
+
+@pytest.mark.slow
+@ON_AARCH64
+def test_vectors_by_the_shared_object(pytestconfig, emulated, prefix, compiled, tmp_path):
+    """Its pages are marked, so each indirect branch in it is looked at. With --all the vectors are those of each set."""
+    shutil.copy(VECTORS / "smoke-128f.json", tmp_path)
+    shared = prefix / "lib/libslh.so.0"
+    program = machines.calls_program(compiled, emulated._replace(words=()), prefix / "include", shared,
+                                     f"-Wl,-rpath,{shared.parent}")
+    machines.vectors_through(pytestconfig, *emulated.runs, "-L", f"/usr/{LINUX['aarch64'][0]}", program, few=True,
+                             vectors=VECTORS if pytestconfig.option.all else tmp_path)
 
 
 @ON_MACOS
@@ -209,9 +260,11 @@ def test_numbers_of_the_documents(machine, target, prefix):
 
 @pytest.mark.slow
 @ON_LINUX_BY_LEVEL
-def test_each_call_clears_as_deep_as_it_goes(emulated, prefix, archive, compiled, tmp_path):
+def test_depths(pytestconfig, target, emulated, prefix, archive, compiled, tmp_path):
+    """Each call clears as deep as it goes."""
     program = machines.depths_program(compiled, emulated, prefix / "include", archive, tmp_path)
-    counted(*emulated.runs, program, "1", "few")
+    level = "aarch64-sha512" if target == "aarch64" else target
+    machines.check_depths(pytestconfig, level, machines.how_deep(pytestconfig), *emulated.runs, program, "1")
 
 
 @pytest.mark.slow
@@ -264,6 +317,8 @@ int main(int count, char **words) {
 @pytest.fixture
 def instructions(emulated, prefix, archive, compiled, tmp_path):
     """Counts the instructions of KEYGEN: instructions(WORD..)."""
+    if b"-plugin" not in run(emulated.runs[0], "-h").output:
+        pytest.skip(f"{emulated.runs[0]} takes no plug-ins: that of Debian 12 does")
     (tmp_path / "keygen.c").write_text(KEYGEN)
     plugin = compiled("count.so", "-shared", "-fPIC", TESTS / "benches/count_instructions.c")
     program = compiled("keygen", "-std=c11", *STRICT, "-O1", *emulated.words, "-I", prefix / "include",

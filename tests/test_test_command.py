@@ -15,6 +15,7 @@ HARNESS = [
     ".ci/run", "pytest.ini", "tools/test.sh", "tools/released.sh", "tests/budgets.toml", "tests/conftest.py",
     "tests/copies.py", "tests/debian_roots.py", "tests/parts.py", "tests/provider.py", "tests/support.py"]
 OF_KIT = ["wrong_bodies.py", "tested_bodies.py"]
+MOST_MINUTES = 150
 FOUR = 'echo "4 passed, 0 failed"\n'
 STUB = '#!/bin/sh\necho "${0##*/} $*" >>"$HOME/called"\n'
 TESTS_OF_PYTEST = "import pytest\ndef test_right(): pass\n"
@@ -346,6 +347,37 @@ def test_lines_are_shown_as_they_come_and_a_silence_has_dots(small):
     lines = small.run("--no-setup", SLH_DOTS_AFTER="1")[1]
     begins, ends = lines.index("begins"), lines.index("ends")
     assert any(re.fullmatch(r"\.{2,}", it) for it in lines[begins:ends])
+
+
+def test_file_without_a_test_is_a_failure(small):
+    small.write("tests/test_renamed.py", "def tries_it(): pass\n")
+    status, lines = small.run("--no-setup")
+    assert (status, lines[-1]) == (1, "1 passed, 1 failed, 3 skipped")
+    assert failures(lines)[0] == "tests/test_renamed.py: no"
+
+
+SETUP = '#!/bin/sh\nof_all_tests="cc gcc\nnode nodejs"\n[ "$1" = --missing ]'
+
+
+@pytest.mark.parametrize("cause, missing, fails", [
+    ("", "", True), ("there is no cc (to be had by the package gcc)", "", True),
+    ("no openssl has it (tools/setup.sh installs it)", "", True),
+    ("there is no cc (to be had by the package gcc)", " && echo gcc && exit 1", False),
+    ("there is no wish (to be had by the package tk)", "", False),
+    ("there is no Node 18 (to be had by Debian 12's package nodejs)", "", False)])
+def test_skip_over_a_tool_that_is_there_is_a_failure(small, cause, missing, fails):
+    """So a fixture that always skips is seen, and one that names no cause."""
+    script(small.path / "tools/setup.sh", SETUP + missing + "\n")
+    small.write("tests/test_skips.py", f"import pytest\ndef test_it(): pytest.skip({cause!r})\n")
+    status, lines = small.run("--no-setup")
+    assert (status, lines[-1]) == (int(fails), f"1 passed, {int(fails)} failed, {4 - fails} skipped")
+
+
+def test_budgets_are_within_what_the_whole_command_may_take():
+    """150 processor minutes, so that two cores end within its limit of 180 minutes."""
+    tomllib = pytest.importorskip("tomllib", reason="Python before 3.11 has no tomllib")
+    granted = tomllib.loads((HERE / "tests/budgets.toml").read_text())["whole"]
+    assert 0 < sum(granted.values()) <= MOST_MINUTES
 
 
 @pytest.mark.slow

@@ -27,6 +27,7 @@ fn main() {
     if let Width::One = build_widths().short {}
 }
 """
+PADS = re.findall(r"^\$ a\\(.*)", (HERE / "tools/for_pads_x86.sed").read_text(), re.M)
 # The compiler of a toolchain that notes the modules that tools/clang.sh finds, and those that it writes.
 NOTES = """#!/bin/sh
 "${{0%/*}}/writes" "$@"
@@ -103,8 +104,10 @@ def test_what_is_written_is_proved(widths, lanes):
 
 @OF_LANES
 def test_nothing_else_is_written(widths, lanes):
+    """But for the lines by which functions begin with a pad."""
     found, written = (it.splitlines() for it in widths.written(lanes))
-    lines = [it for it in difflib.ndiff(found, written) if it.startswith(("- ", "+ "))]
+    assert written[-len(PADS):] == PADS
+    lines = [it for it in difflib.ndiff(found, written[:-len(PADS)]) if it.startswith(("- ", "+ "))]
     assert [it[0] for it in lines].count("-") == [it[0] for it in lines].count("+") in (1, 2), lines
     assert all(re.fullmatch(r"[-+]   store i8 [0-3], ptr %r[12], align 1", it) for it in lines), lines
 

@@ -12,7 +12,7 @@ import pytest
 import machines
 from machines import LIBRARY_CALLS, OTHERS, counted, text_of
 from packages import GO_MODULE
-from support import HERE, TESTS, need, run, succeed
+from support import HERE, TESTS, best_level, need, need_level, run, succeed
 
 pytestmark = [pytest.mark.parametrize("target", [pytest.param("windows-x86-64", marks=OTHERS)])]
 
@@ -120,7 +120,7 @@ def test_code_that_runs_is_the_best_for_the_processor(emulated, prefix, archive,
     (tmp_path / "level.c").write_text(LEVEL)
     program = compiled("level.exe", *emulated.words, "-I", prefix / "include", tmp_path / "level.c", archive,
                        cc=emulated.cc)
-    assert text_of(run(*emulated.runs, program)) == (0, str(machines.best_level()))
+    assert text_of(run(*emulated.runs, program)) == (0, str(best_level()))
 
 
 @pytest.mark.slow
@@ -132,7 +132,7 @@ def test_vectors(pytestconfig, emulated, prefix, archive, compiled):
 @pytest.mark.slow
 @pytest.mark.parametrize("processor", PROCESSORS)
 def test_vectors_on_a_lesser_processor(pytestconfig, emulated, prefix, archive, compiled, processor, monkeypatch):
-    if PROCESSORS[processor] >= machines.best_level():
+    if PROCESSORS[processor] >= best_level():
         pytest.skip(f"this processor is no better than a {processor}: its code was run")
     monkeypatch.setenv("PROCESSOR", processor)
     program = machines.calls_program(compiled, emulated, prefix / "include", TESTS / "forced_level.c", archive)
@@ -148,10 +148,16 @@ def test_vectors_by_the_dll(pytestconfig, emulated, dll_program):
 
 
 @pytest.mark.slow
-def test_each_call_clears_as_deep_as_it_goes(emulated, prefix, archive, compiled, tmp_path):
-    """The code for v3 and v4 aligns its stack: a call is measured from two or four places."""
-    program = machines.depths_program(compiled, emulated, prefix / "include", archive, tmp_path)
-    counted(*emulated.runs, program, {2: "1", 3: "2", 4: "4"}[machines.best_level()], "few")
+@pytest.mark.parametrize("processor", PROCESSORS)
+def test_depths(pytestconfig, emulated, prefix, archive, compiled, tmp_path, processor, monkeypatch):
+    """Each call clears as deep as it goes, in the code for each level."""
+    level = PROCESSORS[processor]
+    need_level(level)
+    monkeypatch.setenv("PROCESSOR", processor)
+    machine = emulated._replace(words=(*emulated.words, str(TESTS / "forced_level.c")))
+    program = machines.depths_program(compiled, machine, prefix / "include", archive, tmp_path)
+    machines.check_depths(pytestconfig, f"windows-x86-64-v{level}", machines.how_deep(pytestconfig), *machine.runs,
+                          program, machines.SHIFTS[level])
 
 
 @pytest.mark.slow

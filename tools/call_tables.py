@@ -21,6 +21,8 @@ BEGIN = "tools/call_tables.py writes the lines from here on."
 END = "tools/call_tables.py has written the lines up to here."
 # The calls of which the portable C has more than the proved call: a loop over others, and the name of its own refusal.
 OWN = {"slh_verify_many", "slh_refusal_name"}
+# The kinds of calls that take secrets.
+SECRET_KINDS = {"SECRET", "READS"}
 # The calls that are not proved.
 IN_C = {"slh_erase", "slh_level", "slh_refusal_text"}
 KIND = re.compile(r"^([A-Z]+)\(([a-z_]+),$", re.M)
@@ -128,8 +130,8 @@ def names_as_javascript(name, calls):
 
 
 def javascript(calls, of_kind, text):
-    secret = [name for name, kind in of_kind.items() if kind == "SECRET"]
-    rest = [name for name, kind in of_kind.items() if kind != "SECRET"]
+    secret = [name for name, kind in of_kind.items() if kind in SECRET_KINDS]
+    rest = [name for name, kind in of_kind.items() if kind not in SECRET_KINDS]
     return names_as_javascript("OPEN", rest) + "\n" + names_as_javascript("SECRET", secret)
 
 
@@ -137,7 +139,7 @@ def javascript(calls, of_kind, text):
 
 
 def is_bytes(it):
-    return it.kind in ("const uint8_t *", "uint8_t *")
+    return it.kind in ("const uint8_t *", "uint8_t *", "char *")
 
 
 def c_line(head, words, tail):
@@ -158,11 +160,12 @@ class Parts:
 
     def __init__(self, call):
         self.parts, self.arguments, self.results = [], [], []
+        names = {it.name for it in call.parameters}
         lengths = {f"{it.name}_len" for it in call.parameters if is_bytes(it)}
         for it in call.parameters:
             if it.kind == "uint32_t":
                 self.arguments.append(it.name)
-            elif is_bytes(it):
+            elif is_bytes(it) and f"{it.name}_len" in names:
                 self.arguments.append(f"B({len(self.parts)})")
                 self.parts.append(f"{'READ' if it.kind.startswith('const') else 'WRITE'}({it.name})")
             elif it.kind in ("size_t *", "uint32_t *"):

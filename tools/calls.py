@@ -21,22 +21,22 @@ NONE = "—"
 
 # The subject, and by language the words that are declared. A word in parentheses belongs to the language's own library.
 ROWS = [
-    ("make a key of random bytes", NONE, "generate", "generate generate_from", "Generate", "generate", "generate",
-     "(KeyPairGenerator.generateKeyPair)"),
+    ("make a key of random bytes", NONE, "generate", "generate generate_from from_rng", "Generate", "generate",
+     "generate", "(KeyPairGenerator.generateKeyPair)"),
     ("make the key of three seeds", "slh_keygen", "keygen", "keygen", "Keygen", "keygen", "keygen", "keygen"),
     ("check a secret key", "slh_check", "check", "check", "Check", "check", "check", "check"),
     ("test a set by known answers", "slh_self_test", "self_test", "self_test", "SelfTest", "self_test", "selfTest",
      "selfTest"),
     ("its public key", "slh_public", "public_key", "public", "PublicKey Public", "public", "public", "publicKey"),
-    ("sign, computed two times", "slh_sign_twice", "sign", "sign sign_with", "Sign", "sign", "sign",
+    ("sign, computed two times", "slh_sign_twice", "sign", "sign sign_with sign_with_rng", "Sign", "sign", "sign",
      "(Signature.sign)"),
     ("sign, computed once", "slh_sign", "once", "once", "Once", "once", "once", "once"),
     ("the deprecated option for two computations", NONE, "twice", "twice", "Twice", "twice", "twice", "twice"),
     ("verify before release", NONE, "verify", "verify", "Verify", "verify", "verify", "verify verified"),
     ("sign without a randomizer", NONE, "deterministic", "Deterministic", "Deterministic", "deterministic",
      "deterministic", "deterministic"),
-    ("sign in the pre-hash form", "slh_hash_sign_twice slh_hash_sign", "hash_sign", "hash_sign", "HashSign",
-     "hash_sign", "hashSign", "withFunction"),
+    ("sign in the pre-hash form", "slh_hash_sign_twice slh_hash_sign", "hash_sign", "hash_sign hash_sign_with_rng",
+     "HashSign", "hash_sign", "hashSign", "withFunction"),
     ("sign a digest", "slh_hash_sign_digest_twice slh_hash_sign_digest", "hash_sign_digest", "hash_sign_digest",
      "HashSignDigest", "hash_sign_digest", "hashSignDigest", NONE),
     ("verify", "slh_verify", "verify", "verify verify_with", "Verify", "verify", "verify", "(Signature.verify)"),
@@ -64,9 +64,9 @@ ROWS = [
     ("read a key file", NONE, NONE, "load", "ReadSecretKeyFile ReadPublicKeyFile", "load",
      "loadSecretKey loadPublicKey", NONE),
     ("write a key file", NONE, NONE, "dump", "WriteFile", "dump", "dump", NONE),
-    ("read the text of a key file", NONE, NONE, "read_from", "ParseSecretKey ParsePublicKey", "loads",
+    ("read the text of a key file", "slh_key_read", NONE, "read_from", "ParseSecretKey ParsePublicKey", "loads",
      "parseSecretKey parsePublicKey", NONE),
-    ("write the text of a key file", NONE, NONE, "write_to", "MarshalKeyFile", "dumps", "format", NONE),
+    ("write the text of a key file", "slh_key_write", NONE, "write_to", "MarshalKeyFile", "dumps", "format", NONE),
     ("read DER", NONE, NONE, "from_der", "ParsePKCS8SecretKey ParsePKIXPublicKey", "secret_from_der public_from_der",
      "secretKeyFromDer publicKeyFromDer", "(KeyFactory.generatePrivate)"),
     ("write DER", NONE, NONE, "write_der_to", "MarshalPKCS8 MarshalPKIX", "to_der", "toDer", "getEncoded"),
@@ -81,8 +81,8 @@ ROWS = [
     ("a sentence for a refusal", "slh_refusal_text", "text", "text", "(Error)", "(str)", "(message)",
      "(getMessage)"),
     ("the context", "ctx", "context", "context", "Context", "context", "context", "withContext"),
-    ("the randomizer", "randomizer", "randomizer", "randomizer", "(io.Reader)", "randomizer", "randomizer",
-     "(SecureRandom.nextBytes)"),
+    ("the randomizer", "randomizer", "randomizer", "randomizer with_randomizer", "(io.Reader)", "randomizer",
+     "randomizer", "(SecureRandom.nextBytes)"),
     ("the type of a refusal", NONE, "Error", "Refusal", "Refusal", "Refusal", "Refusal", "Refusal"),
     ("not valid", "SLH_INVALID", "(false)", "Invalid", "ErrInvalid", "Invalid", "(false)", "(false)"),
     ("two computations differ", "SLH_FAULT", "SLH_FAULT", "Fault", "ErrFault", "Fault", "Fault",
@@ -96,7 +96,7 @@ ROWS = [
 ]
 # The part that all words of a row share, for rows in which no single word is the usual one.
 STEMS = {"one signature as jobs": "join", "read DER": "der", "write DER": "der", "read PEM": "pem", "write PEM": "pem",
-         "overwrite a key": "erase", "read a key file": "load"}
+         "overwrite a key": "erase", "read a key file": "load", "write the text of a key file": "write"}
 X509 = "named as in `crypto/x509`"
 OF_KEY = "one call makes a key of its bytes, as other types of the language are made"
 IN_TEXT = "as the language's own modules for formats name it"
@@ -113,6 +113,7 @@ REASONS = {
     ("the bytes of a key", "Rust"): "a borrow of them, not a copy",
     ("the bytes of a key", "Go"): "as `crypto/ecdh` names it",
     ("read a key file", "Go"): "as `os.ReadFile`", ("write a key file", "Go"): "as `os.WriteFile`",
+    ("read the text of a key file", "C"): "one call for keys of both kinds",
     ("read the text of a key file", "Rust"): "named after `io::Read`",
     ("read the text of a key file", "Python"): IN_TEXT,
     ("write the text of a key file", "Go"): IN_TEXT, ("write the text of a key file", "Python"): IN_TEXT,
@@ -199,7 +200,7 @@ def declared():
 OF_LANGUAGE = {
     "C": set(),
     "C++": {"call", "fail", "arguments", "system_random", "expect", "made", "Error"},
-    "Rust": {"number", "expected", "given", "digest_len", "command", "first_lines", "getrandom"},
+    "Rust": {"number", "expected", "given", "digest_len", "command", "first_lines"},
     "Go": {"Equal", "String", "Format", "Error", "HashFunc", "ParseSet"},
     "Python": {"label", "close", "Function", "Lengths", "Set", "digest_length"},
     "JavaScript": {"constructor", "load"},

@@ -7,6 +7,7 @@
 #   word    -march=x86-64-v4 in place of -march=x86-64: AVX-512 F, BW, CD, DQ and VL
 #           -march=armv8-a+sha2 in place of -march=armv8-a: ARM's instructions for SHA-256; with +sha3 also those for
 #           SHA-512 and SHA-3
+#           -msha behind -march=x86-64: x86's SHA instructions
 #           -msimd128 behind -mcpu=lime1: WebAssembly's vectors of 128 bits, and with them a higher limit for inlining,
 #           by which the rounds of a compression stand in it, as they do in code for the other targets
 #           module: nothing is compiled, and an empty object written; the module is left there as it came, too, so
@@ -14,8 +15,9 @@
 #           or nothing
 #   size    small: for_size.sed gives the functions attributes
 #           or fast
-#   rules   for_sha256_arm.sed, for_sha512_arm.sed: functions of slh_lanes::instructions get bodies of the processor's
-#           SHA instructions
+#   rules   for_sha256_arm.sed, for_sha512_arm.sed, for_sha256_x86.sed: functions of slh_lanes::instructions get bodies of
+#           the processor's SHA instructions. for_single_x86.sed: single messages ask for those of x86-64.
+#           for_pads_x86.sed, for_pads_arm.sed: functions begin with a pad for indirect branches
 #           or nothing
 #
 # The module as it is compiled is left there as module.ll, for the targets that rattle does not build for.
@@ -42,6 +44,7 @@ for it in "$@"; do
     before=$it
     case $word$it in
     -march=x86-64-v4-march=x86-64 | -march=armv8-a+sha2*-march=armv8-a) set -- "$@" "$word" && found=yes ;;
+    -msha-march=x86-64) set -- "$@" "$it" "$word" && found=yes ;;
     -msimd128-mcpu=lime1) set -- "$@" "$it" "$word" -mllvm -inline-threshold=500 && found=yes ;;
     *module.bc) module=$it && set -- "$@" "$it.ll" ;;
     *rewritten.ll) written=yes && set -- "$@" "$it" ;;
@@ -70,13 +73,13 @@ if [ $size = small ]; then
         [ "$(grep '^define ' "$module.ll" | grep -vc ' optsize {$')" = 3 ] ||
         refuse "the module does not have the functions that for_size.sed names, once each"
 fi
-# Each function that a rule names is there once, and gets the rule's body: as many lines end so as the rule has.
+# Each function that a rule names is there once, and gets the rule's body: as many calls are new as the rule has.
 for rule in $rules; do
     mv "$module.ll" "$module.plain" && sed -E -f "$here/$rule" "$module.plain" >"$module.ll"
-    for it in $(sed -n 's/^[/]^define [.][*]@"\([a-z_:]*\)".*/\1/p' "$here/$rule"); do
+    for it in $(sed -n 's/^[/]^define [.][*]@"\([a-z0-9_:]*\)".*/\1/p' "$here/$rule"); do
         [ "$(grep -c "^define .*@\"$it\"(" "$module.plain")" = 1 ] || refuse "the module does not have $it once"
     done
-    [ "$(diff "$module.plain" "$module.ll" | grep -c '^> .* = call .* @llvm[.]')" = "$(grep -c ' = call .* @llvm[.]' "$here/$rule")" ] ||
+    [ "$(diff "$module.plain" "$module.ll" | grep -c '^> .* call .*@')" = "$(grep -c '^ .* call .*@' "$here/$rule")" ] ||
         refuse "the module does not have the functions of $rule as it names them"
 done
 cp "$module.ll" "$here/module.ll"

@@ -11,14 +11,15 @@
 # x86-64 for the level that this processor has. RUSTFLAGS, if it is set, decides in place of the level. CC names the C
 # compiler, which links. Debian's cross compiler is the default for TRIPLE.
 #
-# cargo takes the four crates that the Rust uses from Debian's packages, if all are installed. Otherwise it takes them
+# cargo takes the crates that the Rust names from Debian's packages, if all are installed. Otherwise it takes them
 # from the source that it is configured for, by default crates.io. If a tool or a crate is missing, the script names it
 # and ends with status 2.
 set -euo pipefail
 here=$(cd "$(dirname "${BASH_SOURCE[0]}")/.." && pwd)
 registry=${SLH_CRATES-/usr/share/cargo/registry}
-crates=(sha2 arrayvec rand_core thiserror)
-packages="librust-sha2-dev librust-arrayvec-dev librust-rand-core-dev librust-thiserror-dev"
+crates=(sha2 arrayvec rand_core thiserror getrandom zeroize)
+packages=("${crates[@]/#/librust-}")
+packages=("${packages[@]/%/-dev}")
 triple=
 if [ "${1-}" = --target ] && [ $# -gt 1 ]; then
     triple=$2
@@ -69,7 +70,7 @@ level() {
     $loader --help | sed -n "s/^ *\(x86-64-v[$known]\) (supported.*/-C target-cpu=\1/p" | sort -r | head -n 1
 }
 
-# Whether the folder of Debian's crates has these four.
+# Whether the folder of Debian's crates has all of them.
 has_crates() {
     local crate
     for crate in "${crates[@]}"; do compgen -G "$registry/$crate-[0-9]*" >/dev/null || return; done
@@ -85,13 +86,14 @@ build() {
 # The calls that these headers declare.
 calls() { (cd "$here/c/include" && sed -nE 's/^(uint32_t |void |const char \*)(slh_[a-z_]+)\(.*/\2/p' "$@"); }
 
-# Joins the objects of an archive that the calls of these headers need, and hides all other names: NAME HEADER.. The
-# bitcode of Rust's own library is removed, since it can't be read after objects are joined. So do names that nothing refers to: a program
-# could not be linked with a shared object that asks for calls of a later glibc.
+# Joins the objects of an archive that the calls of these headers need, and hides all other names: NAME HEADER..
+# The bitcode of Rust's own library is removed, since it can't be read after objects are joined. Names that nothing
+# refers to are removed, too: a program could not be linked with a shared object that asks for calls of a later glibc.
 join() {
     local name=$1 archive=$work/target/$triple/release/$1.a
     calls "${@:2}" >"$work/calls"
-    "$("$cc" -print-prog-name=ld)" -r --gc-sections --force-group-allocation $(sed 's/^/-u /' "$work/calls") -o "$work/$name.o" "$archive"
+    "$("$cc" -print-prog-name=ld)" -r --gc-sections --force-group-allocation $(sed 's/^/-u /' "$work/calls") \
+        -o "$work/$name.o" "$archive"
     "$("$cc" -print-prog-name=objcopy)" --strip-unneeded --remove-section=.llvmbc --remove-section=.llvmcmd \
         --keep-global-symbols="$work/calls" "$work/$name.o"
 }
@@ -120,7 +122,7 @@ if has_crates; then
     printf '[source.crates-io]\nreplace-with = "debian"\n[source.debian]\ndirectory = "%s"\n[net]\noffline = true\n' \
         "$registry" >"$work/.cargo/config.toml"
 fi
-build fetch || refuse "cargo does not find the crates ${crates[*]} (Debian: $packages)"
+build fetch || refuse "cargo does not find the crates ${crates[*]} (Debian: ${packages[*]//_/-})"
 build rustc --release -p slh_library --crate-type staticlib
 build build --release -p slh_verify_library
 join libslh slh.h slh_verify.h slh_internal.h

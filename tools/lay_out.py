@@ -57,6 +57,7 @@ KEPT = [
     rf"{V} = extractelement {NUMBER} {OPERAND}, {INTEGER} {OPERAND}",
     rf"{V} = insertelement {NUMBER} (?:{OPERAND}|poison), {INTEGER} {OPERAND}, {INTEGER} {OPERAND}",
     rf"{V} = shufflevector {NUMBER} {OPERAND}, {NUMBER} (?:{OPERAND}|poison), {NUMBER} {OPERAND}",
+    rf"{V} = bitcast <16 x i1> {OPERAND} to i16",
     rf"{V} = extractvalue {PAIR} {V}, [01]",
     rf"{V} = alloca (?:{NUMBER}|\[\d+ x i8\]), align \d+",
     rf"{V} = getelementptr (?:inbounds |nuw |nusw )*i8, ptr {POINTER}, i64 (?:{V}|\d+)",

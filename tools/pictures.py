@@ -241,7 +241,7 @@ def draw_panel(picture, sets, places, height, panel):
 
 # In which column a crate stands. Its row follows from the crates above it.
 COLUMNS = {
-    "slh": 2, "slh_c": 0, "slh_c_verify": 1, "slh_tool": 2, "slh_jobs": 0, "slh_par": 2, "slh_files": 4,
+    "slh": 2, "slh_c": 3, "slh_c_verify": 1, "slh_tool": 2, "slh_jobs": 0, "slh_par": 2, "slh_files": 4,
     "slh_key_files": 4, "slh_vectors": 3, "slh_subtrees": 0.3, "slh_core": 1.3, "slh_workers": 2.8, "slh_io": 4,
     "slh_few": 0.7, "slh_board": 2.8, "slh_lanes": 0.2, "slh_tree": 1.3, "slh_hash": 0.2, "slh_width": 2,
     "slh_params": 0.7,

@@ -4,10 +4,10 @@
 usage: tools/plain_rust.py [--counts FILE] OUT
 
 Writes a cargo workspace into the folder OUT: a new one, or one of an earlier run, which is removed first. Its crate
-`slh_plain` has each crate of CRATES as a module. Clauses, ghost members and attributes of the prover are removed; the
-rest is copied token by token, except where a rule of RULES applies. The number of times that each removal and rule was
-applied is printed, one a line, and written into FILE as JSON, by source file. tests/plain_rust_check.py compares the
-result with the sources by these numbers.
+`slh` has each crate of CRATES as a module, and over them the files of the package bindings/rust/slh. Clauses, ghost
+members and attributes of the prover are removed; the rest is copied token by token, except where a rule of RULES
+applies. The number of times that each removal and rule was applied is printed, one a line, and written into FILE as
+JSON, by source file. tests/plain_rust_check.py compares the result with the sources by these numbers.
 
 What this program does not know it refuses, with the file and the line: status 1. rustfmt lays the result out.
 """
@@ -23,6 +23,7 @@ from typing import NamedTuple
 
 HERE = pathlib.Path(__file__).resolve().parent.parent
 BESIDE = HERE / "tools" / "plain_rust"
+PACKAGES = HERE / "bindings" / "rust"
 CRATES = ["slh_params", "slh_hash", "slh_width", "slh_lanes", "slh_tree", "slh_few", "slh_core", "slh_subtrees",
           "slh_jobs", "slh_key_files", "slh_c", "slh_c_verify"]
 
@@ -286,11 +287,15 @@ def core_names(tokens, source):
     return exchanged(tokens, ["use", "std", ":", ":", "str"], ["use", " core", ":", ":", "str"])
 
 
+# Before an item that takes memory.
+OF_ALLOC = ["#", "[", "cfg", "(", "feature", " =", ' "alloc"', ")", "]"]
+
+
 def memory(tokens, source):
     """Allocators, and vectors and strings that may be refused memory, are those of the crate's own module of memory, as
     is `hex`."""
     count = 0
-    own = ["use", " crate", ":", ":", "memory", ":", ":"]
+    own = [*OF_ALLOC, " use", " crate", ":", ":", "memory", ":", ":"]
     for names, more in [("AllocError", []), ("{AllocError,Allocator}", ["String", "Vec"])]:
         old = re.findall(r"\w+|\W", names)
         new = [*own, *old[:-1], *(word for it in more for word in (",", " " + it)), old[-1]] if more else [*own, *old]
@@ -298,6 +303,17 @@ def memory(tokens, source):
         count += times
     tokens, times = exchanged(tokens, ["hex", ":", ":"], ["crate", ":", ":", "memory", ":", ":", "hex", ":", ":"])
     return tokens, count + times
+
+
+def with_alloc(tokens, source):
+    """The items of slh_key_files that take memory are there with the feature `alloc`."""
+    count = 0
+    for first, *more in (["mod", "key_front"], ["mod", "key_text"], ["pub", "use", "key_front"],
+                         ["pub", "use", "key_text"], ["impl", "From", "<", "AllocError"]):
+        new = [f" {it}" if it[0].isalpha() else it for it in more]
+        tokens, times = exchanged(tokens, [first, *more], [*OF_ALLOC, f" {first}", *new])
+        count += times
+    return tokens, count
 
 
 def crate_paths(tokens, source):
@@ -371,18 +387,90 @@ def exports(tokens, source):
 
 
 def widths(tokens, source):
-    """The widths of the build are those that the module of vectors has for the processor."""
+    """The widths of the build are those that the module of levels has for the processor."""
     count = 0
     for name in "short", "long":
-        new = [name, ":", " crate", ":", ":", "vectors", ":", ":", name.upper()]
+        new = [name, ":", " crate", ":", ":", "levels", ":", ":", name, "(", ")"]
         tokens, times = exchanged(tokens, [name, ":", "Width", ":", ":", "Eight"], new)
         count += times
     return tokens, count
 
 
+def each_level(tokens, source):
+    """Vectors of N lanes have a level as a parameter: the instructions by which they are added."""
+    if source.crate != "slh_lanes":
+        return tokens, 0
+    count = 0
+    for word in "u32", "u64":
+        tokens, times = exchanged(tokens, ["Simd", "<", word, ",", "N", ">"],
+                                  ["Simd", "<", word, ",", " N", ",", " L", ">"])
+        count += times
+    if not count:
+        return tokens, 0
+    for old, new in ((["N", ":", "usize", ">"], ["N", ":", " usize", ",", " L", ":", " Level", ">"]),
+                     (["N", ":", "usize", ",", "const", "M", ":", "usize", ">"],
+                      ["N", ":", " usize", ",", " const", " M", ":", " usize", ",", " L", ":", " Level", ">"])):
+        tokens, times = exchanged(tokens, ["<", "const", *old], ["<", "const", " " + new[0], *new[1:]])
+        count += times
+    return tokens, count
+
+
+INLINE = ["#", "[", "inline", "(", "always", ")", "]"]
+# For each call of slh_lanes that is a kernel the function of the module of levels that takes its place.
+KERNELS = [("rounds::compress(", "compress("), ("run::<Words,Rounds>", "run"), ("run::<TwoWords,Rounds>", "run"),
+           ("compress_part::<LongWords,u64x4,Rounds>", "compress_four")]
+# The other calls by `Rounds`, which are of the build's level.
+OF_BUILD = ["run_singles::<Rounds>", "compress_singles::<Rounds>", "compress_long_singles::<Rounds>",
+            "run_part::<u32x4,Rounds>", "compress_running::<u32x4,Rounds>"]
+# The words of an import from the module of rounds.
+OF_ROUNDS = {"use", "crate", "slh_lanes", "rounds", "self", "Compression", "ChainCompression", "Rounds", "round"}
+
+
+def kernels(tokens, source):
+    """The rounds and the steps of chains are called through the module of levels, and inlined into its functions. So
+    that it sees them, the modules of slh_lanes are those of the crate. Other calls by `Rounds` have to be known."""
+    if source.crate != "slh_lanes":
+        return tokens, 0
+    own = ["pub", "(", "crate", ")"]
+    changes = [(["mod"], [*own, " mod"])]
+    changes += [(split(call), split("crate::levels::" + name)) for call, name in KERNELS]
+    for old in [*own, "fn", "compress", "<", "W"], [*own, "fn", "run", "<", "W"], ["fn", "compress_part", "<"]:
+        name = old.index("fn") + 1
+        changes.append((old, [*INLINE, " pub", *own[1:], " fn", " " + old[name], *old[name + 1:]]))
+    count = 0
+    for old, new in changes:
+        tokens, times = exchanged(tokens, old, new)
+        count += times
+    refuse_other_rounds(tokens)
+    return tokens, count
+
+
+def split(text):
+    return re.findall(r"\w+|\W", text)
+
+
+def refuse_other_rounds(tokens):
+    """Refuses a use of the rounds that could be a kernel: one that is neither an import, nor in OF_BUILD."""
+    place = 0
+    while place < len(tokens):
+        it = tokens[place]
+        if it.text == "use":
+            first, place = place, next(at for at in range(place, len(tokens)) if tokens[at].text == ";")
+            words = {word.text for word in tokens[first:place] if word.text.isidentifier()}
+            known = "rounds" not in words or words <= OF_ROUNDS
+        elif it.text == "Rounds" and tokens[place - 1].text not in ("struct", "for"):
+            calls = [split(call) for call in OF_BUILD]
+            known = any(is_at(tokens, place + 2 - len(call), *call) for call in calls)
+        else:
+            known = not is_at(tokens, place, "rounds", ":", ":")
+        if not known:
+            raise Refused(f"line {it.line}: a use of the rounds that is not known here")
+        place += 1
+
+
 RULES = {it.__name__.replace("_", " "): it for it in
          (derived_drop, model, sure_clone, random_generator, crate_paths, sibling_paths, vectors,
-          core_names, memory, labels, let_chains, exports, widths)}
+          core_names, memory, with_alloc, labels, let_chains, exports, widths, each_level, kernels)}
 
 
 # ----------------------------------------------------------------------------------------------------- what is left
@@ -409,7 +497,8 @@ def is_known(tokens, place):
         return False
     if it.text == "#":
         is_for_c = is_at(tokens, place, "#", "[", "repr", "(", "C", ")", "]")
-        return is_for_c or is_at(tokens, place, "#", "[") and tokens[place + 2].text in ATTRIBUTES
+        is_own = is_for_c or is_at(tokens, place, *map(str.strip, OF_ALLOC))
+        return is_own or is_at(tokens, place, "#", "[") and tokens[place + 2].text in ATTRIBUTES
     if it.kind == "word" and is_at(tokens, place + 1, "!") and not is_at(tokens, place + 2, "="):
         return it.text in MACROS | BEFORE_NOT
     if it.text == "use":
@@ -477,6 +566,16 @@ def refusal_text():
             f"pub fn refusal_text(result: u32) -> &'static CStr {{\nmatch result {{\n{arms}}}\n}}\n")
 
 
+def numbers():
+    """The constants of the package's declarations of libslh, which are tested against the headers."""
+    text = (PACKAGES / "slh-sys" / "src" / "lib.rs").read_text()
+    found = re.findall(r"^(?:///.*\n)+pub const SLH_\w+: \w+ = [\w-]+;\n", text, re.MULTILINE)
+    if not found or len(found) != text.count("\npub const "):
+        raise Refused("bindings/rust/slh-sys/src/lib.rs: a constant is not known here")
+    head = "// Made by tools/plain_rust.py from bindings/rust/slh-sys/src/lib.rs.\n//! The numbers of the headers for C.\n\n"
+    return head + "".join(found)
+
+
 def from_the_top(page):
     """The page of the package, with links that lead on from dist/rust/slh and out/plain_rust/slh, three folders down."""
     place = lambda link: posixpath.normpath(f"bindings/rust/slh/{link}")
@@ -484,27 +583,25 @@ def from_the_top(page):
 
 
 def user_crate(out):
-    """Copies the package for Rust. In place of libslh it has the calls that are exported here."""
-    packages, install = HERE / "bindings" / "rust", out / "slh" / "install.md"
-    for part in "slh/src", "slh/tests", "slh/examples", "slh-sys/src":
-        shutil.copytree(packages / part, out / part)
-    with open(out / "slh-sys" / "src" / "lib.rs", "a") as file:
-        file.write("\n// The calls are those of this crate.\nextern crate slh_exports as _;\n")
-    page = from_the_top((packages / "slh" / "README.md").read_text())
-    front, behind = page.split("## Install\n", 1)
-    (out / "slh" / "README.md").write_text(front + install.read_text() + "\n" + behind[behind.index("## "):])
-    install.unlink()
+    """Copies the package for Rust into the crate, over the proved modules, and beside it the crate of the traits of
+    `signature`."""
+    left_out = shutil.ignore_patterns("target", "Cargo.lock", ".gitignore")
+    for name in "slh", "slh-signature":
+        shutil.copytree(PACKAGES / name, out / name, dirs_exist_ok=True, ignore=left_out)
+    (out / "slh" / "src" / "numbers.rs").write_text(numbers())
+    page = out / "slh" / "README.md"
+    page.write_text(from_the_top(page.read_text()))
 
 
 def empty(out):
     """Removes what an earlier run wrote. Another folder that has files is refused."""
-    if out.exists() and not (out / "slh_plain" / "Cargo.toml").is_file() and any(out.iterdir()):
+    if out.exists() and not (out / "slh_exports" / "Cargo.toml").is_file() and any(out.iterdir()):
         raise Refused(f"{out} has files of others")
     shutil.rmtree(out, ignore_errors=True)
 
 
 def lay_out(out):
-    files = [it for crate in ("slh_plain", "slh_exports") for it in sorted((out / crate / "src").rglob("*.rs"))]
+    files = [it for crate in ("slh", "slh_exports") for it in sorted((out / crate / "src").rglob("*.rs"))]
     try:
         subprocess.run(["rustfmt", "--edition", "2024", "--config-path", out, *files], check=True)
     except (OSError, subprocess.CalledProcessError):
@@ -517,10 +614,10 @@ def write(out):
     shutil.copytree(BESIDE, out)
     manifest = out / "Cargo.toml"
     manifest.write_text(manifest.read_text().replace("VERSION", (HERE / "VERSION").read_text().strip()))
-    source, counted = out / "slh_plain" / "src", {}
+    source, counted = out / "slh" / "src", {}
     for crate in CRATES:
         counted |= write_crate(crate, source)
-    (out / "slh_exports" / "src" / "refusal_text.rs").write_text(refusal_text())
+    (source / "refusal_text.rs").write_text(refusal_text())
     user_crate(out)
     lay_out(out)
     return counted

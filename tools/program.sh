@@ -21,14 +21,19 @@ work=$(mktemp -d)
 trap 'rm -rf "$work"' EXIT
 kit() { "$here/tools/kit.py" path "$1"; }
 
-# Paths are relative, so that none of this machine is in it. It has no C library, and nobody relocates it.
-chooser() {
+# Compiles files of C to objects beside each other. Paths are relative, so that none of this machine is in them.
+compile() {
     local file
-    for file in c/starter.c c/exports/{chosen,processor}.c; do
+    for file; do
         (cd "$here" && exec -a clang "$(kit toolchain/bin/clang)" --target=x86_64-unknown-linux-gnu -std=c11 -O2 -fPIE \
             -ffreestanding -nostdinc -I c/exports/freestanding -fvisibility=hidden -fno-asynchronous-unwind-tables \
             -Wall -Wextra -Werror -c "$file" -o "$work/${file//\//_}.o")
     done
+}
+
+# It has no C library, and nobody relocates it.
+chooser() {
+    compile c/starter.c c/exports/{chosen,processor}.c
     "$(kit toolchain/bin/ld.lld)" -pie --no-dynamic-linker -z norelro --strip-all -o "$work/slh" "$work"/*.o
     install -D -m 755 "$work/slh" "$1"
 }
@@ -45,9 +50,10 @@ mapfile -t build < <("$here/tools/kit.py" build "$crate" "$toolchain")
 mkdir -p "$here/crates/$crate/out/incremental"
 (cd "$here/crates/$crate" && "${build[@]}" --incremental out/incremental --jobs "$(nproc)" --cpu "$level" \
     -o "$work/slh.o") >&2
-# As `rt run` links a program: with the C code of the crates `os` and `libc`.
+# As `rt run` links a program: with the C code of the crates `os` and `libc`. And with what single messages are hashed by.
+compile c/exports/{chosen,processor,sha256_x86}.c
 (cd "$work" && "$(kit bin/rattle-link)" --target x86_64-unknown-linux-gnu --toolchain "$(kit toolchain)" -o slh slh.o \
-    "$(kit c/libos_c.a)" "$(kit c/liblibc_c.a)") >&2
+    c_exports_*.o "$(kit c/libos_c.a)" "$(kit c/liblibc_c.a)") >&2
 # The kit's clang is all of LLVM's tools, by the name that it is called by.
 (exec -a llvm-strip "$(kit toolchain/bin/clang)" "$work/slh")
 install -D -m 755 "$work/slh" "$2"

@@ -25,12 +25,37 @@
 # --after-ci 0. tools/tag_text.py writes the text of a tag for the release.
 set -euo pipefail
 here=$(cd "$(dirname "${BASH_SOURCE[0]}")/.." && pwd)
-source "$here/tests/counts.sh"
 source "$here/tools/released.sh"
 usage() {
     echo "usage: tools/release.sh [--after-ci] VERSION, or --check [FOLDER]" >&2
     exit 2
 }
+passed=0 failed=0 skipped=0
+
+# Counts a comparison, and prints its result: NAME, and the command whose status says whether it is as it should be. The
+# test command prints the failures that SLH_FAILURES has.
+tell() {
+    local name=$1
+    shift
+    if "$@" >&2; then
+        passed=$((passed + 1)) && echo "$name: yes"
+    else
+        failed=$((failed + 1)) && echo "$name: no" | tee -a "${SLH_FAILURES:-/dev/null}"
+    fi
+}
+
+# Counts a part that is not compared, and prints the cause: NAME, then the cause.
+skip() {
+    skipped=$((skipped + 1))
+    echo "$1: SKIPPED, since $2"
+}
+
+# Prints the counts as the last line. The status is 0 if nothing failed.
+end_counts() {
+    echo "$passed passed, $failed failed, $skipped skipped"
+    [ $failed = 0 ]
+}
+
 after_ci=no
 if [ "${1-}" = --after-ci ]; then
     after_ci=yes
@@ -160,19 +185,16 @@ check() {
     mapfile -t files < <(cd "$here/dist" && find . -type f ! -name SHA256SUMS ! -name SHA256SUMS.sig -printf '%P\n' |
         LC_ALL=C sort)
     for file in "${files[@]}"; do
-        tell "dist/$file has the hash that SHA256SUMS lists" "$(are_whole "$file" && echo yes || echo no)"
+        tell "dist/$file has the hash that SHA256SUMS lists" are_whole "$file"
     done
-    tell "SHA256SUMS lists no other file" "$(diff <(printf '%s\n' "${files[@]}") \
-        <(awk '{ print $2 }' "$here/dist/SHA256SUMS") >&2 && echo yes || echo no)"
-    tell "dist/ has files and folders alone" \
-        "$([ -z "$(find "$here/dist" ! -type f ! -type d | tee /dev/stderr)" ] && echo yes || echo no)"
+    tell "SHA256SUMS lists no other file" diff <(printf '%s\n' "${files[@]}") \
+        <(awk '{ print $2 }' "$here/dist/SHA256SUMS")
+    tell "dist/ has files and folders alone" [ -z "$(find "$here/dist" ! -type f ! -type d | tee /dev/stderr)" ]
     [ ! -f "$here/dist/SBOM.spdx.json" ] ||
-        tell "the bill of materials lists what is in dist/" \
-            "$("$here/tools/sbom.py" --check "$here/dist" >&2 && echo yes || echo no)"
+        tell "the bill of materials lists what is in dist/" "$here/tools/sbom.py" --check "$here/dist"
     command -v rt >/dev/null || not_compared "rt is not on the path"
     has_sources_of_release || not_compared "the sources are not those of dist/BUILD"
-    tell "dist/BUILD has the version of the file VERSION" \
-        "$([ "$(release_says version)" = "$(cat "$here/VERSION")" ] && echo yes || echo no)"
+    tell "dist/BUILD has the version of the file VERSION" [ "$(release_says version)" = "$(cat "$here/VERSION")" ]
     has_wasm2c || skip "dist/portable" "there is no wasm2c"
     diff <(kit_lines | grep / | grep -v ^wabt/) <(grep / "$here/dist/BUILD" | grep -v ^wabt/) >&2 ||
         not_compared "the kit is not that of dist/BUILD"
@@ -185,7 +207,7 @@ check() {
         [ "$file" = BUILD ] || [ "$file" = SBOM.spdx.json ] || { [ "${file%%/*}" = portable ] && ! has_wasm2c; } ||
             { [ "${file%%/*}" = share ] && ! has_share_of_release; } ||
             { [ "${file%%/*}" = rust ] && ! has_rust_of_release; } ||
-            tell "dist/$file is built again bit for bit" "$(cmp "$here/dist/$file" "$made/$file" >&2 && echo yes || echo no)"
+            tell "dist/$file is built again bit for bit" cmp "$here/dist/$file" "$made/$file"
     done
     end_counts
 }

@@ -13,8 +13,9 @@
 # others. Tests of other machines need compilers for ARM, RISC-V, s390x, Windows and boards, emulators, wine, and
 # browsers. A command that another installer put on the path, for example rustup, replaces Debian's package.
 #
-# Debian 12 has no OpenSSL 3.5 and no wasm2c 1.0.36: both are unpacked from packages of Debian 13 into /usr/local/lib,
-# with their libraries. On Debian 12 and 13 the commands are openssl-3.5 and wasm2c-1.0.36 in /usr/local/bin.
+# Debian 12 has no OpenSSL 3.5, no wasm2c 1.0.36, and no qemu that knows the SHA instructions of x86-64: these are
+# unpacked from packages of Debian 13 into /usr/local/lib, with their libraries. On Debian 12 and 13 the commands are
+# openssl-3.5, wasm2c-1.0.36 and qemu-x86_64-10 in /usr/local/bin.
 set -euo pipefail
 here=$(cd "$(dirname "${BASH_SOURCE[0]}")/.." && pwd)
 folder=/usr/local/lib
@@ -42,6 +43,7 @@ pytest python3-pytest python3-pytest-xdist
 - python3-venv python3-setuptools python3-wheel python3-distributed python3-tqdm
 - python3-prometheus-client e2fsprogs
 - librust-rand-core-dev librust-sha2-dev librust-arrayvec-dev librust-thiserror-dev
+- librust-getrandom-dev librust-zeroize-dev
 git git
 xxd xxd
 openssl openssl
@@ -127,10 +129,13 @@ has_openssl() {
 
 has_wasm2c() { [ $few = yes ] || wasm2c-1.0.36 --version >/dev/null 2>&1; }
 
+has_qemu() { [ $few = yes ] || qemu-x86_64-10 --version >/dev/null 2>&1; }
+
 missing() {
     missing_packages
     has_openssl || echo openssl-3.5
     has_wasm2c || echo wasm2c-1.0.36
+    has_qemu || echo qemu-x86_64-10
 }
 
 # Whether Debian's package here is of this version or a later one.
@@ -267,6 +272,20 @@ install_wasm2c() {
     echo "wasm2c $(wasm2c-1.0.36 --version)"
 }
 
+# It needs no library.
+install_qemu() {
+    ! has_qemu || return 0
+    if has_version qemu-user 1:10; then
+        ln -sf /usr/bin/qemu-x86_64 /usr/local/bin/qemu-x86_64-10
+        return
+    fi
+    echo "tools/setup.sh unpacks qemu 10 of Debian 13 into $folder/qemu-10: about 70 MB to download"
+    unpack qemu-user
+    install -D "$work/root/usr/bin/qemu-x86_64" "$folder/qemu-10/qemu-x86_64"
+    ln -sf "$folder/qemu-10/qemu-x86_64" /usr/local/bin/qemu-x86_64-10
+    qemu-x86_64-10 --version | sed 1q
+}
+
 mapfile -t found < <(missing)
 if [ $asked = missing ] || [ ${#found[@]} = 0 ]; then
     [ ${#found[@]} = 0 ] || { echo "${found[*]}" && exit 1; }
@@ -282,6 +301,7 @@ trap 'rm -rf "$work"' EXIT
 install_packages
 install_openssl
 install_wasm2c
+install_qemu
 mapfile -t found < <(missing)
 [ ${#found[@]} = 0 ] || { echo "tools/setup.sh: still missing: ${found[*]}" >&2 && exit 1; }
 echo "all is there that the tests need"

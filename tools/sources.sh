@@ -15,7 +15,8 @@ if [ "${1-}" = share ]; then
     exit
 fi
 if [ "${1-}" = rust ]; then
-    find tools/plain_rust tools/plain_rust.py bindings/rust/{slh,slh-sys} -name target -prune -o -type f -print0 |
+    find tools/plain_rust tools/plain_rust.py bindings/rust/slh{,-signature,-sys} \
+        \( -name target -o -name Cargo.lock \) -prune -o -type f -print0 |
         sort -z | xargs -0 sha256sum | sha256sum | cut -d ' ' -f 1
     exit
 fi
@@ -41,7 +42,8 @@ mapfile -t crates < <(lines | sed 's/[: ].*//')
     lines
     {
         find HANDLES VERSION c/{exports,include,portable} c/starter.c \
-            tools/{clang.sh,for_128.sed,for_hook.sed,for_machine.sed,for_sha256_arm.sed,for_sha512_arm.sed,for_size.sed,kit.py,lay_out.py} \
+            tools/{clang.sh,for_128.sed,for_hook.sed,for_machine.sed,for_size.sed,kit.py,lay_out.py} \
+            tools/for_{pads_arm,pads_x86,sha256_arm,sha256_x86,sha512_arm,single_x86}.sed \
             tools/{portable.py,program.sh,symbols.sh,targets.py} -type f -print0
         find "${crates[@]/#/crates/}" -path '*/out' -prune -o -path '*/tests/*' -o -name 'tests.*' \
             -o \( -path '*/src/*' -o -path '*/specs/*' -o -path '*/proofs/*' \) -type f -print0

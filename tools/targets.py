@@ -13,7 +13,8 @@ usage: tools/targets.py TARGET[,TARGET..] FOLDER [--noise]      writes FOLDER/TA
 --noise is for tests: machines of 32 bits then get another layout (tools/lay_out.py).
 
   x86-64                            libslh.a and libslh.so.0: Linux on x86-64, with the code for each of the levels of
-                                    processors, of which the best that there is runs. And what those have:
+                                    processors, of which the best that there is runs, and for SHA instructions, which
+                                    run by x86-64-v2. And what those levels have:
   x86-64-v2, x86-64-v3, x86-64-v4   libslh.a and libslh_verify.a for processors of this level
   aarch64                           libslh.a, libslh.so.0 and libslh_verify.a: Linux on 64-bit ARM, with code for NEON,
                                     for SHA-256's instructions, and for SHA-512's, of which the best that there is runs
@@ -78,6 +79,8 @@ class Target(typing.NamedTuple):
     word: str = ""
     # The rules of tools/clang.sh for the processor's SHA instructions.
     rules: tuple = ()
+    # The rule by which functions begin with a pad for indirect branches, and objects have a note that says so.
+    pads: str = ""
     # Where it does not: the target whose module is compiled, the words for the compiler, what each function has
     # besides, and what a number of 32 bits is told that an export returns.
     of: str = ""
@@ -96,9 +99,11 @@ class Target(typing.NamedTuple):
     round: tuple = ("exports.c",)
     words: tuple = ("-fPIC", "-fno-plt")
     depths: str = ""
-    # The targets of which it has all code, and chooses while it runs; the number of one of these for slh_level.
+    # The targets of which it has all code, and chooses while it runs; the number of one of these for slh_level, and what
+    # is behind it in names if another one has the same number.
     levels: tuple = ()
     level: int = 0
+    variant: str = ""
     # For the portable C: the target of the module that slh_verify.c is made of.
     small: str = ""
 
@@ -112,11 +117,19 @@ def options(*words):
     return tuple(it for word in words for it in ("-mllvm", f"-{word}"))
 
 
-CHOSEN = ("exports.c", "chosen.c", "processor.c", "clear_x86_64.S")
-LEVEL = Target("Four", "Four", rattle=("--cpu", "x86-64-v2"), verify="slh_c_verify", round=CHOSEN, level=2)
+# What the proved code of x86-64 asks of C, by RULES_X86.
+SINGLE = ("chosen.c", "processor.c", "sha256_x86.c")
+CHOSEN = ("exports.c", *SINGLE, "clear_x86_64.S")
+RULES_X86 = ("for_single_x86.sed", "for_sha256_x86.sed")
+LEVELS = ("x86-64-v2", "x86-64-v3", "x86-64-v4")
+ROUND = dict(round=CHOSEN, words=("-fPIC", "-fno-plt", "-fcf-protection=full"))
+LEVEL = Target("Four", "Four", rattle=("--cpu", "x86-64-v2"), verify="slh_c_verify",
+               rules=RULES_X86[:1], pads="for_pads_x86.sed", level=2, **ROUND)
 # By the model of tests/benches SHA-512 takes more cycles in NEON's lanes than one message at a time.
-ARM = Target("Four", "One", "aarch64-unknown-linux-gnu")
-RULES = ("for_sha256_arm.sed", "for_sha512_arm.sed")
+ARM = Target("Four", "One", "aarch64-unknown-linux-gnu", pads="for_pads_arm.sed",
+             words=("-fPIC", "-fno-plt", "-mbranch-protection=pac-ret+bti"))
+RULES_ARM = ("for_sha256_arm.sed", "for_sha512_arm.sed")
+PADS = ("for_pads_x86.sed", "for_pads_arm.sed")
 BOARD = Target(bits=32, of="x86-64", makes="board", round=("board.c",), words=("-fno-pic",))
 MODULE = Target("Four", "Four", WASM, form="wasm", makes="module", round=())
 MODULE_32 = Target(triple="wasm32-unknown-unknown", bits=32, form="wasm", of="wasm64", makes="module",
@@ -125,18 +138,19 @@ MODULE_32 = Target(triple="wasm32-unknown-unknown", bits=32, form="wasm", of="wa
 NO_DIVISION = options("expand-div-rem-bits=16")
 WIDE_DIVISION = options("expand-div-rem-bits=64", "expand-fp-convert-bits=64")
 TARGETS = {
-    "x86-64": Target(round=CHOSEN, shared=SHARED, beside=("toolchain/lib/libc.so.6",),
-                     levels=("x86-64-v2", "x86-64-v3", "x86-64-v4")),
+    "x86-64": Target(shared=SHARED, beside=("toolchain/lib/libc.so.6",),
+                     levels=("x86-64-v2", "x86-64-v2-sha", *LEVELS[1:]), **ROUND),
     "x86-64-v2": LEVEL,
+    "x86-64-v2-sha": LEVEL._replace(short="Instructions", word="-msha", rules=RULES_X86, makes="", variant="_sha"),
     "x86-64-v3": LEVEL._replace(level=3, short="Eight", rattle=("--cpu", "x86-64-v3"), verify="slh_c"),
     "x86-64-v4": LEVEL._replace(level=4, short="Sixteen", long="Eight", rattle=("--cpu", "x86-64-v3"),
                                 word="-march=x86-64-v4", verify="slh_c"),
     "aarch64": ARM._replace(levels=("aarch64-neon", "aarch64-sha256", "aarch64-sha512"), verify="slh_c_verify",
                             shared=SHARED, round=("exports.c", "chosen_aarch64.c", "clear_aarch64.S")),
     "aarch64-neon": ARM._replace(makes="", level=2),
-    "aarch64-sha256": ARM._replace(short="Instructions", word="-march=armv8-a+sha2", rules=RULES[:1], makes="", level=3),
+    "aarch64-sha256": ARM._replace(short="Instructions", word="-march=armv8-a+sha2", rules=RULES_ARM[:1], makes="", level=3),
     "aarch64-sha512": ARM._replace(short="Instructions", long="Instructions", word="-march=armv8-a+sha2+sha3",
-                                   rules=RULES, makes="", level=4),
+                                   rules=RULES_ARM, makes="", level=4),
     "riscv64": Target(triple="riscv64-unknown-linux-gnu", of="x86-64", attributes=INLINE_PROBES,
                       returns="signext", compiler=("-march=rv64gc", "-mabi=lp64d", "-O3"), shared=SHARED,
                       round=("exports.c", "clear_riscv64.S")),
@@ -168,21 +182,21 @@ def on_another(system, levels, at_each, at_all):
     """Adds x86-64 for another SYSTEM: its LEVELS, and the library that chooses one of them."""
     for level in levels:
         row = Target(*TARGETS[level][:2], of="x86-64", compiler=(f"-march={level}", "-O3"), makes="",
-                     level=TARGETS[level].level, **at_each)
+                     level=TARGETS[level].level, rules=RULES_X86[:1], **at_each)
         TARGETS[f"{system}-{level}"] = row._replace(depths=f"{row.depths}{level}")
     names = tuple(f"{system}-{it}" for it in levels)
     TARGETS[f"{system}-x86-64"] = Target(levels=names, compiler=("-O3",), **at_each)._replace(**at_all)
 
 
 # Windows probes each frame of over a page, and unwinds by tables. Of macOS no depth is measured: more is cleared.
-on_another("windows", TARGETS["x86-64"].levels, dict(
+on_another("windows", LEVELS, dict(
     triple="x86_64-pc-windows-gnu", form="coff", attributes='uwtable "probe-stack"="slh_probe"', depths="windows-",
-    round=("exports.c", "chosen.c", "processor.c", "clear_windows.S", "probe_windows.S"),
+    round=("exports.c", *SINGLE, "clear_windows.S", "probe_windows.S"),
     words=("-fasynchronous-unwind-tables",)), dict(shared="slh.dll"))
 MAC = dict(form="macho", attributes=INLINE_PROBES, words=("-fPIC", "-DSLH_MORE_DEPTH=2048"))
-on_another("macos", TARGETS["x86-64"].levels[:2], dict(
+on_another("macos", LEVELS[:2], dict(
     triple="x86_64-apple-macos11", round=CHOSEN, **MAC), dict())
-TARGETS["macos-arm64"] = Target("Instructions", "Instructions", "arm64-apple-macos11", of="x86-64", rules=RULES,
+TARGETS["macos-arm64"] = Target("Instructions", "Instructions", "arm64-apple-macos11", of="x86-64", rules=RULES_ARM,
                                 compiler=("-mcpu=apple-m1", "-O3"), depths="aarch64-sha512",
                                 round=("exports.c", "clear_aarch64.S"), **MAC)
 # Several targets by one name: those of a release, but for the portable C; a level comes with the library that chooses.
@@ -193,8 +207,11 @@ GROUPS = {"boards": BOARDS, "release": RELEASED}
 # The enum Width of crates/slh_width, in its order.
 WIDTHS = ["One", "Four", "Eight", "Sixteen", "Instructions"]
 
-# Kinds of the calls of c/exports/calls.h: all of them.
+# Kinds of the calls of c/exports/calls.h: all of them, and those of calls that take secrets.
 ALL_KINDS = "[A-Z]+"
+SECRET_KINDS = "SECRET|READS"
+# What the files SINGLE share with the proved code and with each other.
+OF_SINGLE = ["choice", "choose", "has_sha", "ask_processor", "sha256"]
 VERIFY_CALLS = ["slh_verify", "slh_hash_verify", "slh_hash_verify_digest", "slh_verify_hardened",
                 "slh_hash_verify_digest_hardened", "slh_version"]
 # What rattle tells the kit's clang of a module that it compiles (tools/clang.sh sees it), but for the level.
@@ -249,7 +266,7 @@ def make_toolchain(folder, target, lanes="", *flags):
     folder, of_kit = pathlib.Path(folder), pathlib.Path(kit.KIT, "toolchain")
     (folder / "bin").mkdir(parents=True)
     links = {"lib": of_kit / "lib", "kit": of_kit / "bin", "bin/clang": TOOLS / "clang.sh",
-             **{it: TOOLS / it for it in ("for_size.sed", *RULES)}}
+             **{it: TOOLS / it for it in ("for_size.sed", *PADS, *RULES_X86, *RULES_ARM)}}
     links |= {f"bin/{it.name}": it for it in (of_kit / "bin").iterdir() if it.name != "clang"}
     for name, place in links.items():
         (folder / name).symlink_to(place)
@@ -257,7 +274,7 @@ def make_toolchain(folder, target, lanes="", *flags):
     write(folder / "lanes", [" ".join(numbers)])
     write(folder / "word", ["module" if "module" in flags else TARGETS[target].word])
     write(folder / "size", ["small" if "small" in flags else "fast"])
-    write(folder / "rules", [" ".join(TARGETS[lanes or target].rules)])
+    write(folder / "rules", [" ".join((*TARGETS[lanes or target].rules, TARGETS[target].pads)).strip()])
 
 
 def build_width(lanes, folder):
@@ -377,7 +394,7 @@ class Builder:
             self.compile(row, file, parts, *words)
         if row.form == "elf":
             with open(parts / "hidden", "a") as hidden:
-                hidden.writelines(f"slh_{it}\n" for it in ("clear", "choice", "choose", "ask_processor"))
+                hidden.writelines(f"slh_{it}\n" for it in ("clear", *OF_SINGLE))
             self.join(parts / "joined", *objects(parts))
             for it in objects(parts):
                 it.unlink()
@@ -400,7 +417,7 @@ class Builder:
         row, symbols = TARGETS[target], self.work / "symbols"
         symbols.write_bytes(output(TOOLS / "symbols.sh"))
         run(kit.path("toolchain/bin/ld.lld"), "-shared", "-soname", row.shared, "--version-script", symbols,
-            "--no-undefined-version", "-z", "noexecstack", "-z", "relro", "-z", "now", "-o",
+            "--no-undefined-version", "--build-id=sha1", "-z", "noexecstack", "-z", "relro", "-z", "now", "-o",
             self.folder / target / row.shared, "--whole-archive", self.folder / target / "libslh.a",
             "--no-whole-archive", *(kit.path(it) for it in row.beside))
 
@@ -424,7 +441,7 @@ class Builder:
             self.put_exports_round(target, parts, *self.levels_of(row, parts))
             return self.cut_verify(target) if row.verify else None
         # A call with a number of the machine's width stands round its export where the proved code has another.
-        kinds = "SECRET" if row.bits == 64 else ALL_KINDS
+        kinds = SECRET_KINDS if row.bits == 64 else ALL_KINDS
         self.proved_object("slh_c", target, target, self.work / f"{target}.o", kinds)
         self.rename_in(row, self.work / f"{target}.o", target, kinds, "proved", parts)
         self.put_exports_round(target, parts, f'-DSLH_DEPTHS="depths/{row.depths or target}.h"')
@@ -435,13 +452,14 @@ class Builder:
         for the C round them."""
         defines = []
         for level in row.levels:
-            number = TARGETS[level].level
+            number, variant = TARGETS[level].level, TARGETS[level].variant
             if TARGETS[level].makes:
                 self.make_exports(level)
             if not (self.work / f"{level}.o").exists():
                 self.proved_object("slh_c", level, level, self.work / f"{level}.o", ALL_KINDS)
-            self.rename_in(row, self.work / f"{level}.o", level, ALL_KINDS, f"v{number}", parts)
-            defines.append(f'-DSLH_DEPTHS_V{number}="depths/{TARGETS[level].depths or level}.h"')
+            self.rename_in(row, self.work / f"{level}.o", level, ALL_KINDS, f"v{number}{variant}", parts)
+            macro = f"SLH_DEPTHS_V{number}{variant.upper()}"
+            defines.append(f'-D{macro}="depths/{TARGETS[level].depths or level}.h"')
         return ["-DSLH_ALL_LEVELS", f"-DSLH_HIGHEST={number}", *defines]
 
     def cut_verify(self, target):
@@ -449,12 +467,16 @@ class Builder:
         drops the other calls. These calls are weak: a program that is linked with libslh.a, too, takes them from there,
         in whatever order it names the two."""
         row, file, cut = TARGETS[target], self.work / f"{target}.o", self.work / "slh_verify.o"
-        if row.verify != "slh_c":
-            file = self.work / f"{target}-firmware.o"
+        parts = self.work / f"{target}-verify"
+        parts.mkdir()
+        if row.verify == "slh_c":
+            beside = [self.compile(row, it, parts) for it in SINGLE if it in row.round]
+        else:
+            file, beside = self.work / f"{target}-firmware.o", []
             self.proved_object(row.verify, target, "1", file, "", "small")
         run(kit.path("toolchain/bin/ld.lld"), "-r", "--gc-sections", "--discard-all",
-            *(f"--undefined={it}" for it in VERIFY_CALLS), "-o", cut, file)
-        as_llvm("llvm-objcopy", "--weaken", cut)
+            *(f"--undefined={it}" for it in VERIFY_CALLS), "-o", cut, file, *beside)
+        as_llvm("llvm-objcopy", *(f"--localize-symbol=slh_{it}" for it in OF_SINGLE), "--weaken", cut)
         self.archive(f"{target}/libslh_verify.a", cut)
 
     # ---- WebAssembly and C

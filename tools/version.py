@@ -34,11 +34,9 @@ PLACES = [
     ("bindings/java/src/pipitscreen/slh/Library.java", "as {text}."),
     ("bindings/javascript/package.json", '"version": "{text}"'),
     ("bindings/rust/Cargo.toml", '\nversion = "{text}"'),
-    ("bindings/rust/Cargo.lock", 'name = "slh"\nversion = "{text}"'),
     ("bindings/rust/Cargo.lock", 'name = "slh-sys"\nversion = "{text}"'),
-    ("bindings/rust/slh/Cargo.toml", 'path = "../slh-sys", version = "{text}"'),
     ("bindings/rust/slh-sys/src/lib.rs", "SLH_VERSION_NUMBER: u32 = {digits};"),
-    *((f"bindings/rust/{it}/Cargo.toml", line) for it in ("slh-rand-core", "slh-signature")
+    *(("bindings/rust/slh-signature/Cargo.toml", line)
       for line in ('\nversion = "{text}"', 'path = "../slh", version = "{text}"')),
 ]
 # The names with the number of the shared object, also as a regular expression writes them, and the folders that they

@@ -2,9 +2,6 @@
 
 package slh
 
-// #include "library.h"
-import "C"
-
 import (
 	"crypto/subtle"
 	"sync"
@@ -12,7 +9,7 @@ import (
 
 // xmssLevels returns the levels by which the XMSS trees of a signature are cut: those that docs/BENCHMARKS.md has for
 // four workers, whatever their number. FORS trees are not cut: each is one job.
-func (set Set) xmssLevels() C.uint32_t {
+func (set Set) xmssLevels() uint32 {
 	switch set {
 	case SHA2_128s, SHA2_192s:
 		return 4
@@ -25,22 +22,21 @@ func (set Set) xmssLevels() C.uint32_t {
 	}
 }
 
-const forsLevels = C.uint32_t(0)
-
 // A signing is one signature as jobs. Each is done once for each room for the answers of all jobs.
 type signing struct {
-	set, levels C.uint32_t
-	key, start  []byte
-	jobs        C.uint32_t
-	answers     [][]byte
+	set        Set
+	levels     uint32
+	key, start []byte
+	jobs       uint32
+	answers    [][]byte
 }
 
 // newSigning plans the signature of a key of these bytes, by jobs that are done so many times. The answers have to be
 // erased.
 func newSigning(set Set, key []byte, runs int) (*signing, error) {
-	it := &signing{set: C.uint32_t(set), levels: set.xmssLevels(), key: key}
-	var startLen, answersLen C.size_t
-	if err := done(C.slh_sign_jobs(it.set, it.levels, forsLevels, &it.jobs, &startLen, &answersLen)); err != nil {
+	it := &signing{set: set, levels: set.xmssLevels(), key: key}
+	startLen, answersLen, result := it.plan()
+	if err := done(result); err != nil {
 		return nil, err
 	}
 	it.start = make([]byte, startLen)
@@ -66,7 +62,7 @@ func (secret *SecretKey) signJobs(key []byte, options Options, begin writing) ([
 		return nil, err
 	}
 	defer it.erase()
-	if err := done(uninterrupted(func() C.uint32_t { return begin(it.start) })); err != nil {
+	if err := done(uninterrupted(func() uint32 { return begin(it.start) })); err != nil {
 		return nil, err
 	}
 	if err := it.answer(options.Workers); err != nil {
@@ -78,10 +74,7 @@ func (secret *SecretKey) signJobs(key []byte, options Options, begin writing) ([
 			return nil, ErrFault
 		}
 	}
-	return secret.written(func(sig []byte) C.uint32_t {
-		return C.slh_sign_join(it.set, it.levels, forsLevels, at(key), size(key), at(it.start), size(it.start),
-			at(first), size(first), at(sig), size(sig))
-	})
+	return secret.written(func(sig []byte) uint32 { return it.join(first, sig) })
 }
 
 // A task is a job and the room for its answer.
@@ -94,12 +87,12 @@ type task struct {
 func (it *signing) tasks() ([]task, error) {
 	var all []task
 	for _, answers := range it.answers {
-		for job := C.uint32_t(0); job < it.jobs; job++ {
-			var first, count C.size_t
-			if err := done(C.slh_answer_place(it.set, it.levels, forsLevels, job, &first, &count)); err != nil {
+		for job := uint32(0); job < it.jobs; job++ {
+			first, count, result := it.place(job)
+			if err := done(result); err != nil {
 				return nil, err
 			}
-			all = append(all, task{uint32(job), answers[first : first+count]})
+			all = append(all, task{job, answers[first : first+count]})
 		}
 	}
 	return all, nil
@@ -146,8 +139,5 @@ var runTask = (*signing).run
 
 // run does a job.
 func (it *signing) run(next task) error {
-	return done(uninterrupted(func() C.uint32_t {
-		return C.slh_sign_job(it.set, it.levels, forsLevels, at(it.key), size(it.key), at(it.start), size(it.start),
-			C.uint32_t(next.job), at(next.answer), size(next.answer))
-	}))
+	return done(uninterrupted(func() uint32 { return it.do(next.job, next.answer) }))
 }

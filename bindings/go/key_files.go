@@ -1,9 +1,6 @@
-//go:build cgo
-
 package slh
 
 import (
-	"encoding/hex"
 	"fmt"
 	"io"
 	"os"
@@ -17,6 +14,12 @@ const (
 
 // mostRead is the most bytes that are read of a file. No longer file is a key file.
 const mostRead = 1 << 16
+
+// In key files of the six sets lines 2 and 3 begin at these places.
+const (
+	nameAt   = 17
+	digitsAt = 35
+)
 
 // ParseSecretKey returns the secret key of a key file's text, of either version, with the file's set. Call Check once
 // on a key that comes from elsewhere. The text is the caller's to overwrite. It is refused as NotAKeyFile, UnknownSet,
@@ -54,19 +57,16 @@ func ReadPublicKeyFile(path string) (*PublicKey, error) {
 // ErrErased.
 func (secret *SecretKey) MarshalKeyFile() ([]byte, error) {
 	var text []byte
-	err := secret.use(func(key []byte) error {
-		text = keyFile(secretFile, secret.set, key)
-		return nil
+	err := secret.use(func(key []byte) (err error) {
+		text, err = keyFile(secretFile, secret.set, key)
+		return err
 	})
 	return text, err
 }
 
 // MarshalKeyFile returns the text of a key file of version 2.
 func (public *PublicKey) MarshalKeyFile() ([]byte, error) {
-	if _, err := public.set.Lengths(); err != nil {
-		return nil, err
-	}
-	return keyFile(publicFile, public.set, public.key.bytes()), nil
+	return keyFile(publicFile, public.set, public.key.bytes())
 }
 
 // WriteFile writes a new key file of version 2, which its owner alone may read (mode 0600). A file that exists is
@@ -89,75 +89,57 @@ func (public *PublicKey) WriteFile(path string) error {
 	return writeNew(path, text, 0o644)
 }
 
-// keyFile returns the text of a key file of version 2. Its digits are encoded byte by byte, and so leave no part of the
-// key in vector registers.
-func keyFile(kind string, set Set, key []byte) []byte {
-	head := "slh-dsa-" + kind + " 2\n" + set.String() + "\n"
-	text := make([]byte, len(head)+2*len(key)+1)
-	digits := text[copy(text, head):]
-	hex.Encode(digits, key)
-	digits[2*len(key)] = '\n'
-	return text
-}
-
-// parse returns the set and the key of a key file's text. It looks for no line feed by package bytes, which would leave
-// digits of the key in vector registers.
-func parse(kind string, text []byte) (Set, []byte, error) {
-	rest, ok := cut(text, "slh-dsa-"+kind+" 2\n")
-	if !ok {
-		rest, ok = cut(text, "slh-dsa-"+kind+" 1\n")
-	}
-	if !ok {
-		return 0, nil, NotAKeyFile
-	}
-	for set, name := range setNames {
-		if digits, ok := cut(rest, name+"\n"); ok {
-			key, err := parseDigits(kind, set, digits)
-			return set, key, err
-		}
-	}
-	return 0, nil, UnknownSet
-}
-
-// cut returns the text after a line, if the text begins with it.
-func cut(text []byte, line string) ([]byte, bool) {
-	if len(text) < len(line) || string(text[:len(line)]) != line {
-		return nil, false
-	}
-	return text[len(line):], true
-}
-
-// parseDigits returns the key of a third line, after which the text has to end.
-func parseDigits(kind string, set Set, text []byte) ([]byte, error) {
-	end := 0
-	for end < len(text) && text[end] != '\n' {
-		if !isDigit(text[end]) {
-			return nil, BadHex
-		}
-		end++
-	}
-	lengths, err := set.Lengths()
-	if err != nil {
+// keyFile returns the text of a key file of version 2. libslh writes a zero byte after it.
+func keyFile(kind string, set Set, key []byte) ([]byte, error) {
+	text := make([]byte, digitsAt+2*len(key)+2)
+	if err := done(uninterrupted(func() uint32 { return set.writeKey(kind, key, text) })); err != nil {
 		return nil, err
 	}
-	length := lengths.PublicKey
-	if kind == secretFile {
-		length = lengths.SecretKey
-	}
-	if end != 2*length {
-		return nil, fmt.Errorf("%w: a %s key of %s has %d digits, not %d", BadKeyLength, kind, set, 2*length, end)
-	}
-	if end+1 < len(text) {
-		return nil, TrailingBytes
-	}
-	key := make([]byte, length)
-	_, err = hex.Decode(key, text[:end])
-	return key, err
+	return text[:len(text)-1], nil
 }
 
-// isDigit reports whether a byte is a hexadecimal digit.
-func isDigit(it byte) bool {
-	return '0' <= it && it <= '9' || 'a' <= it && it <= 'f' || 'A' <= it && it <= 'F'
+// parse returns the set and the key of a key file's text, which libslh reads.
+func parse(kind string, text []byte) (set Set, key []byte, err error) {
+	room, isSecret := make([]byte, maxSecretKey), false
+	result := uninterrupted(func() (result uint32) {
+		set, isSecret, result = readKey(text, room)
+		return result
+	})
+	if result != success {
+		return 0, nil, whyRefused(result, kind, text)
+	}
+	if isSecret != (kind == secretFile) {
+		erase(room)
+		return 0, nil, NotAKeyFile
+	}
+	return set, room[:keyLength(kind, set)], nil
+}
+
+// whyRefused returns the error of a text that libslh refuses. libslh reads files of both kinds, and names the other
+// faults of a set without a number, whose name begins with custom, before that set. Here these two come first. It looks
+// for no line feed by package bytes, which would leave digits of the key in vector registers.
+func whyRefused(result uint32, kind string, text []byte) error {
+	refusal := Refusal(result)
+	switch {
+	case refusal < UnknownSet || refusal > TrailingBytes:
+		return done(result)
+	case string(text[len("slh-dsa-"):nameAt-len(" 2\n")]) != kind:
+		return NotAKeyFile
+	case refusal == UnknownSet || text[nameAt] == 'c':
+		return UnknownSet
+	case refusal != BadKeyLength:
+		return refusal
+	}
+	set, err := ParseSet(string(text[nameAt : digitsAt-1]))
+	if err != nil {
+		return err
+	}
+	end := digitsAt
+	for end < len(text) && text[end] != '\n' {
+		end++
+	}
+	const why = "%w: a %s key of %s has %d digits, not %d"
+	return fmt.Errorf(why, BadKeyLength, kind, set, 2*keyLength(kind, set), end-digitsAt)
 }
 
 // readFile returns the result of a call over a file's text, and overwrites the text. It reads into one buffer of a

@@ -274,6 +274,33 @@ func TestFilesThatAreNoKeys(t *testing.T) {
 	}
 }
 
+// TestTheOtherKindAndOtherSetsComeFirst refuses a file of the other kind, or of a set that only the program has, as
+// such, whatever else is wrong with it. libslh reads these, and names the other fault.
+func TestTheOtherKindAndOtherSetsComeFirst(t *testing.T) {
+	refused := func(text string, isSecret bool, wanted slh.Refusal) {
+		t.Helper()
+		if again, err := load([]byte(text), isSecret); !errors.Is(err, wanted) || again != "" {
+			t.Errorf("%q: %v, and not %v", text, err, wanted)
+		}
+	}
+	for _, isSecret := range []bool{false, true} {
+		kind, other, digits := "public", "secret", strings.Repeat("0", 64)
+		if isSecret {
+			kind, other, digits = other, kind, digits+digits
+		}
+		for _, end := range []string{digits, digits + "\n", digits + "\n\n", digits + "g", "00", "g", ""} {
+			for _, version := range []string{"1", "2"} {
+				refused("slh-dsa-"+other+" "+version+"\nSLH-DSA-SHA2-128f\n"+end, isSecret, slh.NotAKeyFile)
+			}
+			refused("slh-dsa-"+kind+" 2\ncustom:16,4,3,22,6,34\n"+end, isSecret, slh.UnknownSet)
+			refused("slh-dsa-"+other+" 2\ncustom:16,4,3,22,6,34\n"+end, isSecret, slh.NotAKeyFile)
+		}
+		refused("slh-dsa-"+other+" 2\n", isSecret, slh.NotAKeyFile)
+		refused("slh-dsa-"+kind+" 2\n", isSecret, slh.UnknownSet)
+		refused("slh-dsa-"+kind+" 2\nc\n", isSecret, slh.UnknownSet)
+	}
+}
+
 // program runs ./slh of the repository, and returns its output. It finds no rt, by which it might build itself first.
 func program(t *testing.T, input string, words ...string) string {
 	t.Helper()

@@ -2,9 +2,6 @@
 
 package slh
 
-// #include "library.h"
-import "C"
-
 import (
 	"crypto"
 	"crypto/sha256"
@@ -72,14 +69,14 @@ func (public *PublicKey) Verify(message, signature []byte, options *Options) err
 // HashVerify verifies a signature of the pre-hash form, with the message (Algorithm 25). It returns nil if it is valid,
 // and else ErrInvalid. It is refused as NoSuchFunction.
 func (public *PublicKey) HashVerify(hash crypto.Hash, message, signature []byte, options *Options) error {
-	it := &form{preHash, C.uint32_t(public.set), hash, message, options.value().Context}
+	it := &form{preHash, public.set, hash, message, options.value().Context}
 	return public.verify(it, signature)
 }
 
 // HashVerifyDigest verifies a signature of the pre-hash form, with the message's digest. It returns nil if it is valid,
 // and else ErrInvalid. It is refused as NoSuchFunction and as BadDigestLength.
 func (public *PublicKey) HashVerifyDigest(hash crypto.Hash, digest, signature []byte, options *Options) error {
-	it := &form{byDigest, C.uint32_t(public.set), hash, digest, options.value().Context}
+	it := &form{byDigest, public.set, hash, digest, options.value().Context}
 	return public.verify(it, signature)
 }
 
@@ -226,10 +223,7 @@ var makeKey = keyOf
 
 // keyOf writes the bytes of the key of three seeds.
 func keyOf(set Set, skSeed, skPrf, pkSeed, bytes []byte) error {
-	return done(uninterrupted(func() C.uint32_t {
-		return C.slh_keygen(C.uint32_t(set), at(skSeed), size(skSeed), at(skPrf), size(skPrf), at(pkSeed), size(pkSeed),
-			at(bytes), size(bytes))
-	}))
+	return done(uninterrupted(func() uint32 { return set.keygen(skSeed, skPrf, pkSeed, bytes) }))
 }
 
 // Set returns the parameter set.
@@ -269,9 +263,7 @@ func (secret *SecretKey) Public() crypto.PublicKey {
 func (secret *SecretKey) PublicKey() *PublicKey {
 	public := make([]byte, secret.lengths.PublicKey)
 	err := secret.use(func(key []byte) error {
-		return done(uninterrupted(func() C.uint32_t {
-			return C.slh_public(C.uint32_t(secret.set), at(key), size(key), at(public), size(public))
-		}))
+		return done(uninterrupted(func() uint32 { return secret.set.public(key, public) }))
 	})
 	if err != nil {
 		panic(err) // All lengths are those of the set.
@@ -282,9 +274,7 @@ func (secret *SecretKey) PublicKey() *PublicKey {
 // Check returns nil if PK.root is the root that the seeds give, and else ErrInvalid. This takes as long as Keygen.
 func (secret *SecretKey) Check() error {
 	return secret.use(func(key []byte) error {
-		return done(uninterrupted(func() C.uint32_t {
-			return C.slh_check(C.uint32_t(secret.set), at(key), size(key))
-		}))
+		return done(uninterrupted(func() uint32 { return secret.set.check(key) }))
 	})
 }
 
@@ -306,7 +296,7 @@ func (secret *SecretKey) HashSign(
 	source io.Reader, hash crypto.Hash, message []byte, options *Options,
 ) ([]byte, error) {
 	chosen := options.value()
-	return secret.sign(source, chosen, &form{preHash, C.uint32_t(secret.set), hash, message, chosen.Context})
+	return secret.sign(source, chosen, &form{preHash, secret.set, hash, message, chosen.Context})
 }
 
 // HashSignDigest signs a message in the pre-hash form (Algorithm 23) by its digest, for messages that are read in
@@ -315,7 +305,7 @@ func (secret *SecretKey) HashSignDigest(
 	source io.Reader, hash crypto.Hash, digest []byte, options *Options,
 ) ([]byte, error) {
 	chosen := options.value()
-	return secret.sign(source, chosen, &form{byDigest, C.uint32_t(secret.set), hash, digest, chosen.Context})
+	return secret.sign(source, chosen, &form{byDigest, secret.set, hash, digest, chosen.Context})
 }
 
 // use runs a call over a copy of the bytes, which is erased afterwards.
@@ -354,14 +344,14 @@ var makeSignature = (*SecretKey).made
 // made returns a signature by jobs, by two computations, or by one.
 func (secret *SecretKey) made(options Options, it *form, key, randomizer []byte) ([]byte, error) {
 	if options.Workers > 1 && it.kind != byDigest {
-		begin := func(start []byte) C.uint32_t { return it.start(key, randomizer, start) }
+		begin := func(start []byte) uint32 { return it.start(key, randomizer, start) }
 		return secret.signJobs(key, options, begin)
 	}
 	if options.runs() == 1 {
-		return secret.written(func(sig []byte) C.uint32_t { return it.sign(key, randomizer, sig) })
+		return secret.written(func(sig []byte) uint32 { return it.sign(key, randomizer, sig) })
 	}
 	scratch := newScratch(2 * secret.lengths.Signature)
-	return secret.written(func(sig []byte) C.uint32_t { return it.signTwice(key, randomizer, scratch, sig) })
+	return secret.written(func(sig []byte) uint32 { return it.signTwice(key, randomizer, scratch, sig) })
 }
 
 // newScratch returns memory for two signatures. A test puts memory that fails in its place.
@@ -371,7 +361,7 @@ var newScratch = func(count int) []byte { return make([]byte, count) }
 // may help to forge others, and returns ErrFault.
 func (secret *SecretKey) verified(it *form, key, signature []byte) error {
 	public := key[len(key)-secret.lengths.PublicKey:]
-	if it.verify(public, signature) == C.SLH_DONE {
+	if it.verify(public, signature) == success {
 		return nil
 	}
 	erase(signature)
@@ -379,12 +369,12 @@ func (secret *SecretKey) verified(it *form, key, signature []byte) error {
 }
 
 // A writing is a call that writes a signature or a start.
-type writing func(out []byte) C.uint32_t
+type writing func(out []byte) uint32
 
 // written returns the signature that a call writes.
 func (secret *SecretKey) written(call writing) ([]byte, error) {
 	sig := make([]byte, secret.lengths.Signature)
-	if err := done(uninterrupted(func() C.uint32_t { return call(sig) })); err != nil {
+	if err := done(uninterrupted(func() uint32 { return call(sig) })); err != nil {
 		return nil, err
 	}
 	return sig, nil

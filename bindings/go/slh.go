@@ -25,14 +25,9 @@
 // compiler takes the portable C of tools/library.sh --target portable: CGO_CFLAGS="-IPREFIX/include -IPREFIX/src".
 package slh
 
-// #include "library.h"
-import "C"
-
 import (
 	"errors"
 	"fmt"
-	"runtime"
-	"unsafe"
 )
 
 // A Set is a parameter set (FIPS 205, section 11, Table 2), by libslh's number.
@@ -40,12 +35,12 @@ type Set uint32
 
 // The parameter sets.
 const (
-	SHA2_128s Set = C.SLH_DSA_SHA2_128S
-	SHA2_128f Set = C.SLH_DSA_SHA2_128F
-	SHA2_192s Set = C.SLH_DSA_SHA2_192S
-	SHA2_192f Set = C.SLH_DSA_SHA2_192F
-	SHA2_256s Set = C.SLH_DSA_SHA2_256S
-	SHA2_256f Set = C.SLH_DSA_SHA2_256F
+	SHA2_128s Set = 1
+	SHA2_128f Set = 2
+	SHA2_192s Set = 3
+	SHA2_192f Set = 4
+	SHA2_256s Set = 5
+	SHA2_256f Set = 6
 )
 
 var setNames = map[Set]string{
@@ -82,11 +77,8 @@ type Lengths struct {
 
 // Lengths returns the lengths of the set's keys and signatures. It is refused as NoSuchSet.
 func (set Set) Lengths() (Lengths, error) {
-	var pk, sk, sig, n C.size_t
-	if err := done(C.slh_lengths(C.uint32_t(set), &pk, &sk, &sig, &n)); err != nil {
-		return Lengths{}, err
-	}
-	return Lengths{int(pk), int(sk), int(sig), int(n)}, nil
+	it, result := set.lengths()
+	return it, done(result)
 }
 
 // SelfTest tests the set on this machine before it is used, as when a service starts. It makes a known key and signs a
@@ -102,7 +94,7 @@ func (set Set) SelfTest() error {
 		return err
 	}
 	scratch := make([]byte, lengths.Signature)
-	return done(C.slh_self_test(C.uint32_t(set), at(scratch), size(scratch)))
+	return done(set.selfTest(scratch))
 }
 
 // ErrInvalid says that a signature is not valid, or that the root of a secret key is not the one that its seeds give.
@@ -130,39 +122,23 @@ type Refusal uint32
 
 // The refusals that calls of this package return.
 const (
-	ContextTooLong  Refusal = C.SLH_CONTEXT_TOO_LONG
-	BadLength       Refusal = C.SLH_BAD_LENGTH
-	NoSuchSet       Refusal = C.SLH_NO_SUCH_SET
-	NoSuchFunction  Refusal = C.SLH_NO_SUCH_FUNCTION
-	BadSeedLength   Refusal = C.SLH_BAD_SEED_LENGTH
+	ContextTooLong  Refusal = 2
+	BadLength       Refusal = 3
+	NoSuchSet       Refusal = 8
+	NoSuchFunction  Refusal = 9
+	BadSeedLength   Refusal = 10
 	NotAKeyFile     Refusal = 11 // also a key file of the other kind
 	UnknownSet      Refusal = 12
 	BadHex          Refusal = 13
 	BadKeyLength    Refusal = 14
 	TrailingBytes   Refusal = 15
-	BadDigestLength Refusal = C.SLH_BAD_DIGEST_LENGTH
-	AnswersDisagree Refusal = C.SLH_ANSWERS_DISAGREE
+	BadDigestLength Refusal = 16
+	AnswersDisagree Refusal = 25
 )
-
-// fileRefusals are the names that libslh does not have, which reads no files.
-var fileRefusals = map[Refusal]string{
-	NotAKeyFile:   "NotAKeyFile",
-	UnknownSet:    "UnknownSet",
-	BadHex:        "BadHex",
-	BadKeyLength:  "BadKeyLength",
-	TrailingBytes: "TrailingBytes",
-}
 
 // Name returns the name, as ContextTooLong.
 func (refusal Refusal) Name() string {
-	if name, ok := fileRefusals[refusal]; ok {
-		return name
-	}
-	var name [C.SLH_MAX_NAME]C.char
-	if C.slh_refusal_name(C.uint32_t(refusal), &name[0], C.SLH_MAX_NAME) != C.SLH_DONE {
-		return "NoSuchRefusal"
-	}
-	return C.GoString(&name[0])
+	return refusal.nameInLibrary()
 }
 
 // Error returns the number and the name.
@@ -177,52 +153,38 @@ func wrongLength(refusal Refusal, what string, expected, given int) error {
 
 // Version returns the version of libslh: 1,000,000 times its first number, 1,000 times its second, and its third.
 func Version() uint32 {
-	return uint32(C.slh_version())
+	return version()
 }
 
+// Results of calls that are no refusals, of which the last is that of a build without libslh; and the most bytes of a
+// context and of a secret key.
+const (
+	success        = 0
+	invalid        = 30
+	fault          = 38
+	selfTestFailed = 40
+	withoutCgo     = ^uint32(0)
+	maxContext     = 255
+	maxSecretKey   = 128
+)
+
+var errWithoutCgo = errors.New("slh: this program was built without cgo, and so without libslh: set CGO_ENABLED=1, " +
+	"and install a C compiler")
+
 // done returns the result of a call as an error, which is nil if the call is done.
-func done(result C.uint32_t) error {
+func done(result uint32) error {
 	switch result {
-	case C.SLH_DONE:
+	case success:
 		return nil
-	case C.SLH_INVALID:
+	case invalid:
 		return ErrInvalid
-	case C.SLH_FAULT:
+	case fault:
 		return ErrFault
-	case C.SLH_SELF_TEST_FAILED:
+	case selfTestFailed:
 		return ErrSelfTestFailed
+	case withoutCgo:
+		return errWithoutCgo
 	default:
 		return Refusal(result)
 	}
-}
-
-// uninterrupted runs a call that takes secrets, on a thread that no signal interrupts meanwhile. The system would save
-// all registers on the stack of the handler, and Go's runtime interrupts threads by signals, also in C.
-func uninterrupted(call func() C.uint32_t) C.uint32_t {
-	runtime.LockOSThread()
-	defer runtime.UnlockOSThread()
-	var before C.signals
-	C.block_signals(&before)
-	defer C.restore_signals(&before)
-	return call()
-}
-
-// at returns where bytes begin, and nil if there are none.
-func at(bytes []byte) *C.uint8_t {
-	if len(bytes) == 0 {
-		return nil
-	}
-	return (*C.uint8_t)(unsafe.Pointer(&bytes[0]))
-}
-
-// erase overwrites bytes with zeros.
-func erase(bytes []byte) {
-	if len(bytes) > 0 {
-		C.slh_erase(unsafe.Pointer(at(bytes)), size(bytes))
-	}
-}
-
-// size returns how many bytes there are.
-func size(bytes []byte) C.size_t {
-	return C.size_t(len(bytes))
 }

@@ -8,6 +8,7 @@ const INVALID = 30;
 const FAULT = 38;
 const SELF_TEST_FAILED = 40;
 const MAX_NAME = 20;
+const MAX_SECRET_KEY = 128;
 const PAGE = 65536;
 
 // These calls take no secret. The module's stack is cleared after each other one.
@@ -18,9 +19,9 @@ const OPEN = [
     "slh_verify_internal", "slh_lengths", "slh_refusal_name", "slh_sign_jobs", "slh_answer_place", "slh_keygen_jobs",
 ];
 const SECRET = [
-    "slh_keygen", "slh_public", "slh_check", "slh_sign", "slh_hash_sign_digest", "slh_hash_sign", "slh_sign_twice",
-    "slh_hash_sign_digest_twice", "slh_hash_sign_twice", "slh_sign_internal", "slh_sign_start", "slh_hash_sign_start",
-    "slh_sign_job", "slh_sign_join", "slh_keygen_job", "slh_keygen_join",
+    "slh_keygen", "slh_public", "slh_check", "slh_key_read", "slh_key_write", "slh_sign", "slh_hash_sign_digest",
+    "slh_hash_sign", "slh_sign_twice", "slh_hash_sign_digest_twice", "slh_hash_sign_twice", "slh_sign_internal",
+    "slh_sign_start", "slh_hash_sign_start", "slh_sign_job", "slh_sign_join", "slh_keygen_job", "slh_keygen_join",
 ];
 // tools/call_tables.py has written the lines up to here.
 
@@ -66,7 +67,7 @@ class Verdicts extends Room {
     }
 }
 
-/** One number of 64 bits that a call writes. */
+/** One number of 64 bits that a call writes, or one of 32 bits: the memory is cleared before. */
 class NumberRoom extends Room {
     constructor() {
         super(8);
@@ -228,6 +229,13 @@ export class Calls {
         return room.bytes;
     }
 
+    /** The result of slh_key_read; and the set, the kind and the bytes of the key, with zeros behind them. */
+    readKey(file) {
+        const [set, kind, key] = [new NumberRoom(), new NumberRoom(), new Room(MAX_SECRET_KEY)];
+        const result = this.call("slh_key_read", [], file, set, kind, key);
+        return { result, set: set.value, kind: kind.value, key: key.bytes };
+    }
+
     #error(result, lengths) {
         if (result === SELF_TEST_FAILED) return new SelfTestFailed();
         if (result === FAULT) return new Fault("signing two times gave two different signatures");
@@ -235,12 +243,17 @@ export class Calls {
     }
 
     refusal(number, expected, given) {
+        const detail = `${expected} bytes are expected, and ${given} were given`;
+        return this.named(number, expected === undefined ? undefined : detail);
+    }
+
+    /** The refusal of a number, with its name. */
+    named(number, detail) {
         const room = new Room(MAX_NAME);
         const isOne = this.call("slh_refusal_name", [number], room) === DONE;
         const letters = room.bytes.subarray(0, room.bytes.indexOf(0));
         const name = isOne ? String.fromCharCode(...letters) : "NoSuchRefusal";
-        const detail = `${expected} bytes are expected, and ${given} were given`;
-        return new Refusal(number, name, expected === undefined ? undefined : detail);
+        return new Refusal(number, name, detail);
     }
 
     /** The lengths of a set's public keys, secret keys, signatures and seeds. */

@@ -114,7 +114,7 @@ class PublicKey {
     }
 
     format() {
-        return formatKey("public", this.#set, bytesOf.get(this));
+        return formatKey(this.#calls, "public", this.#set, bytesOf.get(this));
     }
 
     async fingerprint() {
@@ -174,7 +174,7 @@ class SecretKey {
     }
 
     format() {
-        return formatKey("secret", this.#set, this.#held());
+        return formatKey(this.#calls, "secret", this.#set, this.#held());
     }
 
     public() {
@@ -348,12 +348,12 @@ class Library {
     }
 
     parseSecretKey(file) {
-        const { set, bytes } = parseKey("secret", file, (number) => this.lengths(number).secretKey);
+        const { set, bytes } = parseKey(this.#calls, "secret", file);
         return this.#takeKey(set, bytes);
     }
 
     parsePublicKey(file) {
-        const { set, bytes } = parseKey("public", file, (number) => this.lengths(number).publicKey);
+        const { set, bytes } = parseKey(this.#calls, "public", file);
         return this.publicKey(set, bytes);
     }
 

@@ -22,6 +22,7 @@ import (
 	"bufio"
 	"crypto"
 	"crypto/subtle"
+	"errors"
 	"fmt"
 	"io"
 	"os"
@@ -97,7 +98,7 @@ func throughPKCS8(secret *slh.SecretKey, key []byte) {
 	}
 }
 
-// throughFile writes a key into a file, reads it again, and destroys that key.
+// throughFile writes a key into a file, reads it again, also as one of the other kind, and destroys that key.
 func throughFile(secret *slh.SecretKey, key []byte) {
 	folder, err := os.MkdirTemp("", "")
 	expect(err)
@@ -108,6 +109,10 @@ func throughFile(secret *slh.SecretKey, key []byte) {
 	again, err := slh.ReadSecretKeyFile(path)
 	expectNoneInVectors(key)
 	expect(err)
+	if _, err = slh.ReadPublicKeyFile(path); !errors.Is(err, slh.NotAKeyFile) {
+		panic("the file is a public one")
+	}
+	expectNoneInVectors(key)
 	if !secret.Equal(again) {
 		panic("the file has another key")
 	}

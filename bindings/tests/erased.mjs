@@ -5,7 +5,7 @@ import { tmpdir } from "node:os";
 import { join } from "node:path";
 
 import { load, SLH_DSA_SHA2_128F, SLH_SHA2_256 } from "slh";
-import { dump, loadSecretKey } from "slh/files";
+import { dump, loadPublicKey, loadSecretKey } from "slh/files";
 import * as pkix from "slh/pkix";
 
 const slh = await load();
@@ -25,6 +25,8 @@ if (!secret.check() || !publicKey.verify(message, signature)) process.exit(1);
 const folder = mkdtempSync(join(tmpdir(), "slh-"));
 await dump(secret, join(folder, "secret.key"));
 const loaded = await loadSecretKey(slh, join(folder, "secret.key"));
+const refusal = await loadPublicKey(slh, join(folder, "secret.key")).catch(({ name }) => name);
+if (refusal !== "NotAKeyFile") process.exit(1);
 rmSync(folder, { recursive: true });
 const file = loaded.format();
 const parsed = slh.parseSecretKey(file);

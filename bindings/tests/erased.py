@@ -18,6 +18,10 @@ def dump_and_load(key):
         with slh.SecretKey.load(path) as again:
             again.check()
         assert slh.load(path) == key
+        try:
+            slh.PublicKey.load(path)
+        except slh.Refusal as refusal:
+            assert refusal.name == "NotAKeyFile"
         with open(path, "r+b") as file:
             file.write(bytes(os.path.getsize(path)))
     text = key.dumps()

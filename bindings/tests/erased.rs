@@ -10,8 +10,7 @@ use slh::{AnySecretKey, Error, Function, Options, Randomizer, SecretKey, Signer,
 type Secret = SecretKey<SlhDsaSha2_128f>;
 
 const MESSAGE: &[u8] = b"letter";
-const ONCE: Options<'_> =
-    Options { context: b"", randomizer: Randomizer::Deterministic, once: true, twice: false, verify: false };
+const ONCE: Options<'_> = Options { once: true, ..Options::with_randomizer(Randomizer::Deterministic) };
 
 /// Signs by a key in each form, and by jobs.
 fn sign_by(secret: &Secret) -> Result<(), Error> {
@@ -64,7 +63,7 @@ fn sign() -> Result<(), Error> {
     let AnySecretKey::Sha2_128f(loaded) = file else { panic!("{file:?} is of another set") };
     let (other, again) = (first.duplicate(), Secret::try_from(&first.as_bytes()[..])?);
     assert!(first == other && again == loaded);
-    for secret in &vec![first, other, again, loaded] {
+    for secret in &Vec::from([first, other, again, loaded]) {
         secret.check()?;
         sign_by(secret)?;
     }

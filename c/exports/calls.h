@@ -1,10 +1,14 @@
 /*
  * The proved exports, a line each. SECRET(NAME, PARAMETERS, ARGUMENTS) stands for a call that takes secrets, and OPEN
- * for a call that takes none. Some of the latter have kinds of their own: SIZES if it writes sizes, HARDENED if it
- * returns a hardened verdict, MANY if it writes verdicts, VERSION if it returns a version, NAME if it writes a
- * refusal's name. The file that includes this one defines these macros. A kind that it does not define is OPEN. The
- * compiler compares each line with the headers. a, b and c are SK.seed, SK.prf and PK.seed.
+ * for a call that takes none. One of the former has a kind of its own: READS if it reads a file that names the set. So
+ * have some of the latter: SIZES if it writes sizes, HARDENED if it returns a hardened verdict, MANY if it writes
+ * verdicts, VERSION if it returns a version, NAME if it writes a refusal's name. The file that includes this one
+ * defines these macros. A kind that it does not define is SECRET or OPEN. The compiler compares each line with the
+ * headers. a, b and c are SK.seed, SK.prf and PK.seed.
  */
+#ifndef READS
+#define READS SECRET
+#endif
 #ifndef SIZES
 #define SIZES OPEN
 #endif
@@ -30,6 +34,12 @@ SECRET(public,
 SECRET(check,
        (uint32_t set, const uint8_t *sk, size_t sk_len),
        (set, sk, sk_len))
+READS(key_read,
+      (const uint8_t *file, size_t file_len, uint32_t *set_read, uint32_t *kind_read, uint8_t *key, size_t key_len),
+      (file, file_len, set_read, kind_read, key, key_len))
+SECRET(key_write,
+       (uint32_t set, uint32_t kind, const uint8_t *key, size_t key_len, char *text, size_t text_len),
+       (set, kind, key, key_len, text, text_len))
 SECRET(sign,
        (uint32_t set, const uint8_t *sk, size_t sk_len, const uint8_t *msg, size_t msg_len, const uint8_t *ctx,
         size_t ctx_len, const uint8_t *random, size_t random_len, uint8_t *sig, size_t sig_len),

@@ -22,25 +22,32 @@ HIDDEN void *slh_memset(void *to, int byte, size_t n);
  */
 HIDDEN uint32_t slh_clear(uint32_t result, size_t depth, uint32_t vectors);
 
-/* Stands for the level of a processor below x86-64-v2, for which there is no code. */
-enum { BELOW_V2 = 1 };
+/*
+ * Stands for the level of a processor below x86-64-v2, for which there is no code; and for x86-64-v2 with all of
+ * SHA-256 by SHA instructions.
+ */
+enum { BELOW_V2 = 1, V2_SHA = 5 };
 
 #ifdef __x86_64__
 /* Answers of CPUID and XGETBV. `xcr0` is 0 if the system has not enabled XGETBV. */
 struct slh_processor {
-    uint32_t leaf_1_ecx, leaf_7_ebx, leaf_80000001_ecx, xcr0;
+    uint32_t leaf_1_eax, leaf_1_ecx, leaf_7_ebx, leaf_80000001_ecx, xcr0;
 };
 
 HIDDEN struct slh_processor slh_ask_processor(void);
+
+/* Whether the processor has SHA instructions. With them the second adds a block of 64 bytes to a hash value. */
+HIDDEN uint32_t slh_has_sha(void);
+HIDDEN void slh_sha256(uint32_t *state, const uint8_t *block, size_t block_len);
 #endif
 
 #if defined(__x86_64__) || defined(SLH_ALL_LEVELS)
 /*
- * The chosen level (2, 3 or 4, or BELOW_V2) in the lowest byte, and the vectors of x86-64 above it. It is 0 before the
- * first call.
+ * The chosen level (2, 3 or 4, BELOW_V2 or V2_SHA) in the lowest byte; above it of x86-64 the vectors in the next byte,
+ * and whether there are SHA instructions. It is 0 before the first call.
  */
 extern HIDDEN uint32_t slh_choice;
-enum { LEVEL_MASK = 0xff, VECTORS_SHIFT = 8 };
+enum { LEVEL_MASK = 0xff, VECTORS_SHIFT = 8, VECTORS_MASK = 0xff, SHA_SHIFT = 16 };
 
 HIDDEN uint32_t slh_choose(void);
 
@@ -49,7 +56,7 @@ static inline uint32_t choice(void) {
     return it != 0 ? it : slh_choose();
 }
 
-static inline uint32_t vectors_of(uint32_t chosen) { return chosen >> VECTORS_SHIFT; }
+static inline uint32_t vectors_of(uint32_t chosen) { return chosen >> VECTORS_SHIFT & VECTORS_MASK; }
 #else
 static inline uint32_t choice(void) { return 0; }
 static inline uint32_t vectors_of(uint32_t chosen) { return chosen; }

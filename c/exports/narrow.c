@@ -10,6 +10,7 @@
 #undef size_t
 #undef SECRET
 #undef OPEN
+#undef READS
 #undef SIZES
 
 #define PROVED(name, parameters)

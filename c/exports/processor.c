@@ -21,8 +21,8 @@ static uint32_t saved_state(void) {
 }
 
 struct slh_processor slh_ask_processor(void) {
-    struct slh_processor it = {0, 0, 0, 0};
-    it.leaf_1_ecx = cpuid(1).c;
+    struct leaf first = cpuid(1);
+    struct slh_processor it = {first.a, first.c, 0, 0, 0};
     if (cpuid(0).a >= 7) it.leaf_7_ebx = cpuid(7).b;
     if (cpuid(0x80000000).a >= 0x80000001) it.leaf_80000001_ecx = cpuid(0x80000001).c;
     if (it.leaf_1_ecx & OSXSAVE) it.xcr0 = saved_state();

@@ -17,6 +17,16 @@ const char *slh_refusal_text(uint32_t result) {
         return "the number is not a pre-hash function's";
     case SLH_BAD_SEED_LENGTH:
         return "a seed does not have n bytes";
+    case SLH_NOT_A_KEY_FILE:
+        return "the first line is not that of a key file";
+    case SLH_UNKNOWN_SET:
+        return "the second line of the key file is not the name of a parameter set";
+    case SLH_BAD_HEX:
+        return "the third line of the key file has a byte that is no hexadecimal digit";
+    case SLH_BAD_KEY_LENGTH:
+        return "the third line of the key file has too few or too many digits for a key of the set";
+    case SLH_TRAILING_BYTES:
+        return "bytes follow the third line of the key file";
     case SLH_BAD_DIGEST_LENGTH:
         return "the digest does not have the length of its hash function's digests";
     case SLH_BAD_RANDOMIZER_LENGTH:
@@ -45,6 +55,8 @@ const char *slh_refusal_text(uint32_t result) {
         return "the processor, or the one that a virtual machine shows, is below x86-64-v2";
     case SLH_SELF_TEST_FAILED:
         return "an answer of the self-test is not the known one: do not use this set on this machine";
+    case SLH_NO_SUCH_KIND:
+        return "the number is not a kind of keys";
     default:
         return "this number is no result of the library";
     }

@@ -33,6 +33,21 @@ uint32_t slh_check(uint32_t set, const uint8_t *sk, size_t sk_len) {
     return result;
 }
 
+uint32_t slh_key_read(const uint8_t *file, size_t file_len, uint32_t *set, uint32_t *kind, uint8_t *key,
+                      size_t key_len) {
+    uint8_t numbers[2][8];
+    struct part parts[] = {READ(file), WORD(0), WORD(1), WRITE(key)};
+    RUN(key_read, B(0), P(1), P(2), B(3));
+    if (result == SLH_DONE) *set = get32(numbers[0]), *kind = get32(numbers[1]);
+    return result;
+}
+
+uint32_t slh_key_write(uint32_t set, uint32_t kind, const uint8_t *key, size_t key_len, char *text, size_t text_len) {
+    struct part parts[] = {READ(key), WRITE(text)};
+    RUN(key_write, set, kind, B(0), B(1));
+    return result;
+}
+
 uint32_t slh_self_test(uint32_t set, uint8_t *scratch, size_t scratch_len) {
     struct part parts[] = {WRITE(scratch)};
     RUN(self_test, set, B(0));

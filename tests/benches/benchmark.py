@@ -12,8 +12,7 @@ usage: tests/benches/benchmark.py [--turns N] [SET ..]
        tests/benches/benchmark.py --workers [SET ..]
 
 The folder has include/ and lib64/ or lib/, of version 3.5 or later; CC is the C compiler, or cc, and LDFLAGS has more
-words for it. OPENSSL_ia32cap=:~0x20000000 keeps OpenSSL from the processor's SHA instructions, which this library does
-not use.
+words for it. OPENSSL_ia32cap=:~0x20000000 keeps OpenSSL from the processor's SHA instructions.
 
 The second form times signing, key generation and the verifying of 64 signatures by 1, 2 and 4 workers, and as many
 threads of which each signs the message alone. It prints the speed-up over one worker, and for signing and verifying

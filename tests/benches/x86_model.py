@@ -1,13 +1,13 @@
 #!/usr/bin/env python3
-"""What a step of a WOTS+ chain takes on x86-64 processors by llvm-mca's model of them, in cycles: in lanes, and by the
-SHA instructions, which the library does not use. It is no measurement.
+"""What a step of a WOTS+ chain takes on x86-64 processors by llvm-mca's model of them, in cycles: in lanes, and by SHA
+instructions. It is no measurement.
 
 Usage: tests/benches/x86_model.py LIBSLH.A..     LLVM_MCA names another program than llvm-mca-19
 
-LIBSLH.A is libslh-v2.a, -v3.a or -v4.a, or without the kit cargo's libslh.a of the crates of tools/plain_rust.py, if
-RUSTFLAGS has `-C target-cpu=x86-64-v3`. It takes n = 16. The loop over the steps of a chain has no branch, so the model
-takes it as the library has it. The loop of SHA instructions is clang's of sha_ni_steps.c. A step needs the value of the
-one before, and the model sees that. It knows no cache and no memory. For Zen 1 and 2 it has 100 cycles for sha256msg2:
+LIBSLH.A is libslh-v2.a, -v3.a or -v4.a; libslh.a, of which the step by SHA instructions is taken; or without the kit
+cargo's libslh.a of the crates of tools/plain_rust.py, if RUSTFLAGS has `-C target-cpu=x86-64-v3`. It takes n = 16. The
+loop over the steps of a chain has no branch, so the model takes it as the library has it. Two chains side by side, which
+the library lacks, are clang's of sha_ni_steps.c. A step needs the value of the one before, and the model sees that. It knows no cache and no memory. For Zen 1 and 2 it has 100 cycles for sha256msg2:
 pmulld, with 4 cycles, replaces that. An archive of the kit also has the compression of single messages, by `sha2`.
 """
 import os
@@ -74,18 +74,27 @@ def report(title, code, messages, level="v2"):
             print(f"    {processor}: {cycles(processor, code) / messages:.1f}")
 
 
+def is_by_sha(code):
+    """Whether code has all rounds of a step by SHA instructions: two for each, but for the first four."""
+    return sum("sha256rnds2" in it for it in code) == 30
+
+
 def report_archive(archive):
     """Each n has a loop of its own, which is shortest for 16: its padding has the most words that are constants."""
     found = list(functions(archive))
+    by_sha = [it for name, lines in found if OF_CHAINS.search(name) for it in blocks(lines) if is_by_sha(it)]
+    if by_sha:
+        return report("a step by SHA instructions, as the library has it", min(by_sha, key=len), 1)
     loops = [it for name, lines in found if OF_CHAINS.search(name) for it in blocks(lines) if len(it) > LOOP]
     if len(loops) != 3:
         sys.exit(f"{archive} has {len(loops)} loops over the steps of chains, and not 3")
     block = min(loops, key=len)
     level, lanes = next(LANES[it] for it in LANES if any(it in line for line in block))
     report(f"a step in lanes, {level}", block, lanes, level)
-    # Sixteen rounds, and a loop of sixteen that has three turns.
-    for first, loop, last in [blocks(lines) for name, lines in found if OF_SHA2.search(name)]:
-        report(f"a single message, {level}", first + 3 * loop + last, 1, level)
+    # The question for SHA instructions; sixteen rounds, a loop of sixteen that has three turns, and sums.
+    for parts in [blocks(lines) for name, lines in found if OF_SHA2.search(name)]:
+        at = parts.index(max(parts, key=len))
+        report(f"a single message, {level}", parts[at - 1] + 3 * parts[at] + parts[at + 1], 1, level)
 
 
 def report_instructions(chains):
@@ -103,8 +112,7 @@ def main():
         sys.exit(__doc__.split("\n\n")[1])
     for it in sys.argv[1:]:
         report_archive(it)
-    for chains in (1, 2):
-        report_instructions(chains)
+    report_instructions(2)
 
 
 if __name__ == "__main__":

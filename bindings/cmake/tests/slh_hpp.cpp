@@ -1,5 +1,5 @@
-// Tests c/include/slh.hpp: tests of a vector file from standard input, and the types by themselves. tests.sh of this
-// folder compiles and runs it. The last line has the counts, and the status is 0 if nothing failed.
+// Tests c/include/slh.hpp: tests of a vector file from standard input, and the types by themselves.
+// tests/test_slh_hpp.py compiles and runs it. The last line has the counts, and the status is 0 if nothing failed.
 #include <slh.hpp>
 
 #include <malloc.h>

@@ -1,5 +1,5 @@
 // Uses c/include/slh.hpp without exceptions: without_exceptions [ERROR]. It signs and verifies, and prints the verdict;
-// or it makes the named error, after which it prints no more. slh_hpp.sh compiles and runs it.
+// or it makes the named error, after which it prints no more. tests/test_slh_hpp.py compiles and runs it.
 #include <slh.hpp>
 
 #include <cstdlib>

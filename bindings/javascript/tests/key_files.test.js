@@ -89,6 +89,28 @@ test("a refusal names the other file, and which length is expected", () => {
     }
 });
 
+test("the other kind, and a set that only the program has, come before each other fault", () => {
+    const refused = (call, file, wanted) => {
+        assert.throws(() => call(file), { message: new RegExp(`^${wanted}`) }, file);
+    };
+    for (const [call, kind, other, length] of [
+        [(it) => slh.parsePublicKey(it), "public", "secret", 64],
+        [(it) => slh.parseSecretKey(it), "secret", "public", 128],
+    ]) {
+        const digits = "0".repeat(length);
+        for (const end of [digits, `${digits}\n`, `${digits}\n\n`, `${digits}g`, "00", "g", ""]) {
+            for (const version of [1, 2]) {
+                const file = `slh-dsa-${other} ${version}\nSLH-DSA-SHA2-128f\n${end}`;
+                refused(call, file, `11 NotAKeyFile: this is a ${other} key file`);
+            }
+            refused(call, `slh-dsa-${kind} 2\ncustom:16,4,3,22,6,34\n${end}`, "12 UnknownSet$");
+            refused(call, `slh-dsa-${other} 2\ncustom:16,4,3,22,6,34\n${end}`, "11 NotAKeyFile");
+        }
+        refused(call, `slh-dsa-${other} 2\n`, "11 NotAKeyFile");
+        refused(call, `slh-dsa-${kind} 2\nc\n`, "12 UnknownSet$");
+    }
+});
+
 test("a key of each set is formatted and parsed", () => {
     for (const name of ["128s", "128f", "192s", "192f", "256s", "256f"].map((it) => `SLH-DSA-SHA2-${it}`)) {
         const { secretKey, publicKey } = slh.lengths(name);
@@ -179,6 +201,8 @@ test("the package overwrites its copies of a secret key file", async () => {
     const made = await buffersOf(async () => loaded.push(await loadSecretKey(slh, inFolder("erase.key"))));
     buffersOf(() => loaded.push(slh.parseSecretKey(SECRET_FILE), slh.parseSecretKey(Buffer.from(SECRET_FILE))), made);
     await buffersOf(() => dump(secret, inFolder("erase.dumped")), made);
+    const wrong = [() => slh.parsePublicKey(SECRET_FILE), () => slh.parseSecretKey(Buffer.from(`${SECRET_FILE}x`))];
+    for (const call of wrong) buffersOf(() => assert.throws(call, Refusal), made);
     const isIn = (it) => [...partsOf(sk), ...inDigits].some((part) => Buffer.from(it).includes(part));
     const left = () => made.filter(isIn);
     assert.equal(left().length, 3);

@@ -12,6 +12,8 @@ const { Erased, Fault, load, Refusal, SLH_DSA_SHA2_128F, SLH_SHA2_256, Trap } = 
 
 const sk = vectorKey();
 const parts = partsOf(sk);
+const digits = parts.map((it) => Buffer.from(hex(it)));
+const file = `slh-dsa-secret 2\nSLH-DSA-SHA2-128f\n${hex(sk)}\n`;
 const seeds = [0, 16, 32].map((at) => sk.subarray(at, at + 16));
 const text = new TextEncoder().encode("letter");
 const digest = new Uint8Array(32);
@@ -38,7 +40,7 @@ test("the search finds parts of a key", () => {
 
 function expectNothing(name) {
     assert.ok(memories.length > 0);
-    assert.ok(!isIn(memories, parts), `${name}: the key is in the module's memory`);
+    assert.ok(!isIn(memories, [...parts, ...digits]), `${name}: the key is in the module's memory`);
     memories.splice(0, memories.length - 1);
 }
 
@@ -203,6 +205,8 @@ test("a refusal leaves nothing", () => {
         () => slh.keygen(SLH_DSA_SHA2_128F, seeds[0], digest, seeds[2]),
         () => slh.secretKey(SLH_DSA_SHA2_128F, sk.subarray(1)),
         () => slh.publicKey(SLH_DSA_SHA2_128F, sk),
+        () => slh.parseSecretKey(`${file}x`),
+        () => slh.parsePublicKey(file),
     ];
     for (const call of refused) {
         assert.throws(call, Refusal);
@@ -226,6 +230,10 @@ test("a call that is done leaves nothing", () => {
     expectNothing("check");
     secret.public();
     expectNothing("public");
+    slh.parseSecretKey(file);
+    expectNothing("parseSecretKey");
+    secret.format();
+    expectNothing("format");
     assert.equal(publicKey.verify(sk, signature), false);
     expectNothing("verify");
 });
@@ -332,6 +340,8 @@ const traps = {
     slh_keygen: (library) => library.keygen(SLH_DSA_SHA2_128F, ...seeds),
     slh_public: (_, key) => key.public(),
     slh_check: (_, key) => key.check(),
+    slh_key_read: (library) => library.parseSecretKey(file),
+    slh_key_write: (_, key) => key.format(),
     slh_sign: (_, key) => key.sign(text, { once: true }),
     slh_hash_sign: (_, key) => key.hashSign(SLH_SHA2_256, text, { once: true }),
     slh_hash_sign_digest: (_, key) => key.hashSignDigest(SLH_SHA2_256, digest, { once: true }),

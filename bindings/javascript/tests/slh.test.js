@@ -459,7 +459,7 @@ test("a module that is damaged, or another one, is told", async () => {
     const damaged = Uint8Array.from(readFileSync(process.env.SLH_WASM)).fill(7, 600, 700);
     await assert.rejects(load(damaged), { message: /does not compile: it is damaged/ });
     const empty = Uint8Array.of(0, 97, 115, 109, 1, 0, 0, 0);
-    await assert.rejects(load(empty), { message: /has no slh_[a-z_]+: it is not the slh.wasm of this version/ });
+    await assert.rejects(load(empty), { message: /has no slh_\w+: it is not the slh.wasm of this version/ });
     await assert.rejects(load("slh.wasm"), TypeError);
     await assert.rejects(load(new URL("none.wasm", import.meta.url)), { code: "ENOENT" });
 });

@@ -204,9 +204,15 @@ def _runs(once: bool, twice: bool) -> int:
     return 2
 
 
+def _key_length(set: int | str, kind: str) -> int:
+    """The length of a key of this kind."""
+    lengths = _lengths(Set(set))
+    return lengths.public_key if kind == "public" else lengths.secret_key
+
+
 def _key_memory(set: Set, kind: str, given: Bytes) -> _Memory:
     """A copy of the bytes of a key of this kind."""
-    length = _lengths(set).public_key if kind == "public" else _lengths(set).secret_key
+    length = _key_length(set, kind)
     whole = memoryview(_calls.checked_type(given)).nbytes
     if whole != length:
         raise Refusal(_BAD_LENGTH, _Length(f"a {kind} key of {set.label}", length, whole))
@@ -279,7 +285,7 @@ class PublicKey(_Key):
 
     def dumps(self) -> bytes:
         """The bytes of a key file of version 2."""
-        return _key_files.text_of(self._kind, self._set.label, self._memory).to_bytes()
+        return _key_files.text_of(self._kind, self._set, self._memory).to_bytes()
 
     @_calls.discreet
     def dump(self, path: Path) -> None:
@@ -517,7 +523,7 @@ class SecretKey(_Key):
     @contextlib.contextmanager
     def _dumped(self) -> typing.Iterator[_Memory]:
         with self._taken() as secret:
-            text = _key_files.text_of(self._kind, self._set.label, secret)
+            text = _key_files.text_of(self._kind, self._set, secret)
             with _calls.cleared(text):
                 yield text
 
@@ -654,10 +660,9 @@ def _loads(kinds: tuple[type[_Key], ...], data: Bytes) -> _Key:
 def _parsed(kinds: tuple[type[_Key], ...], text: _Memory, skipped: int) -> _Key:
     """The key of a key file, which is cleared."""
     by_name = {it._kind: it for it in kinds}
-    lengths = {it.label: {"public": it.lengths.public_key, "secret": it.lengths.secret_key} for it in Set}
     with _calls.cleared(text):
-        kind, label, digits = _key_files.parse(tuple(by_name), text.view(), skipped, lengths)
-        return by_name[kind]._of(Set(label), _key_files.decode(digits))
+        kind, number, key = _key_files.parse(tuple(by_name), text, skipped, _key_length)
+        return by_name[kind]._of(Set(number), key)
 
 
 class Signer:

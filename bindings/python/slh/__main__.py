@@ -18,7 +18,8 @@ import types
 import typing
 
 import slh
-from slh import _acvp, _key_files
+from slh import _acvp
+from slh._calls import Memory
 from slh._help import OPTIONS, Command, help_text, usual
 
 _MOST_BYTES = 1 << 30
@@ -28,6 +29,7 @@ _NAMES = {31: "BadWords", 32: "ReadFailed", 33: "WriteFailed", 34: "BadSeeds", 3
           1: "NoMemory", 4: "BadCutting", 12: "UnknownSet", 38: "Fault"}
 #: The heights of an XMSS and of a FORS tree of each set (FIPS 205, Table 2).
 _HEIGHTS = {1: (9, 12), 2: (3, 6), 3: (9, 14), 4: (3, 8), 5: (8, 14), 6: (4, 9)}
+_VALUES = {ord(it): int(it, 16) for it in "0123456789abcdefABCDEF"}
 
 
 class _Stop(Exception):
@@ -147,11 +149,20 @@ def _keygen(words: types.SimpleNamespace) -> tuple[int, bytes | bytearray]:
             count -= 1
         if count != 6 * n or not re.fullmatch(b"[0-9A-Fa-f]*", memoryview(text)[:count]):
             raise _Stop(34)
-        seeds = _key_files.decode(memoryview(text)[:count])
+        seeds = _decoded(memoryview(text)[:count])
         with slh.SecretKey._of_seeds(found, [seeds.part(at, n) for at in (0, n, 2 * n)]) as secret:
             return 0, secret.dumps()
     finally:
         text[:] = bytes(len(text))
+
+
+def _decoded(digits: memoryview) -> Memory:
+    """The bytes of an even number of digits."""
+    made = Memory(len(digits) // 2)
+    view = made.view()
+    for at in range(made.length):
+        view[at] = _VALUES[digits[2 * at]] << 4 | _VALUES[digits[2 * at + 1]]
+    return made
 
 
 def _fill(text: bytearray) -> int:

@@ -15,13 +15,11 @@ INVALID = 30
 FAULT = 38
 SELF_TEST_FAILED = 40
 _MAX_NAME = 20
-#: Refusals of key files, which the library for C does not have (docs/FORMATS.md of the repository).
-_KEY_FILE_NAMES = {11: "NotAKeyFile", 12: "UnknownSet", 13: "BadHex", 14: "BadKeyLength", 15: "TrailingBytes"}
 
-_NAMES = """slh_version slh_level slh_lengths slh_refusal_name slh_keygen slh_public slh_check slh_sign slh_sign_twice
-slh_verify slh_hash_sign slh_hash_sign_twice slh_hash_verify slh_hash_sign_digest slh_hash_sign_digest_twice
-slh_hash_verify_digest slh_sign_jobs slh_answer_place slh_sign_start slh_hash_sign_start slh_sign_job
-slh_sign_join""".split()
+_NAMES = """slh_version slh_level slh_lengths slh_refusal_name slh_keygen slh_public slh_check slh_key_read
+slh_key_write slh_sign slh_sign_twice slh_verify slh_hash_sign slh_hash_sign_twice slh_hash_verify slh_hash_sign_digest
+slh_hash_sign_digest_twice slh_hash_verify_digest slh_sign_jobs slh_answer_place slh_sign_start slh_hash_sign_start
+slh_sign_job slh_sign_join""".split()
 
 _IS_WINDOWS = os.name == "nt"
 #: BCRYPT_USE_SYSTEM_PREFERRED_RNG of Windows.
@@ -130,7 +128,7 @@ class SelfTestFailed(Exception):
 def _refusal_name(number: int) -> str:
     name = ctypes.create_string_buffer(_MAX_NAME)
     if call("slh_refusal_name", number, name) != DONE:
-        return _KEY_FILE_NAMES.get(number, "NoSuchRefusal")
+        return "NoSuchRefusal"
     return name.value.decode("ascii")
 
 

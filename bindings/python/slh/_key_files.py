@@ -1,34 +1,28 @@
-"""Key files (docs/FORMATS.md of the repository, "Key file"): both versions are read, and version 2 is written."""
+"""Key files (docs/FORMATS.md of the repository, "Key file"): libslh reads both versions, and writes version 2."""
 
 from __future__ import annotations
 
+import ctypes
 import os
 import re
 import typing
 
-from slh._calls import Length, Memory, Refusal, cleared
+from slh._calls import DONE, Length, Memory, Refusal, call, cleared, done
 
-KINDS = ("public", "secret")
+#: libslh's numbers of the kinds.
+_KINDS = {"public": 1, "secret": 2}
+_MAX_SECRET_KEY = 128
+#: Where lines 2 and 3 begin, in a file of one of the six sets.
+_NAME, _DIGITS = 17, 35
 #: A longer file is not a key file. It is read up to its first fault.
 _FRONT = 512
 _LINE_FEED = re.compile(rb"\n")
 _NOT_A_DIGIT = re.compile(rb"[^0-9A-Fa-f]")
-_DIGITS = b"0123456789abcdef"
 #: The digits of a secret key of any set.
 _KEY_DIGITS = re.compile("(?:[0-9A-Fa-f]{64}){2,4}")
-_VALUES = {ord(it): int(it, 16) for it in "0123456789abcdefABCDEF"}
 
-
-#: The lengths of keys, by the label of the set and by the kind.
-Lengths = typing.Mapping[str, typing.Mapping[str, int]]
-
-
-class Parsed(typing.NamedTuple):
-    """The first two lines of a key file, and the digits of the third."""
-
-    kind: str
-    label: str
-    digits: memoryview
+#: The length of a key, by the number or the name of its set and by its kind.
+LengthOf = typing.Callable[[typing.Union[int, str], str], int]
 
 
 def checked_path(path: str | os.PathLike[str]) -> str:
@@ -74,65 +68,56 @@ def _skip_digits(file: typing.Any) -> tuple[int, bytes]:
     return skipped, b""
 
 
-def parse(kinds: typing.Sequence[str], text: memoryview, skipped: int, lengths: Lengths) -> Parsed:
-    """The parts of a key file of one of these kinds, of which `read` has left out some digits.
+def parse(kinds: typing.Sequence[str], text: Memory, skipped: int, length_of: LengthOf) -> tuple[str, int, Memory]:
+    """The kind, the set's number and the key of a key file of one of these kinds. `read` has left out some digits.
 
     Raises Refusal by the first fault: NotAKeyFile, UnknownSet, BadHex, BadKeyLength, TrailingBytes.
     """
-    kind, begin = _first_line(kinds, text)
-    label, begin = _second_line(lengths, text, begin)
-    found = _LINE_FEED.search(text, begin)
-    end, after = (found.start(), found.end()) if found else (len(text), len(text))
-    expected, given = 2 * lengths[label][kind], end - begin + (skipped if end >= _FRONT else 0)
-    if _NOT_A_DIGIT.search(text[begin:end]):
-        raise Refusal(13, "line 3 has a byte that is not a hexadecimal digit")
-    if given != expected:
-        raise Refusal(14, Length(f"line 3 of a {kind} key of {label}", expected, given, "digits"))
-    if after != len(text):
-        raise Refusal(15, "bytes follow line 3")
-    return Parsed(kind, label, text[begin:end])
+    number, kind_number, room = ctypes.c_uint32(), ctypes.c_uint32(), Memory(_MAX_SECRET_KEY)
+    with cleared(room):
+        result = call("slh_key_read", text, number, kind_number, room)
+        if result != DONE:
+            raise _refusal(result, kinds, text.view(), skipped, length_of)
+        kind = next(it for it in _KINDS if _KINDS[it] == kind_number.value)
+        if kind not in kinds:
+            raise _other_kind(kind, kinds)
+        return kind, number.value, Memory.copy_of(room.part(0, length_of(number.value, kind)))
 
 
-def _first_line(kinds: typing.Sequence[str], text: memoryview) -> tuple[str, int]:
-    """The kind that line 1 says, and where line 2 begins."""
-    found = _LINE_FEED.search(text)
-    for kind in KINDS:
-        if found and text[: found.start()] in (b"slh-dsa-%s 1" % kind.encode(), b"slh-dsa-%s 2" % kind.encode()):
-            if kind in kinds:
-                return kind, found.end()
-            raise Refusal(11, f"the key is {kind}, and a {kinds[0]} one is asked for")
-    raise Refusal(11, "this is PEM" if text[:11] == b"-----BEGIN " else "line 1 is not that of a key file")
+def _other_kind(kind: str, kinds: typing.Sequence[str]) -> Refusal:
+    return Refusal(11, f"the key is {kind}, and a {kinds[0]} one is asked for")
 
 
-def _second_line(labels: typing.Iterable[str], text: memoryview, begin: int) -> tuple[str, int]:
-    """The set that line 2 names, and where line 3 begins."""
-    found = _LINE_FEED.search(text, begin)
-    for label in labels:
-        if found and text[begin : found.start()] == label.encode():
-            return label, found.end()
-    raise Refusal(12, "line 2 is not the name of one of the six sets")
+def _refusal(
+    number: int, kinds: typing.Sequence[str], text: memoryview, skipped: int, length_of: LengthOf
+) -> Refusal:
+    """The refusal of a file that libslh refuses.
+
+    libslh reads files of both kinds, and names the other faults of a set without a number before that set. Here these
+    two come first. The portable C also refuses if it gets no memory.
+    """
+    if number == 11:
+        return Refusal(number, "this is PEM" if text[:11] == b"-----BEGIN " else "line 1 is not that of a key file")
+    if not 12 <= number <= 15:
+        return Refusal(number)
+    kind = next(it for it in _KINDS if text[: _NAME - 3] == b"slh-dsa-" + it.encode())
+    if kind not in kinds:
+        return _other_kind(kind, kinds)
+    if number == 12 or text[_NAME : _NAME + 7] == b"custom:":
+        return Refusal(12, "line 2 is not the name of one of the six sets")
+    if number != 14:
+        return Refusal(number)
+    label, found = bytes(text[_NAME : _DIGITS - 1]).decode(), _LINE_FEED.search(text, _DIGITS)
+    end = found.start() if found else len(text)
+    given = end - _DIGITS + (skipped if end >= _FRONT else 0)
+    return Refusal(number, Length(f"line 3 of a {kind} key of {label}", 2 * length_of(label, kind), given, "digits"))
 
 
-def decode(digits: memoryview) -> Memory:
-    """The bytes of an even number of digits."""
-    made = Memory(len(digits) // 2)
-    view = made.view()
-    for at in range(made.length):
-        view[at] = _VALUES[digits[2 * at]] << 4 | _VALUES[digits[2 * at + 1]]
-    return made
-
-
-def text_of(kind: str, label: str, key: Memory) -> Memory:
-    """A key file of version 2."""
-    head = f"slh-dsa-{kind} 2\n{label}\n".encode()
-    made = Memory(len(head) + 2 * key.length + 1)
-    view = made.view()
-    view[: len(head)] = head
-    for at, byte in enumerate(key.view()):
-        view[len(head) + 2 * at] = _DIGITS[byte >> 4]
-        view[len(head) + 2 * at + 1] = _DIGITS[byte & 15]
-    view[made.length - 1 :] = b"\n"
-    return made
+def text_of(kind: str, set: int, key: Memory) -> Memory:
+    """A key file of version 2. libslh writes a zero byte after it."""
+    made = Memory(_DIGITS + 2 * key.length + 2)
+    done("slh_key_write", set, _KINDS[kind], key, made)
+    return made.part(0, made.length - 1)
 
 
 def write(path: str | os.PathLike[str], text: Memory, is_secret: bool) -> None:

@@ -82,7 +82,7 @@ class Commands(unittest.TestCase):
 
     def test_seeds_and_the_key_are_cleared(self) -> None:
         """The digits of the seeds are in a bytearray, and the seeds outside Python's objects: both are cleared."""
-        texts, memories, decode = [], [], slh.__main__._key_files.decode
+        texts, memories, decode = [], [], slh.__main__._decoded
 
         def fill(text: bytearray) -> int:
             texts.append(text)
@@ -94,7 +94,7 @@ class Commands(unittest.TestCase):
             return memories[-1]
 
         keep = unittest.mock.patch("slh.__main__._fill", fill)
-        wraps = unittest.mock.patch("slh.__main__._key_files.decode", decoded)
+        wraps = unittest.mock.patch("slh.__main__._decoded", decoded)
         with keep, wraps, unittest.mock.patch("os.write", lambda _, it: len(it)):
             status, key = slh.__main__._answer(["keygen", "--set", FAST])
             self.assertEqual((0, self.secret.dumps()), (status, key))

@@ -96,12 +96,12 @@ class Files(unittest.TestCase):
         self.assertEqual(seen, 32)
 
     def test_files_that_are_cut_or_damaged_are_refused(self) -> None:
-        seen, names = 0, slh._calls._KEY_FILE_NAMES
+        seen = 0
         for name, (data, *wanted) in (it for it in self.rows() if it[0].endswith(("_cut", "_replaced"))):
             kind, text, cuts = name[5:11], data.encode("latin-1"), name.endswith("_cut")
             for at, number in enumerate(wanted):
                 changed = text[:at] if cuts else text[:at] + b"\xff" + text[at + 1 :]
-                self.same(kind, changed, f"{number} {names[int(number)]}" if number != "0" else "")
+                self.same(kind, changed, f"{number} {NAMES[number]}" if number != "0" else "")
                 seen += 1
         self.assertGreater(seen, 500)
 
@@ -127,7 +127,7 @@ class Files(unittest.TestCase):
                 name = row["words"][2]
                 if row["words"][1] == "--key" and name in files:
                     number = row.get("errors", "")[5:].strip()
-                    self.same(kind, changed(row, files)[name], number if number[:2] in NUMBERS else "")
+                    self.same(kind, changed(row, files)[name], number if number[:2] in NAMES else "")
                     seen += 1
         self.assertGreater(seen, 750)
 
@@ -152,6 +152,26 @@ class Files(unittest.TestCase):
         with self.assertRaises(slh.Refusal) as caught:
             in_file(slh.load, front + b"0" * 65537)
         self.assertEqual((caught.exception.expected, caught.exception.given), (128, 65537))
+
+    def test_the_other_kind_and_other_sets_come_first(self) -> None:
+        """libslh reads files of both kinds, and sets that only the program has. It names another fault of them."""
+        for kind, other, digits in ("public", "secret", "0" * 64), ("secret", "public", "0" * 128):
+            for end in (digits, f"{digits}\n", f"{digits}\n\n", f"{digits}g", "00", "g", ""):
+                of = f"slh-dsa-{other} 1\nSLH-DSA-SHA2-128f\n{end}".encode()
+                self.same(kind, of, "11 NotAKeyFile")
+                self.same(kind, of.replace(b" 1", b" 2"), "11 NotAKeyFile")
+                custom = f"slh-dsa-{kind} 2\ncustom:16,4,3,22,6,34\n{end}".encode()
+                for read in kind, "any":
+                    self.same(read, custom, "12 UnknownSet")
+                self.same(other, custom, "11 NotAKeyFile")
+            self.same(kind, f"slh-dsa-{other} 2\n".encode(), "11 NotAKeyFile")
+            self.same(kind, f"slh-dsa-{kind} 2\nc\n".encode(), "12 UnknownSet")
+
+    def test_a_refusal_that_is_not_about_the_file_is_told(self) -> None:
+        """The portable C returns 37 if it gets no memory."""
+        for data in b"", self.public.dumps():
+            with unittest.mock.patch("slh._key_files.call", return_value=37):
+                self.assertEqual(refusal_of(slh.loads, data)[:3], "37 ")
 
     def test_a_key_of_another_kind_is_told(self) -> None:
         for read, text, said in (
@@ -280,10 +300,10 @@ class Files(unittest.TestCase):
             said = run("upgrade", "--key", self.path).stderr.decode()[5:].strip()
             self.same("any", data, said)
             wanted.add(said[:2])
-        self.assertEqual(wanted, {"", *NUMBERS})
+        self.assertEqual(wanted, {"", *NAMES})
 
 
-NUMBERS = {"11", "12", "13", "14", "15"}
+NAMES = {"11": "NotAKeyFile", "12": "UnknownSet", "13": "BadHex", "14": "BadKeyLength", "15": "TrailingBytes"}
 
 
 def edited(source: random.Random, data: bytes) -> bytes:

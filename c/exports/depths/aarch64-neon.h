@@ -1,4 +1,4 @@
-/* How deep each call goes, in bytes: for a number of no set, and for each set. By tools/depths.sh. */
+/* How deep each call goes, in bytes: for a number of no set, and for each set. By pytest --write. */
 DEPTHS(keygen, 768, 24864, 24864, 24864, 24864, 24864, 24864)
 DEPTHS(public, 608, 608, 608, 608, 608, 608, 608)
 DEPTHS(check, 672, 24768, 24768, 24768, 24768, 24768, 24768)
@@ -15,3 +15,5 @@ DEPTHS(sign_job, 16432, 39472, 39472, 42000, 39472, 42000, 39472)
 DEPTHS(sign_join, 40912, 61200, 61200, 63520, 63520, 63520, 63520)
 DEPTHS(keygen_job, 1552, 25648, 27904, 25648, 27904, 25648, 25648)
 DEPTHS(keygen_join, 13120, 17104, 17104, 18864, 18864, 18864, 18864)
+DEPTHS(key_read, 1504, 1504, 1504, 1504, 1504, 1504, 1504)
+DEPTHS(key_write, 480, 480, 480, 480, 480, 480, 480)

@@ -1,4 +1,4 @@
-/* How deep each call goes, in bytes: for a number of no set, and for each set. By tools/depths.sh. */
+/* How deep each call goes, in bytes: for a number of no set, and for each set. By pytest --write. */
 DEPTHS(keygen, 768, 24304, 24304, 24304, 24304, 24304, 24304)
 DEPTHS(public, 608, 608, 608, 608, 608, 608, 608)
 DEPTHS(check, 672, 24208, 24208, 24208, 24208, 24208, 24208)
@@ -15,3 +15,5 @@ DEPTHS(sign_job, 13328, 49200, 50976, 49200, 50976, 49200, 49200)
 DEPTHS(sign_join, 40912, 61200, 61200, 63520, 63520, 63520, 63520)
 DEPTHS(keygen_job, 1552, 25088, 26864, 25088, 26864, 25088, 25088)
 DEPTHS(keygen_join, 13120, 16816, 16816, 18864, 18864, 18864, 18864)
+DEPTHS(key_read, 1504, 1504, 1504, 1504, 1504, 1504, 1504)
+DEPTHS(key_write, 480, 480, 480, 480, 480, 480, 480)

@@ -1,4 +1,4 @@
-/* How deep each call goes, in bytes: for a number of no set, and for each set. By tools/depths.sh. */
+/* How deep each call goes, in bytes: for a number of no set, and for each set. By pytest --write. */
 DEPTHS(keygen, 640, 23136, 23136, 23136, 23136, 23136, 23136)
 DEPTHS(public, 528, 528, 528, 528, 528, 528, 528)
 DEPTHS(check, 608, 23104, 23104, 23104, 23104, 23104, 23104)
@@ -15,3 +15,5 @@ DEPTHS(sign_job, 30800, 54032, 51104, 57232, 51104, 57232, 49232)
 DEPTHS(sign_join, 40816, 61216, 61216, 62672, 62672, 62672, 62672)
 DEPTHS(keygen_job, 736, 23952, 26752, 23952, 26752, 23952, 23952)
 DEPTHS(keygen_join, 13008, 17440, 17440, 19248, 19248, 19248, 19248)
+DEPTHS(key_read, 1664, 1664, 1664, 1664, 1664, 1664, 1664)
+DEPTHS(key_write, 368, 384, 384, 384, 384, 384, 384)

@@ -1,4 +1,4 @@
-/* How deep each call goes, in bytes: for a number of no set, and for each set. By tools/depths.sh. */
+/* How deep each call goes, in bytes: for a number of no set, and for each set. By pytest --write. */
 DEPTHS(keygen, 736, 28640, 28640, 28640, 28640, 28640, 28640)
 DEPTHS(public, 528, 576, 576, 576, 576, 576, 576)
 DEPTHS(check, 6304, 28128, 28128, 28128, 28128, 28128, 28128)
@@ -15,3 +15,5 @@ DEPTHS(sign_job, 33712, 58480, 56016, 61744, 56016, 61744, 55968)
 DEPTHS(sign_join, 41264, 59696, 59696, 62768, 62768, 62768, 62768)
 DEPTHS(keygen_job, 4096, 28480, 28528, 28480, 28528, 28480, 28480)
 DEPTHS(keygen_join, 12976, 16816, 16816, 19888, 19888, 19888, 19888)
+DEPTHS(key_read, 1536, 1536, 1536, 1536, 1536, 1536, 1536)
+DEPTHS(key_write, 384, 432, 432, 432, 432, 432, 432)

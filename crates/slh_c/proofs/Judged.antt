@@ -3,7 +3,7 @@ use Rattle.std.proofs.Common.{◌≡◌, ℕ, if◌then◌else◌, Bool, true, f
 use Rattle.slh_c.specs.Refusals.{number}
 use Rattle.slh_c.specs.Rules.{first_refusal, AreMet}
 use Rattle.slh_c.specs.declared.refusal.Refusal.{Refusal}
-use Rattle.slh_c.specs.declared.refusal.Refusal.TheVariants.{ContextTooLong, BadLength, BadCutting, NoSuchSet, NoSuchFunction, BadSeedLength, BadDigestLength, BadRandomizerLength, BadOutputLength, NoSuchRefusal, BadAnswersLength, AnswersDisagree, NoSuchJob, BadStartLength, BadStart, Fault, SelfTestFailed}
+use Rattle.slh_c.specs.declared.refusal.Refusal.TheVariants.{ContextTooLong, BadLength, BadCutting, NoSuchSet, NoSuchFunction, BadSeedLength, NotAKeyFile, UnknownSet, BadHex, BadKeyLength, TrailingBytes, BadDigestLength, BadRandomizerLength, BadOutputLength, NoSuchRefusal, BadAnswersLength, AnswersDisagree, NoSuchJob, BadStartLength, BadStart, Fault, SelfTestFailed, NoSuchKind}
 use Rattle.slh_c.specs.declared.rules.Rule.{Rule}
 
 -- no refusal has the number 0
@@ -14,6 +14,11 @@ number_some BadCutting e = omega (arith, e)
 number_some NoSuchSet e = omega (arith, e)
 number_some NoSuchFunction e = omega (arith, e)
 number_some BadSeedLength e = omega (arith, e)
+number_some NotAKeyFile e = omega (arith, e)
+number_some UnknownSet e = omega (arith, e)
+number_some BadHex e = omega (arith, e)
+number_some BadKeyLength e = omega (arith, e)
+number_some TrailingBytes e = omega (arith, e)
 number_some BadDigestLength e = omega (arith, e)
 number_some BadRandomizerLength e = omega (arith, e)
 number_some BadOutputLength e = omega (arith, e)
@@ -25,6 +30,7 @@ number_some BadStartLength e = omega (arith, e)
 number_some BadStart e = omega (arith, e)
 number_some Fault e = omega (arith, e)
 number_some SelfTestFailed e = omega (arith, e)
+number_some NoSuchKind e = omega (arith, e)
 
 by_test : (is_met : Bool) (refusal : Refusal) (rest : ℕ) → (if is_met then rest else number refusal) ≡ 0 → (is_met ≡ true) × (rest ≡ 0)
 by_test true refusal rest e = (refl, e)

@@ -3,3 +3,5 @@ mod Hashed
 mod Judged
 mod VerdictsOfMany
 mod Numbered
+mod Standard
+mod Readable

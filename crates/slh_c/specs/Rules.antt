@@ -11,13 +11,15 @@ use Rattle.slh_jobs.specs.Jobs.{jobs, len_of, answers_len}
 use Rattle.slh_jobs.specs.KeyJobs.{key_jobs}
 use Rattle.slh_jobs.specs.Tags.{start_len}
 use Rattle.slh_jobs.specs.declared.levels.Levels.{Levels}
+use Rattle.slh_key_files.specs.KeyFile.{key_len}
 use Rattle.slh_c.specs.Cuttings.{levels_of}
+use Rattle.slh_c.specs.KeyFiles.{kind_numbered}
 use Rattle.slh_c.specs.Numbers.{set_numbered, function_numbered}
 use Rattle.slh_c.specs.Refusals.{number, name, refusal_numbered}
 use Rattle.slh_c.specs.declared.many.Signed.{Signed}
 use Rattle.slh_c.specs.declared.refusal.Refusal.{Refusal}
 use Rattle.slh_c.specs.declared.rules.Rule.{Rule}
-use Rattle.slh_c.specs.declared.refusal.Refusal.TheVariants.{ContextTooLong, BadLength, BadCutting, NoSuchSet, NoSuchFunction, BadSeedLength, BadDigestLength, BadRandomizerLength, BadOutputLength, NoSuchRefusal, BadAnswersLength, NoSuchJob, BadStartLength}
+use Rattle.slh_c.specs.declared.refusal.Refusal.TheVariants.{ContextTooLong, BadLength, BadCutting, NoSuchSet, NoSuchFunction, BadSeedLength, BadDigestLength, BadRandomizerLength, BadOutputLength, NoSuchRefusal, BadAnswersLength, NoSuchJob, BadStartLength, NoSuchKind}
 
 -- the number of the first rule that is not met, and 0 if all are
 abbrev pub first_refusal : List Rule → ℕ
@@ -125,6 +127,12 @@ hash_sign_digest_twice_rules set function sk bytes ctx random scratch out = in_s
 -- a context of over 255 bytes or a signature of another length is invalid, and no refusal
 abbrev pub verify_rules : ℕ → List ℕ → List Rule
 verify_rules set pk = in_set set (λ s. public s pk ∷ [])
+
+-- 36 bytes are those of the lines but for the digits: the first line, the set's name, and three line feeds
+abbrev pub key_write_rules : ℕ → ℕ → List ℕ → List ℕ → List Rule
+key_write_rules set kind key out = in_set set (λ s. numbered (kind_numbered kind) NoSuchKind (λ k.
+    has_len key (key_len k (params s)) BadLength
+    ∷ record { is_met = nat_lt (36 + 2 * key_len k (params s)) (length out); refusal = BadOutputLength } ∷ []))
 
 abbrev pub self_test_rules : ℕ → List ℕ → List Rule
 self_test_rules set scratch = in_set set (λ s. output (sig_len (params s)) scratch ∷ [])

@@ -15,6 +15,7 @@ mod hashed_message;
 mod internal_form;
 mod jobs;
 mod joining;
+mod key_files;
 mod keys;
 mod many;
 mod names;

@@ -30,6 +30,16 @@ pub enum Refusal {
     NoSuchFunction,
     /// A seed of another length than n bytes.
     BadSeedLength,
+    /// A first line that is not that of a key file.
+    NotAKeyFile,
+    /// A second line that is not the name of one of the standard's sets.
+    UnknownSet,
+    /// A byte of the third line that is not a hexadecimal digit.
+    BadHex,
+    /// Another number of digits than those of a key of the set.
+    BadKeyLength,
+    /// Bytes after the third line of a key file.
+    TrailingBytes,
     /// A digest of another length than the function's.
     BadDigestLength,
     /// A randomizer that has neither 0 nor n bytes.
@@ -52,6 +62,8 @@ pub enum Refusal {
     Fault,
     /// A self-test whose answers are not the known ones.
     SelfTestFailed,
+    /// A number that is not a kind of keys.
+    NoSuchKind,
 }
 
 /// The value of a result. A call that meets a refusal there returns its number.
@@ -78,6 +90,11 @@ impl Refusal {
             Refusal::NoSuchSet => 8,
             Refusal::NoSuchFunction => 9,
             Refusal::BadSeedLength => 10,
+            Refusal::NotAKeyFile => 11,
+            Refusal::UnknownSet => 12,
+            Refusal::BadHex => 13,
+            Refusal::BadKeyLength => 14,
+            Refusal::TrailingBytes => 15,
             Refusal::BadDigestLength => 16,
             Refusal::BadRandomizerLength => 17,
             Refusal::BadOutputLength => 18,
@@ -89,6 +106,7 @@ impl Refusal {
             Refusal::BadStart => 28,
             Refusal::Fault => 38,
             Refusal::SelfTestFailed => 40,
+            Refusal::NoSuchKind => 41,
         }
     }
 
@@ -103,6 +121,11 @@ impl Refusal {
             Refusal::NoSuchSet => "NoSuchSet",
             Refusal::NoSuchFunction => "NoSuchFunction",
             Refusal::BadSeedLength => "BadSeedLength",
+            Refusal::NotAKeyFile => "NotAKeyFile",
+            Refusal::UnknownSet => "UnknownSet",
+            Refusal::BadHex => "BadHex",
+            Refusal::BadKeyLength => "BadKeyLength",
+            Refusal::TrailingBytes => "TrailingBytes",
             Refusal::BadDigestLength => "BadDigestLength",
             Refusal::BadRandomizerLength => "BadRandomizerLength",
             Refusal::BadOutputLength => "BadOutputLength",
@@ -114,6 +137,7 @@ impl Refusal {
             Refusal::BadStart => "BadStart",
             Refusal::Fault => "Fault",
             Refusal::SelfTestFailed => "SelfTestFailed",
+            Refusal::NoSuchKind => "NoSuchKind",
         }
     }
 
@@ -129,6 +153,11 @@ impl Refusal {
             8 => Some(Refusal::NoSuchSet),
             9 => Some(Refusal::NoSuchFunction),
             10 => Some(Refusal::BadSeedLength),
+            11 => Some(Refusal::NotAKeyFile),
+            12 => Some(Refusal::UnknownSet),
+            13 => Some(Refusal::BadHex),
+            14 => Some(Refusal::BadKeyLength),
+            15 => Some(Refusal::TrailingBytes),
             16 => Some(Refusal::BadDigestLength),
             17 => Some(Refusal::BadRandomizerLength),
             18 => Some(Refusal::BadOutputLength),
@@ -140,6 +169,7 @@ impl Refusal {
             28 => Some(Refusal::BadStart),
             38 => Some(Refusal::Fault),
             40 => Some(Refusal::SelfTestFailed),
+            41 => Some(Refusal::NoSuchKind),
             _ => None,
         }
     }

@@ -154,8 +154,7 @@ fn verdicts(items: &[SignedParts; 8], roots: &Leaves) -> [bool; 8]
     valid
 }
 
-/// The hypertree's parts of eight signatures. Since it is not inlined, no part is on the stack twice while chains run.
-#[inline(never)]
+/// The hypertree's parts of eight signatures.
 fn parts_of<'a>(items: &[SignedParts<'a>; 8]) -> [HtPart<'a>; 8]
     requires { (j : ℕ) (item : SignedParts) → j < 8 → let x = slice_index_or items.now j item in
         length x.sig.now ≡ sig_len (params x.pk.now.set) }

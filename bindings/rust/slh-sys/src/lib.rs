@@ -14,7 +14,7 @@
 use core::ffi::{c_char, c_void};
 
 /// `slh_version` of the version that these declarations are of.
-pub const SLH_VERSION_NUMBER: u32 = 14_000;
+pub const SLH_VERSION_NUMBER: u32 = 15_000;
 
 /// The number of the set SLH-DSA-SHA2-128s.
 pub const SLH_DSA_SHA2_128S: u32 = 1;
@@ -56,6 +56,16 @@ pub const SLH_NO_SUCH_SET: u32 = 8;
 pub const SLH_NO_SUCH_FUNCTION: u32 = 9;
 /// A seed has another length than n bytes.
 pub const SLH_BAD_SEED_LENGTH: u32 = 10;
+/// The first line is not that of a key file: this and the next four are of `slh_key_read` alone.
+pub const SLH_NOT_A_KEY_FILE: u32 = 11;
+/// The second line of the key file is not the name of a set.
+pub const SLH_UNKNOWN_SET: u32 = 12;
+/// The third line of the key file has a byte that is not a hexadecimal digit.
+pub const SLH_BAD_HEX: u32 = 13;
+/// The third line of the key file has too few or too many digits for a key of the set.
+pub const SLH_BAD_KEY_LENGTH: u32 = 14;
+/// Bytes follow the third line of the key file.
+pub const SLH_TRAILING_BYTES: u32 = 15;
 /// The digest has another length than the function's digests.
 pub const SLH_BAD_DIGEST_LENGTH: u32 = 16;
 /// The randomizer has neither 0 nor n bytes.
@@ -88,9 +98,18 @@ pub const SLH_FAULT: u32 = 38;
 pub const SLH_OLD_PROCESSOR: u32 = 39;
 /// An answer of the self-test is not the known one: `slh_self_test` alone returns it.
 pub const SLH_SELF_TEST_FAILED: u32 = 40;
+/// The number is not a kind of keys: `slh_key_write` alone returns it.
+pub const SLH_NO_SUCH_KIND: u32 = 41;
+
+/// The kind of a key file's public key.
+pub const SLH_PUBLIC_KEY: u32 = 1;
+/// The kind of a key file's secret key.
+pub const SLH_SECRET_KEY: u32 = 2;
 
 /// The most bytes of a refusal's name with the zero byte after it.
 pub const SLH_MAX_NAME: usize = 20;
+/// The most bytes of a key file that `slh_key_write` writes, with a zero byte after it.
+pub const SLH_MAX_KEY_FILE: usize = 293;
 /// The most bytes of a context.
 pub const SLH_MAX_CONTEXT: usize = 255;
 
@@ -141,6 +160,28 @@ extern "C" {
     /// Whether PK.root of a secret key is the root that its seeds give.
     #[must_use]
     pub fn slh_check(set: u32, sk: *const u8, sk_len: usize) -> u32;
+    /// To read a key file of the program `slh` or of a package (docs/FORMATS.md, "Key file"), of either kind and
+    /// version.
+    #[must_use]
+    pub fn slh_key_read(
+        file: *const u8,
+        file_len: usize,
+        set: *mut u32,
+        kind: *mut u32,
+        key: *mut u8,
+        key_len: usize,
+    ) -> u32;
+    /// To write a key file: writes its text of three lines, of version 2, and zeros from there to the end of text, at
+    /// least one.
+    #[must_use]
+    pub fn slh_key_write(
+        set: u32,
+        kind: u32,
+        key: *const u8,
+        key_len: usize,
+        text: *mut c_char,
+        text_len: usize,
+    ) -> u32;
     /// To test a set on this machine before it is used, as when a service starts: generates a known key, signs a known
     /// message, and compares PK.root and the SHA-256 of the signature with the answers of OpenSSL.
     #[must_use]

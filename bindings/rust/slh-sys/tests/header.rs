@@ -74,3 +74,9 @@ fn calls_are_those_of_the_headers() {
     let others: Vec<_> = declared.filter(|it| !is_listed(it)).collect();
     assert!(others.is_empty(), "no header has {others:?}");
 }
+
+#[test]
+fn the_version_is_that_of_the_library() {
+    // SAFETY: the call takes nothing.
+    assert_eq!(slh_sys::SLH_VERSION_NUMBER, unsafe { slh_sys::slh_version() });
+}

@@ -69,7 +69,7 @@ pub(crate) fn secret_lanes(
     secrets
 }
 
-/// Continues the chains of a group. Each lane has its own first step and its own number of steps.
+/// Continues the chains of a group. Each lane has a first step and a number of steps.
 pub(crate) fn run_lanes(
     lanes: &SeededLanes,
     at: Place,

@@ -30,12 +30,6 @@ use slh_params::{AdrsType, Node, ParamSet};
 /// The ends of the chains of eight keys.
 type Ends = [[u8; MOST_WOTS_SIG_LEN]; GROUP];
 
-/// Room for the ends. Since it is not inlined, no other array of this size is on the stack while chains run.
-#[inline(never)]
-fn no_ends() -> Ends {
-    [[0; MOST_WOTS_SIG_LEN]; GROUP]
-}
-
 /// Puts the PK.seeds into one lane each. False if the build has one lane, or a PK.seed does not have n bytes.
 fn put_seeds(set: ParamSet, signed: &[HtSignature; GROUP], seeds: &mut LaneSeeds) -> bool
     requires signed { AreUnder set signed.now }
@@ -187,8 +181,7 @@ fn ends_at(set: ParamSet, ends: &Ends, c: usize) -> LaneNodes
     nodes
 }
 
-/// T over the ends of each key at these places. Since it is not inlined, its stream is off the stack while chains run.
-#[inline(never)]
+/// T over the ends of each key at these places.
 fn compressed(set: ParamSet, seeds: &LaneSeeds, places: &[Place; GROUP], ends: &Ends) -> LaneNodes
     requires { params seeds.now.set ≡ params set }
     ensures { (j : ℕ) (pk_seed : List ℕ) (at : Place) (e : List ℕ) → j < GROUP → HasSeedAt seeds.now j pk_seed
@@ -329,7 +322,7 @@ fn put_top_roots(
     requires seeds { AreSeedsOf set signed.now seeds.now }
     ensures { IsTrue result → AreRootsUnder set signed.now (params set).d nodes.new }
 {
-    let mut ends = no_ends();
+    let mut ends = [[0; MOST_WOTS_SIG_LEN]; GROUP];
     let mut places = first_places(set, signed);
     *nodes = messages_of(set, signed);
     for layer in 0..set.d() as u8 {

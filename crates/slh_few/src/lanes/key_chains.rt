@@ -53,7 +53,7 @@ pub(crate) trait Stored {
         ensures others { let p = params lanes.now.set in (i : ℕ) → (i < c) ⊎ (c + 2 ≤ i)
             → chunk (size self.now p) out.new i ≡ chunk (size self.now p) out.old i };
 
-    /// The same of chain `c` alone.
+    /// The ends of chain `c` of eight keys, and its stored values, as `ends_of_two` has them of two chains.
     fn ends_of_one(
         &self,
         lanes: &SeededLanes,

@@ -33,7 +33,7 @@ fn chain_adrs(at: Place, kind: AdrsType, c: u32) -> LaneAdrs
     adrs
 }
 
-/// The same of `G` chains from `c` on: those of chain `c + g` in group `g`.
+/// The addresses of `G` chains of these keys, from chain `c` on: those of chain `c + g` in group `g`.
 pub(crate) fn key_adrs<const G: usize>(at: Place, kind: AdrsType, c: u32) -> [LaneAdrs; G]
     requires pairs { at.pair + GROUP ≤ 2 ^ 32 }
     requires chains { c + G ≤ 2 ^ 32 }
