@@ -5,6 +5,7 @@
  *
  *   slh_keygen, slh_public            to make a secret key, and to give away its public key
  *   slh_check                         to check a secret key that comes from elsewhere, once
+ *   slh_key_read, slh_key_write       to read and write key files
  *   slh_self_test                     to test key generation, signing and verifying by known answers
  *   slh_sign_twice, slh_hash_sign_digest_twice, slh_hash_sign_twice
  *                                     to sign two times and compare, as you should: one fault can cost the key
@@ -35,22 +36,24 @@
  * - The number of bytes follows each pointer to bytes. The pointer points to that many bytes, which may be read, and
  *   for an output also written, until the call returns. It may be null if the number is 0. No number is above
  *   PTRDIFF_MAX.
- * - A pointer to one number (slh_lengths, slh_sign_jobs, slh_answer_place, slh_keygen_jobs) is not null, and is aligned
- *   as its type. So are the arrays of slh_verify_many, whose lengths count elements. They may be null if these are 0.
+ * - A pointer to one number (slh_lengths, slh_key_read, slh_sign_jobs, slh_answer_place, slh_keygen_jobs) is not null,
+ *   and is aligned as its type. So are the arrays of slh_verify_many, whose lengths count elements. They may be null if
+ *   these are 0.
  * - An output overlaps no other argument, and nothing else writes to an argument while the call runs. scratch is an
  *   output, too.
  * - Seeds and randomizers are n fresh bytes from a source that is fit for keys: this library draws none. A randomizer
  *   of n bytes is FIPS 205's opt_rand; one of 0 bytes makes the deterministic variant (section 9.2).
  *
- * The calls check everything else: the numbers of sets, pre-hash functions and refusals, and all lengths.
+ * The calls check everything else: the numbers of sets, pre-hash functions, kinds of keys and refusals, all lengths,
+ * and each byte of a key file.
  *
  * No call allocates memory or stores anything of its arguments. Any number of threads may be in any of the calls at
  * once. Nothing is claimed about the time of a call.
  *
- * A call that takes a secret key, seeds or answers clears its traces before it returns. These are the stack below its
- * caller, and the registers that a call need not preserve. This is tested (SECURITY.md, "What a call leaves"). The
- * caller has to erase his buffers (slh_erase), copies by signals, swap or core dumps, and the stack of the module for
- * WebAssembly. The portable slh.c (docs/MACHINES.md) allocates memory, and erases only that.
+ * A call that takes a secret key, its file, seeds or answers clears its traces before it returns. These are the stack
+ * below its caller, and the registers that a call need not preserve. This is tested (SECURITY.md, "What a call
+ * leaves"). The caller has to erase his buffers (slh_erase), copies by signals, swap or core dumps, and the stack of
+ * the module for WebAssembly. The portable slh.c (docs/MACHINES.md) allocates memory, and erases only that.
  *
  *
  * Calls take their arguments in this order:
@@ -60,8 +63,8 @@
  *   3  levels          7  randomizer    11 scratch
  *   4  key or seeds    8  start         12 output or signature
  *
- * The seeds are SK.seed, SK.prf and PK.seed, in this order. A digest or a hash takes the place of the message. An
- * output stands behind a signature.
+ * The seeds are SK.seed, SK.prf and PK.seed, in this order. A digest or a hash takes the place of the message, a kind
+ * of keys that of the function, and a key file that of the key. An output stands behind a signature.
  *
  * A call returns SLH_DONE (0), SLH_INVALID (30, only slh_check and the verify calls), or a refusal's number. The
  * exceptions are slh_version, slh_level, slh_erase, slh_refusal_text, and the two hardened calls, which return
@@ -72,6 +75,9 @@
  *   SLH_NO_SUCH_REFUSAL        slh_refusal_name alone: the number is not a result's
  *   SLH_NO_SUCH_SET            the number is not a set's
  *   SLH_NO_SUCH_FUNCTION       the number is not a pre-hash function's
+ *   SLH_NO_SUCH_KIND           slh_key_write alone: the number is not a kind of keys
+ *   SLH_NOT_A_KEY_FILE, SLH_UNKNOWN_SET, SLH_BAD_HEX, SLH_BAD_KEY_LENGTH, SLH_TRAILING_BYTES
+ *                              slh_key_read alone: the first fault of the file
  *   SLH_BAD_CUTTING            a number of levels is above 8 or above the height of the trees
  *   SLH_NO_SUCH_JOB            the number is no job's
  *   SLH_BAD_LENGTH             the key has another length than the set's keys
@@ -80,7 +86,8 @@
  *                              slh_verify_hashed than the set's
  *   SLH_BAD_RANDOMIZER_LENGTH  the randomizer has neither 0 nor n bytes
  *   SLH_BAD_START_LENGTH       the start has another length than the set's
- *   SLH_BAD_OUTPUT_LENGTH      the output has another length than the bytes to write
+ *   SLH_BAD_OUTPUT_LENGTH      the output has another length than the bytes to write, or too little room in
+ *                              slh_key_read, slh_key_write and slh_refusal_name
  *   SLH_BAD_ANSWERS_LENGTH     the answers have another length than those of all jobs
  *   SLH_BAD_START              the start does not have its tag under this key
  *   SLH_ANSWERS_DISAGREE       the answers don't fit together
@@ -156,6 +163,39 @@ uint32_t slh_public(uint32_t set, const uint8_t *sk, size_t sk_len, uint8_t *pk,
  */
 SLH_MUST_USE SLH_API
 uint32_t slh_check(uint32_t set, const uint8_t *sk, size_t sk_len);
+
+/* The kinds of keys in key files. */
+enum slh_key_kind {
+    SLH_PUBLIC_KEY = 1,
+    SLH_SECRET_KEY = 2
+};
+
+/* The most bytes of a key file that slh_key_write writes, with a zero byte after it. */
+#define SLH_MAX_KEY_FILE 293
+
+/*
+ * To read a key file of the program `slh` or of a package (docs/FORMATS.md, "Key file"), of either kind and version.
+ * file has the whole file, without a zero byte behind it. Writes the number of the key's set, its kind, and the key's
+ * bytes, with zeros after them to the end of key. A public key has 2n bytes, a secret one 4n. SLH_MAX_SECRET_KEY bytes
+ * have room for each key. Compare kind with the one that you need: a public key and zeros are as long as a secret key.
+ * Call slh_check once on a secret key from elsewhere. A set whose label begins with `custom:` has no number: a file of
+ * it that has no other fault is refused as SLH_UNKNOWN_SET.
+ * Returns: SLH_DONE; SLH_NOT_A_KEY_FILE, SLH_UNKNOWN_SET, SLH_BAD_HEX, SLH_BAD_KEY_LENGTH, SLH_TRAILING_BYTES, the
+ * first that applies; SLH_BAD_OUTPUT_LENGTH if key has less room than the key's bytes.
+ */
+SLH_MUST_USE SLH_API
+uint32_t slh_key_read(const uint8_t *file, size_t file_len, uint32_t *set, uint32_t *kind, uint8_t *key,
+                      size_t key_len);
+
+/*
+ * To write a key file: writes its text of three lines, of version 2, and zeros from there to the end of text, at least
+ * one. The file has no zero: strlen(text) is its length. SLH_MAX_KEY_FILE bytes have room for each key. A secret key's
+ * file is as secret as the key.
+ * Returns: SLH_DONE; SLH_NO_SUCH_SET, SLH_NO_SUCH_KIND, SLH_BAD_LENGTH, SLH_BAD_OUTPUT_LENGTH if text has too little
+ * room.
+ */
+SLH_MUST_USE SLH_API
+uint32_t slh_key_write(uint32_t set, uint32_t kind, const uint8_t *key, size_t key_len, char *text, size_t text_len);
 
 /*
  * To test a set on this machine before it is used, as when a service starts: generates a known key, signs a known
@@ -315,10 +355,10 @@ void slh_erase(void *bytes, size_t n);
 
 /*
  * To ask which code runs: 2, 3 or 4 for that of x86-64-v2, x86-64-v3 or x86-64-v4, the best level that processor and
- * system have. On Linux on 64-bit ARM 2 for NEON, 3 for SHA-256's instructions, and 4 if SHA-512's are there, too. All
- * give equal bytes. 0 on a processor below x86-64-v2: there this library has no code, and its calls return
- * SLH_OLD_PROCESSOR. Also 0 if the library has only one level: on other machines, and in libslh-v2.a, libslh-v3.a and
- * libslh-v4.a. These return no SLH_OLD_PROCESSOR.
+ * system have. Also 2 if SHA instructions hash all of SHA-256. On Linux on 64-bit ARM 2 for NEON, 3 for the
+ * instructions of SHA-256, and 4 if those of SHA-512 are there, too. All give equal bytes. 0 on a processor below
+ * x86-64-v2: there this library has no code, and its calls return SLH_OLD_PROCESSOR. Also 0 if the library has only one
+ * level: on other machines, and in libslh-v2.a, libslh-v3.a and libslh-v4.a. These return no SLH_OLD_PROCESSOR.
  */
 SLH_MUST_USE SLH_API
 uint32_t slh_level(void);

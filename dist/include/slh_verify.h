@@ -36,10 +36,10 @@
 
 /* The version of this header: three numbers, the number that slh_version returns for it, and the text. */
 #define SLH_VERSION_MAJOR 0
-#define SLH_VERSION_MINOR 14
+#define SLH_VERSION_MINOR 15
 #define SLH_VERSION_PATCH 0
 #define SLH_VERSION_NUMBER (1000000 * SLH_VERSION_MAJOR + 1000 * SLH_VERSION_MINOR + SLH_VERSION_PATCH)
-#define SLH_VERSION "0.14.0"
+#define SLH_VERSION "0.15.0"
 
 /* Marks each call whose result has to be checked: compilers that can do so warn if it is ignored. */
 #if defined(__cplusplus) && __cplusplus >= 201703L
@@ -100,6 +100,11 @@ enum slh_result {
     SLH_NO_SUCH_SET = 8,
     SLH_NO_SUCH_FUNCTION = 9,
     SLH_BAD_SEED_LENGTH = 10,
+    SLH_NOT_A_KEY_FILE = 11,
+    SLH_UNKNOWN_SET = 12,
+    SLH_BAD_HEX = 13,
+    SLH_BAD_KEY_LENGTH = 14,
+    SLH_TRAILING_BYTES = 15,
     SLH_BAD_DIGEST_LENGTH = 16,
     SLH_BAD_RANDOMIZER_LENGTH = 17,
     SLH_BAD_OUTPUT_LENGTH = 18,
@@ -113,7 +118,8 @@ enum slh_result {
     SLH_NO_MEMORY = 37,
     SLH_FAULT = 38,
     SLH_OLD_PROCESSOR = 39,
-    SLH_SELF_TEST_FAILED = 40
+    SLH_SELF_TEST_FAILED = 40,
+    SLH_NO_SUCH_KIND = 41
 };
 
 /* n of each set: the length of a hash value, of a seed and of a randomizer in bytes. */

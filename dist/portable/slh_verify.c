@@ -1,5 +1,5 @@
 /*
- * Verifying signatures of SLH-DSA (FIPS 205) with SHA-2 as portable C: the calls of slh_verify.h. Version 0.14.0.
+ * Verifying signatures of SLH-DSA (FIPS 205) with SHA-2 as portable C: the calls of slh_verify.h. Version 0.15.0.
  *
  * SPDX-License-Identifier: MIT OR Apache-2.0
  *
@@ -55,7 +55,7 @@
 #endif
 #define MEMORY_BYTES (SLH_VERIFY_MEMORY - 2 * 8)
 
-#define MODULE_VERSION 14000
+#define MODULE_VERSION 15000
 #define ADDRESS_BITS 32
 #define STACK_TOP UINT32_C(1048576)
 #define STACK_BYTES 6432
@@ -136,6 +136,8 @@ static const uint8_t constants[CONSTANT_BYTES] = {
 #define MAY_ALIAS
 #endif
 
+typedef uint8_t u8;
+typedef int8_t s8;
 typedef uint32_t u32;
 typedef int32_t s32;
 typedef uint64_t u64;
@@ -232,6 +234,7 @@ INLINE void put16(uint8_t *it, u32 number) {
 #define i64_load(m, address) get64(at(m, address, 8))
 #define i32_load8_u(m, address) ((u32) * at(m, address, 1))
 #define i64_load8_u(m, address) ((u64) * at(m, address, 1))
+#define i32_load8_s(m, address) (((u32) * at(m, address, 1) ^ 0x80) - 0x80)
 #define i32_load16_u(m, address) get16(at(m, address, 2))
 #define i64_load16_u(m, address) ((u64)get16(at(m, address, 2)))
 #define i64_load32_u(m, address) ((u64)get32(at(m, address, 4)))
@@ -264,6 +267,11 @@ INLINE void memory_fill(base m, address to, u32 byte, address n) {
 INLINE u32 I32_CTZ(u32 it) {
     u32 zeros = 0;
     while (zeros < 32 && (it >> zeros & 1) == 0) zeros++;
+    return zeros;
+}
+INLINE u64 I64_CTZ(u64 it) {
+    u64 zeros = 0;
+    while (zeros < 64 && (it >> zeros & 1) == 0) zeros++;
     return zeros;
 }
 

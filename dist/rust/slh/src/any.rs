@@ -1,14 +1,20 @@
 //! Keys whose set is known when the program runs, as those of key files.
+use alloc::boxed::Box;
+use core::fmt;
+#[cfg(feature = "std")]
 use std::{
-    fmt,
     io::{Read, Write},
     path::Path,
 };
 
 use crate::{
-    key_file::{self, KeyFile, Kind},
-    public, Error, Function, Options, ParameterSet, PublicKey, Refusal, SecretKey, Signer, SlhDsaSha2_128f,
-    SlhDsaSha2_128s, SlhDsaSha2_192f, SlhDsaSha2_192s, SlhDsaSha2_256f, SlhDsaSha2_256s,
+    Error, Function, Options, ParameterSet, PublicKey, Refusal, SecretKey, Signer, SlhDsaSha2_128f, SlhDsaSha2_128s,
+    SlhDsaSha2_192f, SlhDsaSha2_192s, SlhDsaSha2_256f, SlhDsaSha2_256s, public,
+};
+#[cfg(feature = "std")]
+use crate::{
+    key_file::{self, KeyFile},
+    sets::Kind,
 };
 
 /// Declares the type of keys of any set over keys of each, and how both are made of each other.
@@ -61,7 +67,10 @@ macro_rules! any_key {
             pub fn as_bytes(&self) -> &[u8] {
                 any!($any, self, key => key.as_bytes())
             }
+        }
 
+        #[cfg(feature = "std")]
+        impl $any {
             /// The key in a key file, of the set that the file names. Errors are those of `read_from`.
             pub fn load(path: impl AsRef<Path>) -> Result<Self, Error> {
                 Self::of_file(&key_file::load(path.as_ref(), $kind)?)
@@ -148,6 +157,7 @@ impl<P: ParameterSet> HasSet for PublicKey<P> {
     const SET: &'static str = P::NAME;
 }
 
+#[cfg(feature = "std")]
 impl AnySecretKey {
     /// Makes a key of a set by its name, as `SLH-DSA-SHA2-128f`, from random bytes of the system. Refused:
     /// `UnknownSet`. `Error::RandomFailed` if the system gives no random bytes.
@@ -162,7 +172,9 @@ impl AnySecretKey {
             _ => Err(Refusal::UNKNOWN_SET.into()),
         }
     }
+}
 
+impl AnySecretKey {
     /// The public key.
     pub fn public(&self) -> AnyPublicKey {
         any!(AnySecretKey, self, key => key.public().into())

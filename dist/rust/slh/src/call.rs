@@ -1,30 +1,13 @@
-//! How this crate calls libslh.
-use crate::{Error, Refusal};
-
-/// Calls libslh with numbers, then with slices that it reads, and last with slices that it writes, by their names. The
-/// value is the number that it returns.
-macro_rules! call {
-    ($name:ident($($number:expr),+; $($read:expr),*; $($write:ident),*)) => {
-        // SAFETY: each pointer is that of a slice, and its length follows. The slices that are written are borrowed
-        // mutably, so they overlap no other.
-        unsafe {
-            slh_sys::$name(
-                $($number,)+
-                $(<[u8]>::as_ptr($read), <[u8]>::len($read),)*
-                $(<[u8]>::as_mut_ptr($write), <[u8]>::len($write),)*
-            )
-        }
-    };
-}
-pub(crate) use call;
+//! What the number means that a call returns.
+use crate::{Error, Refusal, sys};
 
 /// A call's number as a result.
 pub(crate) fn done(result: u32) -> Result<(), Error> {
     match result {
-        slh_sys::SLH_DONE => Ok(()),
-        slh_sys::SLH_INVALID => Err(Error::Invalid),
-        slh_sys::SLH_FAULT => Err(Error::Fault),
-        slh_sys::SLH_SELF_TEST_FAILED => Err(Error::SelfTestFailed),
+        sys::SLH_DONE => Ok(()),
+        sys::SLH_INVALID => Err(Error::Invalid),
+        sys::SLH_FAULT => Err(Error::Fault),
+        sys::SLH_SELF_TEST_FAILED => Err(Error::SelfTestFailed),
         number => Err(Refusal::of(number).into()),
     }
 }
@@ -32,7 +15,7 @@ pub(crate) fn done(result: u32) -> Result<(), Error> {
 /// The same for a call that cannot be refused: the types give it the lengths of its set.
 pub(crate) fn certainly_done(result: u32) {
     if let Err(error) = done(result) {
-        panic!("libslh takes the lengths of its own sets: {error}");
+        panic!("a call takes the lengths of its own sets: {error}");
     }
 }
 

@@ -1,12 +1,14 @@
 //! The errors of the package, and the refusals of the library.
 
-use std::{
-    error,
-    ffi::CStr,
+use alloc::{borrow::ToOwned, string::String};
+use core::{
     fmt,
     hash::{Hash, Hasher},
-    io,
 };
+#[cfg(feature = "std")]
+use std::{error, io};
+
+use crate::sys;
 
 /// Why a call did not do its work. No error has bytes of a key.
 #[derive(Debug)]
@@ -17,6 +19,7 @@ pub enum Error {
     /// The call was refused.
     Refused(Refusal),
     /// The source gave no random bytes.
+    #[cfg(feature = "std")]
     RandomFailed(io::Error),
     /// A computation went wrong, as by bad memory or a bad processor, and nothing was signed. Two computations of a
     /// signature differ, [`Options::verify`](crate::Options::verify) found one that is not valid, or a new key is wrong.
@@ -34,8 +37,10 @@ pub enum Error {
     /// A key in DER or PEM has not the one form that is read.
     OtherForm(Conversion),
     /// A file could not be read.
+    #[cfg(feature = "std")]
     ReadFailed(io::Error),
     /// A file could not be written. It is not there.
+    #[cfg(feature = "std")]
     WriteFailed(io::Error),
 }
 
@@ -44,17 +49,21 @@ impl fmt::Display for Error {
         match self {
             Error::Invalid => f.write_str("invalid"),
             Error::Refused(refusal) => refusal.fmt(f),
+            #[cfg(feature = "std")]
             Error::RandomFailed(error) => write!(f, "7 RandomFailed: {error}"),
             Error::Fault => f.write_str("38 Fault: two results differ, or the signature or the new key is not valid"),
             Error::SelfTestFailed => f.write_str("40 SelfTestFailed: an answer of the self-test is not the known one"),
             Error::OtherSet { expected, given } => write!(f, "{expected} expected, a key of {given} given"),
             Error::OtherForm(conversion) => write!(f, "11 NotAKeyFile: {conversion}"),
+            #[cfg(feature = "std")]
             Error::ReadFailed(error) => write!(f, "32 ReadFailed: {error}"),
+            #[cfg(feature = "std")]
             Error::WriteFailed(error) => write!(f, "33 WriteFailed: {error}"),
         }
     }
 }
 
+#[cfg(feature = "std")]
 impl error::Error for Error {
     fn source(&self) -> Option<&(dyn error::Error + 'static)> {
         match self {
@@ -124,9 +133,9 @@ const OF_KEY_FILES: [(u32, &str, &str); 5] = [
 
 impl Refusal {
     /// Signing under a context of over 255 bytes.
-    pub const CONTEXT_TOO_LONG: Refusal = Refusal::of(slh_sys::SLH_CONTEXT_TOO_LONG);
+    pub const CONTEXT_TOO_LONG: Refusal = Refusal::of(sys::SLH_CONTEXT_TOO_LONG);
     /// The key has another length than the set's keys.
-    pub const BAD_LENGTH: Refusal = Refusal::of(slh_sys::SLH_BAD_LENGTH);
+    pub const BAD_LENGTH: Refusal = Refusal::of(sys::SLH_BAD_LENGTH);
     /// A file is not a key file, or has a key of the other kind.
     pub const NOT_A_KEY_FILE: Refusal = Refusal::of(11);
     /// The name is not one of the six sets', or that of a key file is not.
@@ -138,12 +147,12 @@ impl Refusal {
     /// Bytes follow the third line of a key file.
     pub const TRAILING_BYTES: Refusal = Refusal::of(15);
     /// A digest has another length than the function's digests.
-    pub const BAD_DIGEST_LENGTH: Refusal = Refusal::of(slh_sys::SLH_BAD_DIGEST_LENGTH);
+    pub const BAD_DIGEST_LENGTH: Refusal = Refusal::of(sys::SLH_BAD_DIGEST_LENGTH);
     /// A randomizer has another length than n bytes.
-    pub const BAD_RANDOMIZER_LENGTH: Refusal = Refusal::of(slh_sys::SLH_BAD_RANDOMIZER_LENGTH);
+    pub const BAD_RANDOMIZER_LENGTH: Refusal = Refusal::of(sys::SLH_BAD_RANDOMIZER_LENGTH);
     /// The answers of a signature's jobs don't fit together, as under a key that [`check`](crate::SecretKey::check)
     /// finds invalid.
-    pub const ANSWERS_DISAGREE: Refusal = Refusal::of(slh_sys::SLH_ANSWERS_DISAGREE);
+    pub const ANSWERS_DISAGREE: Refusal = Refusal::of(sys::SLH_ANSWERS_DISAGREE);
 
     pub(crate) const fn of(number: u32) -> Self {
         Refusal { number, lengths: None }
@@ -164,10 +173,8 @@ impl Refusal {
         if let Some((_, name, _)) = self.of_key_files() {
             return (*name).to_owned();
         }
-        let mut name = [0u8; slh_sys::SLH_MAX_NAME];
-        // SAFETY: the pointer is that of a buffer of its own, and its length follows.
-        let result = unsafe { slh_sys::slh_refusal_name(self.number, name.as_mut_ptr().cast(), name.len()) };
-        if result != slh_sys::SLH_DONE {
+        let mut name = [0; sys::SLH_MAX_NAME];
+        if sys::refusal_name(self.number, &mut name) != sys::SLH_DONE {
             return "NoSuchRefusal".to_owned();
         }
         name.iter().take_while(|&&byte| byte != 0).map(|&byte| char::from(byte)).collect()
@@ -178,9 +185,7 @@ impl Refusal {
         if let Some((_, _, text)) = self.of_key_files() {
             return text;
         }
-        // SAFETY: the call takes any number, and gives a text that never changes and that a zero byte ends.
-        let text = unsafe { CStr::from_ptr(slh_sys::slh_refusal_text(self.number)) };
-        text.to_str().unwrap_or_default()
+        sys::refusal_text(self.number).to_str().unwrap_or_default()
     }
 
     /// The length that was expected, if the refusal is of a length: in bytes, and for `BadKeyLength` in digits.

@@ -1,12 +1,14 @@
 //! One signature by several threads, over the library's jobs.
 
+use alloc::{vec, vec::Vec};
 use std::{mem, sync::Mutex, thread};
 
 use crate::{
-    call::{call, done},
-    options::{slice, Content},
-    secrets::{are_same, Secrets},
     Error, Function, Options, ParameterSet, SecretKey, Signature, Signer,
+    call::done,
+    options::{Content, slice},
+    secrets::{Secrets, are_same},
+    sys::{self, call},
 };
 
 /// FORS trees are not cut: each is one job.
@@ -118,17 +120,8 @@ struct Plan {
 impl Plan {
     fn of<P: ParameterSet>() -> Result<Plan, Error> {
         let mut plan = Plan { jobs: 0, start_len: 0, answers_len: 0 };
-        // SAFETY: the pointers are those of three numbers of `plan`.
-        done(unsafe {
-            slh_sys::slh_sign_jobs(
-                P::NUMBER,
-                P::XMSS_LEVELS,
-                FORS_LEVELS,
-                &mut plan.jobs,
-                &mut plan.start_len,
-                &mut plan.answers_len,
-            )
-        })?;
+        let (jobs, start, answers) = (&mut plan.jobs, &mut plan.start_len, &mut plan.answers_len);
+        done(sys::sign_jobs(P::NUMBER, [P::XMSS_LEVELS, FORS_LEVELS], jobs, start, answers))?;
         Ok(plan)
     }
 }
@@ -136,8 +129,7 @@ impl Plan {
 /// Where the answer of a job begins, and its length in bytes.
 fn answer_place<P: ParameterSet>(job: u32) -> Result<(usize, usize), Error> {
     let (mut at, mut len) = (0, 0);
-    // SAFETY: the pointers are those of two numbers.
-    done(unsafe { slh_sys::slh_answer_place(P::NUMBER, P::XMSS_LEVELS, FORS_LEVELS, job, &mut at, &mut len) })?;
+    done(sys::answer_place(P::NUMBER, [P::XMSS_LEVELS, FORS_LEVELS], job, &mut at, &mut len))?;
     Ok((at, len))
 }
 
@@ -156,22 +148,7 @@ fn shares<P: ParameterSet>(jobs: u32, answers: &mut [u8]) -> Result<Vec<(u32, &m
 }
 
 fn sign_job<P: ParameterSet>(secret: &SecretKey<P>, start: &[u8], job: u32, answer: &mut [u8]) -> Result<(), Error> {
-    let sk = secret.slice();
-    // SAFETY: each pointer is that of the slice whose length follows, and the output is borrowed here alone.
-    done(unsafe {
-        slh_sys::slh_sign_job(
-            P::NUMBER,
-            P::XMSS_LEVELS,
-            FORS_LEVELS,
-            sk.as_ptr(),
-            sk.len(),
-            start.as_ptr(),
-            start.len(),
-            job,
-            answer.as_mut_ptr(),
-            answer.len(),
-        )
-    })
+    done(sys::sign_job(P::NUMBER, [P::XMSS_LEVELS, FORS_LEVELS], secret.slice(), start, job, answer))
 }
 
 fn join<P: ParameterSet>(secret: &SecretKey<P>, start: &[u8], answers: &[u8]) -> Result<Signature<P>, Error> {

@@ -3,22 +3,21 @@ use std::{
     fs::{self, OpenOptions},
     io::{self, Read, Write},
     ops::Range,
-    os::unix::fs::OpenOptionsExt,
     path::Path,
 };
 
-use crate::{secrets::Secrets, sets::NAMES, Error, Refusal};
+#[cfg(unix)]
+use std::os::unix::fs::OpenOptionsExt;
+
+use crate::{
+    Error, Refusal,
+    secrets::Secrets,
+    sets::{Kind, NAMES},
+};
 
 /// More bytes than a key file of one of the six sets has. Of a longer file the first fault depends on these bytes and
 /// on the first one after them that is not a hexadecimal digit.
 const MOST: usize = 512;
-
-/// The kind of the key in a file.
-#[derive(Clone, Copy, PartialEq, Eq)]
-pub(crate) enum Kind {
-    Public,
-    Secret,
-}
 
 impl Kind {
     /// The first lines of the versions 1 and 2.
@@ -166,8 +165,12 @@ pub(crate) fn dump(path: &Path, kind: Kind, set: &str, key: &[u8]) -> Result<(),
 }
 
 fn created(path: &Path, kind: Kind) -> io::Result<fs::File> {
-    let mode = if kind == Kind::Secret { 0o600 } else { 0o666 };
-    OpenOptions::new().write(true).create_new(true).mode(mode).open(path)
+    let mut options = OpenOptions::new();
+    #[cfg(unix)]
+    options.mode(if kind == Kind::Secret { 0o600 } else { 0o666 });
+    #[cfg(not(unix))]
+    let _ = kind; // other systems have no modes
+    options.write(true).create_new(true).open(path)
 }
 
 /// Removes the file that was just created, if writing it fails.
@@ -180,6 +183,8 @@ fn whole_or_removed(path: &Path, write: impl FnOnce() -> Result<(), Error>) -> R
 
 #[cfg(test)]
 mod tests {
+    use alloc::format;
+
     use super::*;
 
     #[test]

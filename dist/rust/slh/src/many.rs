@@ -1,6 +1,12 @@
 //! Many signatures that are verified in one call.
 
-use crate::{call::done, Error, ParameterSet, PublicKey};
+use alloc::{vec, vec::Vec};
+
+use crate::{
+    Error, ParameterSet, PublicKey,
+    call::done,
+    sys::{self, Item},
+};
 
 /// An item of [`verify_many`]: a signature with its key, message and context, all borrowed.
 #[derive(Clone, Copy, Debug)]
@@ -16,18 +22,8 @@ pub struct Signed<'a, P: ParameterSet> {
 }
 
 impl<P: ParameterSet> Signed<'_, P> {
-    fn given(&self) -> slh_sys::slh_signed {
-        let pk = self.public.as_bytes().as_ref();
-        slh_sys::slh_signed {
-            pk: pk.as_ptr(),
-            pk_len: pk.len() as u64,
-            msg: self.message.as_ptr(),
-            msg_len: self.message.len() as u64,
-            ctx: self.context.as_ptr(),
-            ctx_len: self.context.len() as u64,
-            sig: self.signature.as_ptr(),
-            sig_len: self.signature.len() as u64,
-        }
+    fn given(&self) -> Item<'_> {
+        sys::item(self.public.as_bytes().as_ref(), self.message, self.context, self.signature)
     }
 }
 
@@ -37,12 +33,8 @@ impl<P: ParameterSet> Signed<'_, P> {
 #[must_use = "only Ok says that a signature is valid"]
 pub fn verify_many<P: ParameterSet>(items: &[Signed<'_, P>]) -> Vec<Result<(), Error>> {
     let given: Vec<_> = items.iter().map(Signed::given).collect();
-    let mut verdicts = vec![slh_sys::SLH_INVALID; given.len()];
-    // SAFETY: each pointer is that of a slice, and its length follows. The items borrow theirs until the call returns.
-    // The verdicts overlap nothing.
-    let _ = unsafe {
-        slh_sys::slh_verify_many(P::NUMBER, given.as_ptr(), given.len(), verdicts.as_mut_ptr(), verdicts.len())
-    };
+    let mut verdicts = vec![sys::SLH_INVALID; given.len()];
+    let _ = sys::verify_many(P::NUMBER, &given, &mut verdicts);
     // A refusal of the call is each verdict, too.
     verdicts.into_iter().map(done).collect()
 }

@@ -1,12 +1,15 @@
 //! The options of signing and verifying (FIPS 205, section 10.2).
 
-use std::fmt;
+use core::fmt;
 
-use crate::{random, sets::Bytes, Error, Function, ParameterSet, Refusal};
+#[cfg(feature = "std")]
+use crate::random;
+use crate::{Error, Function, ParameterSet, Refusal, sets::Bytes, sys};
 
 /// How a message is signed. By default the context is empty, the randomizer is drawn from the system, and the
 /// signature is computed two times, compared, and not verified.
-#[derive(Clone, Copy, Debug, Default)]
+#[derive(Clone, Copy, Debug)]
+#[cfg_attr(feature = "std", derive(Default))]
 pub struct Options<'a> {
     /// At most 255 bytes.
     pub context: &'a [u8],
@@ -25,6 +28,14 @@ pub struct Options<'a> {
     pub verify: bool,
 }
 
+impl<'a> Options<'a> {
+    /// The options with this randomizer. All others are the default ones.
+    #[allow(deprecated)]
+    pub const fn with_randomizer(randomizer: Randomizer<'a>) -> Self {
+        Options { context: b"", randomizer, once: false, twice: false, verify: false }
+    }
+}
+
 impl Options<'_> {
     /// Whether the signature is computed one time. The deprecated word prevails.
     #[allow(deprecated)]
@@ -34,9 +45,11 @@ impl Options<'_> {
 }
 
 /// The randomizer of a signature, FIPS 205's opt_rand.
-#[derive(Clone, Copy, Default)]
+#[derive(Clone, Copy)]
+#[cfg_attr(feature = "std", derive(Default))]
 pub enum Randomizer<'a> {
     /// n fresh bytes of the system.
+    #[cfg(feature = "std")]
     #[default]
     System,
     /// These n bytes, as of a generator of the caller's own.
@@ -48,11 +61,15 @@ pub enum Randomizer<'a> {
 impl Randomizer<'_> {
     /// The n bytes, or none for the deterministic variant.
     pub(crate) fn drawn<P: ParameterSet>(self) -> Result<Option<P::Seed>, Error> {
-        let mut seed = P::Seed::ZEROS;
         match self {
-            Randomizer::System => random::fill(seed.as_mut()).map(|()| Some(seed)).map_err(Error::RandomFailed),
+            #[cfg(feature = "std")]
+            Randomizer::System => {
+                let mut seed = P::Seed::ZEROS;
+                random::fill(seed.as_mut()).map(|()| Some(seed)).map_err(Error::RandomFailed)
+            }
             Randomizer::Given(bytes) => P::Seed::try_from(bytes).map(Some).map_err(|_| {
-                Refusal::BAD_RANDOMIZER_LENGTH.of_lengths(seed.as_ref().len(), "bytes", bytes.len()).into()
+                let expected = P::Seed::ZEROS.as_ref().len();
+                Refusal::BAD_RANDOMIZER_LENGTH.of_lengths(expected, "bytes", bytes.len()).into()
             }),
             Randomizer::Deterministic => Ok(None),
         }
@@ -63,6 +80,7 @@ impl fmt::Debug for Randomizer<'_> {
     /// The bytes are not printed: they may be a seed that was given by mistake.
     fn fmt(&self, f: &mut fmt::Formatter<'_>) -> fmt::Result {
         match self {
+            #[cfg(feature = "std")]
             Randomizer::System => f.write_str("System"),
             Randomizer::Given(bytes) => write!(f, "Given({} bytes)", bytes.len()),
             Randomizer::Deterministic => f.write_str("Deterministic"),
@@ -88,7 +106,7 @@ impl Content<'_> {
     pub(crate) fn with_lengths(self, context: &[u8], error: Error) -> Error {
         match (error, self) {
             (Error::Refused(it), _) if it == Refusal::CONTEXT_TOO_LONG => {
-                it.of_lengths(slh_sys::SLH_MAX_CONTEXT, "bytes at most", context.len()).into()
+                it.of_lengths(sys::SLH_MAX_CONTEXT, "bytes at most", context.len()).into()
             }
             (Error::Refused(it), Content::Digest(function, digest)) if it == Refusal::BAD_DIGEST_LENGTH => {
                 it.of_lengths(function.digest_len(), "bytes", digest.len()).into()

@@ -1,13 +1,14 @@
 //! Keys as other programs read them: SubjectPublicKeyInfo and PKCS#8, as DER and PEM. A key is one of twelve fixed
 //! prefixes, by its kind and its set, and the key's bytes.
+use alloc::{vec, vec::Vec};
+#[cfg(feature = "std")]
 use std::io::Write;
 
 use crate::{
-    error::Conversion,
-    key_file::Kind,
-    secrets::{are_same, Secrets},
-    sets::{Bytes, ParameterSet, NAMES},
     Error, PublicKey, SecretKey,
+    error::Conversion,
+    secrets::{Secrets, are_same},
+    sets::{Bytes, Kind, NAMES, ParameterSet},
 };
 
 /// AlgorithmIdentifier up to its last byte: id-slh-dsa-sha2-128s is 2.16.840.1.101.3.4.3.20, and the others follow.
@@ -15,6 +16,7 @@ const ALGORITHM: [u8; 12] = [0x30, 0x0b, 0x06, 0x09, 0x60, 0x86, 0x48, 0x01, 0x6
 const FIRST: u8 = 20;
 const LINE: usize = 64;
 
+#[cfg(feature = "std")]
 impl<P: ParameterSet> PublicKey<P> {
     /// Writes the key as a SubjectPublicKeyInfo in DER. `Error::WriteFailed`.
     pub fn write_der_to(&self, writer: impl Write) -> Result<(), Error> {
@@ -25,7 +27,9 @@ impl<P: ParameterSet> PublicKey<P> {
     pub fn write_pem_to(&self, writer: impl Write) -> Result<(), Error> {
         write(writer, Kind::Public, P::NAME, self.as_bytes().as_ref(), true)
     }
+}
 
+impl<P: ParameterSet> PublicKey<P> {
     /// The key of a SubjectPublicKeyInfo in DER. All but the one form is `Error::OtherForm`, and a key of another set
     /// `Error::OtherSet`.
     pub fn from_der(der: &[u8]) -> Result<Self, Error> {
@@ -43,6 +47,7 @@ impl<P: ParameterSet> PublicKey<P> {
     }
 }
 
+#[cfg(feature = "std")]
 impl<P: ParameterSet> SecretKey<P> {
     /// Writes the key as PKCS#8 in DER, not encrypted. `Error::WriteFailed`.
     pub fn write_der_to(&self, writer: impl Write) -> Result<(), Error> {
@@ -53,7 +58,9 @@ impl<P: ParameterSet> SecretKey<P> {
     pub fn write_pem_to(&self, writer: impl Write) -> Result<(), Error> {
         write(writer, Kind::Secret, P::NAME, self.slice(), true)
     }
+}
 
+impl<P: ParameterSet> SecretKey<P> {
     /// The key of a PKCS#8 PrivateKeyInfo in DER. All but the one form is `Error::OtherForm`, as an encrypted key, and
     /// a key of another set `Error::OtherSet`. Call `check` once on a key that comes from elsewhere.
     pub fn from_der(der: &[u8]) -> Result<Self, Error> {
@@ -82,11 +89,7 @@ fn key_length(kind: Kind, n: usize) -> usize {
 /// A length of DER below 256.
 fn der_length(length: usize) -> Vec<u8> {
     let byte = u8::try_from(length).unwrap_or(u8::MAX);
-    if length < 128 {
-        vec![byte]
-    } else {
-        vec![0x81, byte]
-    }
+    if length < 128 { vec![byte] } else { vec![0x81, byte] }
 }
 
 /// What is before the bytes of a key, by the set's place in `NAMES`.
@@ -107,6 +110,7 @@ fn forms(kind: Kind) -> impl Iterator<Item = (&'static str, Vec<u8>, usize)> {
     })
 }
 
+#[cfg(feature = "std")]
 fn write(mut writer: impl Write, kind: Kind, set: &str, key: &[u8], is_pem: bool) -> Result<(), Error> {
     for (_, before, _) in forms(kind).filter(|(name, ..)| *name == set) {
         let mut der = Secrets::zeros(before.len() + key.len());
@@ -148,8 +152,8 @@ fn ends(kind: Kind) -> [&'static [u8]; 2] {
 }
 
 fn pem_length(kind: Kind, length: usize) -> usize {
-    let chars = (length + 2) / 3 * 4;
-    ends(kind).concat().len() + chars + (chars + LINE - 1) / LINE
+    let chars = length.div_ceil(3) * 4;
+    ends(kind).concat().len() + chars + chars.div_ceil(LINE)
 }
 
 /// The character of a value below 64. No branch and no address depends on it.

@@ -1,19 +1,18 @@
 //! Public keys (FIPS 205, section 9.1), and verifying.
 
-use std::{
+use core::{
     fmt,
     hash::{Hash, Hasher},
+};
+#[cfg(feature = "std")]
+use std::{
     io::{Read, Write},
     path::Path,
 };
 
-use crate::{
-    call::{call, done},
-    key_file::{self, Kind},
-    options::Content,
-    sets::Bytes,
-    Error, Function, ParameterSet, Refusal, Signature,
-};
+use crate::{Error, Function, ParameterSet, Refusal, Signature, call::done, options::Content, sets::Bytes, sys::call};
+#[cfg(feature = "std")]
+use crate::{key_file, sets::Kind};
 
 /// Keys that verify signatures. Only `Ok` says that a signature is valid.
 pub trait Verifier<P: ParameterSet> {
@@ -67,7 +66,10 @@ impl<P: ParameterSet> PublicKey<P> {
     pub fn as_bytes(&self) -> &P::PublicKeyBytes {
         &self.bytes
     }
+}
 
+#[cfg(feature = "std")]
+impl<P: ParameterSet> PublicKey<P> {
     /// The key in a key file, as `slh public` writes it. Errors are those of [`read_from`](PublicKey::read_from).
     pub fn load(path: impl AsRef<Path>) -> Result<Self, Error> {
         Self::of_file(&key_file::load(path.as_ref(), Kind::Public)?)

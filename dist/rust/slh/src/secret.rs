@@ -1,21 +1,23 @@
 //! Secret keys (FIPS 205, section 9.1), and signing.
 
+use alloc::boxed::Box;
+use core::fmt;
+#[cfg(feature = "std")]
 use std::{
-    fmt,
     io::{self, Read, Write},
     path::Path,
 };
 
 use crate::{
-    call::{call, certainly_done, done},
-    jobs::Workers,
-    key_file::{self, Kind},
-    options::{slice, Content},
-    random,
-    secrets::{are_same, erase, Secrets},
-    sets::Bytes,
     Error, Function, Options, ParameterSet, PublicKey, Refusal, Signature, Verifier,
+    call::{certainly_done, done},
+    options::{Content, slice},
+    secrets::{Secrets, are_same, erase},
+    sets::Bytes,
+    sys::call,
 };
+#[cfg(feature = "std")]
+use crate::{jobs::Workers, key_file, random, sets::Kind};
 
 /// Keys that sign messages: a [`SecretKey`] in one thread, [`Workers`] in several.
 pub trait Signer<P: ParameterSet> {
@@ -32,6 +34,7 @@ pub trait Signer<P: ParameterSet> {
 
     /// Signs in the pure form, under the empty context and with a fresh randomizer. `Error::RandomFailed` if the
     /// system gives none; under a key that `check` finds invalid as `sign_with`.
+    #[cfg(feature = "std")]
     fn sign(&self, message: &[u8]) -> Result<Signature<P>, Error> {
         self.sign_with(message, Options::default())
     }
@@ -47,6 +50,7 @@ pub struct SecretKey<P: ParameterSet> {
     bytes: Box<P::SecretKeyBytes>,
 }
 
+#[cfg(feature = "std")]
 impl<P: ParameterSet> SecretKey<P> {
     /// Makes a key from random bytes of the system (Algorithm 21), and checks it. `Error::RandomFailed` if it gives
     /// none; `Error::Fault` if [`check`](SecretKey::check) finds another root.
@@ -78,6 +82,44 @@ impl<P: ParameterSet> SecretKey<P> {
         }
     }
 
+    /// The key in a key file, as `slh keygen` writes it. The bytes that were read are erased. Errors are those of
+    /// [`read_from`](SecretKey::read_from).
+    pub fn load(path: impl AsRef<Path>) -> Result<Self, Error> {
+        Self::of_file(&key_file::load(path.as_ref(), Kind::Secret)?)
+    }
+
+    /// The key in the bytes of a key file (docs/FORMATS.md, "Key file", both versions), as `&text[..]`. Refused, with
+    /// the first fault: `NotAKeyFile`, also for the file of a public key; `UnknownSet`, `BadHex`, `BadKeyLength`,
+    /// `TrailingBytes`. `Error::OtherSet` if the key is of another set; `Error::ReadFailed`.
+    pub fn read_from(reader: impl Read) -> Result<Self, Error> {
+        Self::of_file(&key_file::read(reader, Kind::Secret)?)
+    }
+
+    pub(crate) fn of_file(file: &key_file::KeyFile) -> Result<Self, Error> {
+        let mut key = Self::zeros();
+        file.decode(P::NAME, key.bytes_mut())?;
+        Ok(key)
+    }
+
+    /// Writes a new key file of version 2, which on Unix the owner alone can read and write (mode 0600). Elsewhere its
+    /// rights are those that its folder gives. `Error::WriteFailed` if it can't be written, and if the path exists: no
+    /// file is overwritten, and a part of one does not stay.
+    pub fn dump(&self, path: impl AsRef<Path>) -> Result<(), Error> {
+        key_file::dump(path.as_ref(), Kind::Secret, P::NAME, self.slice())
+    }
+
+    /// Writes the text of a key file of version 2. `Error::WriteFailed`.
+    pub fn write_to(&self, writer: impl Write) -> Result<(), Error> {
+        key_file::write(writer, Kind::Secret, P::NAME, self.slice())
+    }
+
+    /// Workers that sign under this key by that many threads, the caller's among them. 0 and 1 are the caller's alone.
+    pub fn workers(&self, count: usize) -> Workers<'_, P> {
+        Workers::new(self, count)
+    }
+}
+
+impl<P: ParameterSet> SecretKey<P> {
     /// Makes the key of three seeds (Algorithm 18), which are as secret as the key. Unlike `generate` it does not check
     /// the key.
     pub fn keygen(sk_seed: &P::Seed, sk_prf: &P::Seed, pk_seed: &P::Seed) -> Self {
@@ -132,37 +174,6 @@ impl<P: ParameterSet> SecretKey<P> {
     /// Whether PK.root is the root that the seeds give: else `Error::Invalid`. This takes as long as making a key.
     pub fn check(&self) -> Result<(), Error> {
         done(call!(slh_check(P::NUMBER; self.slice();)))
-    }
-
-    /// The key in a key file, as `slh keygen` writes it. The bytes that were read are erased. Errors are those of
-    /// [`read_from`](SecretKey::read_from).
-    pub fn load(path: impl AsRef<Path>) -> Result<Self, Error> {
-        Self::of_file(&key_file::load(path.as_ref(), Kind::Secret)?)
-    }
-
-    /// The key in the bytes of a key file (docs/FORMATS.md, "Key file", both versions), as `&text[..]`. Refused, with
-    /// the first fault: `NotAKeyFile`, also for the file of a public key; `UnknownSet`, `BadHex`, `BadKeyLength`,
-    /// `TrailingBytes`. `Error::OtherSet` if the key is of another set; `Error::ReadFailed`.
-    pub fn read_from(reader: impl Read) -> Result<Self, Error> {
-        Self::of_file(&key_file::read(reader, Kind::Secret)?)
-    }
-
-    pub(crate) fn of_file(file: &key_file::KeyFile) -> Result<Self, Error> {
-        let mut key = Self::zeros();
-        file.decode(P::NAME, key.bytes_mut())?;
-        Ok(key)
-    }
-
-    /// Writes a new key file of version 2, which the owner alone can read and write (mode 0600).
-    /// `Error::WriteFailed` if it can't be written, and if the path exists: no file is overwritten, and a part of one
-    /// does not stay.
-    pub fn dump(&self, path: impl AsRef<Path>) -> Result<(), Error> {
-        key_file::dump(path.as_ref(), Kind::Secret, P::NAME, self.slice())
-    }
-
-    /// Writes the text of a key file of version 2. `Error::WriteFailed`.
-    pub fn write_to(&self, writer: impl Write) -> Result<(), Error> {
-        key_file::write(writer, Kind::Secret, P::NAME, self.slice())
     }
 
     /// Signs in the pre-hash form (Algorithm 23) by a message's digest, for messages that are read in pieces. Errors
@@ -241,11 +252,6 @@ impl<P: ParameterSet> SecretKey<P> {
             }
         }
     }
-
-    /// Workers that sign under this key by that many threads, the caller's among them. 0 and 1 are the caller's alone.
-    pub fn workers(&self, count: usize) -> Workers<'_, P> {
-        Workers::new(self, count)
-    }
 }
 
 impl<P: ParameterSet> Signer<P> for SecretKey<P> {
@@ -294,15 +300,17 @@ impl<P: ParameterSet> Drop for SecretKey<P> {
 }
 
 /// The seeds of a key, which are overwritten when they are dropped.
+#[cfg(feature = "std")]
 struct Seeds<P: ParameterSet>([P::Seed; 3]);
 
+#[cfg(feature = "std")]
 impl<P: ParameterSet> Drop for Seeds<P> {
     fn drop(&mut self) {
         self.0.iter_mut().for_each(|seed| erase(seed.as_mut()));
     }
 }
 
-#[cfg(test)]
+#[cfg(all(test, feature = "std"))]
 mod tests {
     use std::mem::MaybeUninit;
 
@@ -310,6 +318,7 @@ mod tests {
     use crate::sets::SlhDsaSha2_128f;
 
     #[test]
+    #[allow(unsafe_code)]
     fn seeds_are_overwritten_when_they_are_dropped() {
         let mut place = MaybeUninit::new(Seeds::<SlhDsaSha2_128f>([[7; 16]; 3]));
         // SAFETY: there are seeds, which nobody uses again. They have no memory but their place, whose bytes are read.

@@ -1,14 +1,8 @@
 //! Bytes that are secret.
-use std::{hint, ptr, sync::atomic};
+use alloc::{boxed::Box, vec};
+use core::hint;
 
-/// Overwrites bytes with zeros, also if the compiler sees that nobody reads them again.
-pub(crate) fn erase(bytes: &mut [u8]) {
-    for byte in bytes {
-        // SAFETY: the pointer is that of a byte which is borrowed here alone.
-        unsafe { ptr::write_volatile(byte, 0) };
-    }
-    atomic::compiler_fence(atomic::Ordering::SeqCst);
-}
+pub(crate) use crate::sys::erase;
 
 /// Whether both have the same bytes, after all of them were compared. Both have the same length.
 pub(crate) fn are_same(one: &[u8], other: &[u8]) -> bool {

@@ -1,10 +1,12 @@
 //! The parameter sets (FIPS 205, section 11, Table 2) as types, and the pre-hash functions (section 10.2.2).
 
-use std::fmt::Debug;
+use alloc::vec;
+use core::fmt::Debug;
 
 use crate::{
-    call::{call, done},
     Error,
+    call::done,
+    sys::{self, call},
 };
 
 /// A pre-hash function (FIPS 205, section 10.2.2). Each goes with each set, but one that is weaker than the set makes a
@@ -13,17 +15,17 @@ use crate::{
 #[repr(u32)]
 pub enum Function {
     /// Digests of 28 bytes.
-    Sha2_224 = slh_sys::SLH_SHA2_224,
+    Sha2_224 = sys::SLH_SHA2_224,
     /// Digests of 32 bytes.
-    Sha2_256 = slh_sys::SLH_SHA2_256,
+    Sha2_256 = sys::SLH_SHA2_256,
     /// Digests of 48 bytes.
-    Sha2_384 = slh_sys::SLH_SHA2_384,
+    Sha2_384 = sys::SLH_SHA2_384,
     /// Digests of 64 bytes.
-    Sha2_512 = slh_sys::SLH_SHA2_512,
+    Sha2_512 = sys::SLH_SHA2_512,
     /// Digests of 28 bytes.
-    Sha2_512_224 = slh_sys::SLH_SHA2_512_224,
+    Sha2_512_224 = sys::SLH_SHA2_512_224,
     /// Digests of 32 bytes.
-    Sha2_512_256 = slh_sys::SLH_SHA2_512_256,
+    Sha2_512_256 = sys::SLH_SHA2_512_256,
 }
 
 impl Function {
@@ -97,7 +99,7 @@ macro_rules! parameter_set {
         impl private::Sealed for $type {}
 
         impl ParameterSet for $type {
-            const NUMBER: u32 = slh_sys::$number;
+            const NUMBER: u32 = sys::$number;
             const NAME: &'static str = $name;
             const SIGNATURE: usize = $signature;
             type Seed = [u8; $n];
@@ -106,6 +108,13 @@ macro_rules! parameter_set {
             const XMSS_LEVELS: u32 = $xmss_levels;
         }
     };
+}
+
+/// The kind of a key.
+#[derive(Clone, Copy, PartialEq, Eq)]
+pub(crate) enum Kind {
+    Public,
+    Secret,
 }
 
 /// The names of the six sets, and n.

@@ -1,8 +1,9 @@
 //! Signatures: bytes of the length that their set has.
 
-use std::{fmt, marker::PhantomData};
+use alloc::{boxed::Box, vec};
+use core::{fmt, marker::PhantomData};
 
-use crate::{call::done, secrets::erase, Error, ParameterSet};
+use crate::{Error, ParameterSet, call::done, secrets::erase};
 
 /// The bytes of a signature, as many as the set's signatures have.
 #[derive(Clone, PartialEq, Eq, Hash)]

@@ -1,11 +1,11 @@
 //! Many signatures in one call: those that other implementations made, and damaged ones.
 use slh::{
-    verify_many, Error, ParameterSet, PublicKey, SecretKey, Signed, Signer, SlhDsaSha2_128f, SlhDsaSha2_192f,
-    SlhDsaSha2_256s,
+    Error, ParameterSet, PublicKey, SecretKey, Signed, Signer, SlhDsaSha2_128f, SlhDsaSha2_192f, SlhDsaSha2_256s,
+    verify_many,
 };
 
 mod vectors_of;
-use vectors_of::{tests, Test};
+use vectors_of::{Test, tests};
 
 const COUNTS: [usize; 6] = [0, 1, 7, 8, 9, 17];
 

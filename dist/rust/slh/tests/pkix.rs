@@ -86,7 +86,7 @@ fn commands_that_errors_name_convert() {
     let text = run(&name, &["genpkey", "-algorithm", SlhDsaSha2_128f::NAME], b"");
     let encrypted = run(&name, &["pkey", "-aes256", "-passout", "pass:word"], &text);
     for other in [encrypted, [&b"a comment\n"[..], &text].concat()] {
-        let error = SecretKey::<SlhDsaSha2_128f>::from_pem(&other).err().expect("an error").to_string();
+        let error = SecretKey::<SlhDsaSha2_128f>::from_pem(&other).expect_err("an error").to_string();
         let command = error.rsplit(": ").next().expect("a command");
         let words: Vec<&str> = command.split(' ').skip(1).chain(["-passin", "pass:word"]).collect();
         fs::write(folder.join("FILE"), &other).expect("a file");

@@ -269,9 +269,9 @@ fn secret_keys_are_not_copied_or_shown_by_a_trait() {
     let public: Vec<_> = of(traits_of!(PublicKey<SlhDsaSha2_128f>)).collect();
     assert_eq!(public, ["Clone", "Copy", "ToOwned", "Display", "ToString", "Hash"]);
     let vector: Vec<_> = of(traits_of!(Vec<u8>)).collect();
-    assert!(["AsRef", "AsMut", "Borrow", "Deref", "Index", "Into<Vec>", "PartialOrd"]
-        .iter()
-        .all(|it| vector.contains(it)));
+    assert!(
+        ["AsRef", "AsMut", "Borrow", "Deref", "Index", "Into<Vec>", "PartialOrd"].iter().all(|it| vector.contains(it))
+    );
 }
 
 #[test]

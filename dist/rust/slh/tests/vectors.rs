@@ -6,7 +6,7 @@ use slh::{
 };
 
 mod vectors_of;
-use vectors_of::{tests, Test};
+use vectors_of::{Test, tests};
 
 fn seed<P: ParameterSet>(bytes: &[u8]) -> P::Seed {
     P::Seed::try_from(bytes).unwrap_or_else(|_| panic!("a seed of {} bytes", bytes.len()))

@@ -19,7 +19,7 @@ pub unsafe fn output<'a, T>(at: *mut T, len: usize) -> &'a mut [T] {
     if len == 0 { &mut [] } else { unsafe { slice::from_raw_parts_mut(at, len) } }
 }
 
-/// Exports calls of a module of `slh_plain`: `slh_c` or `slh_c_verify`. An argument is a `number`; a `place`, a pointer
+/// Exports calls of a module of `slh`: `slh_c` or `slh_c_verify`. An argument is a `number`; a `place`, a pointer
 /// to a number of this type; or an `input` or `output`, a pointer and a length. The parameters named `len` do not
 /// collide, since each step of the macro makes a new name.
 macro_rules! calls {

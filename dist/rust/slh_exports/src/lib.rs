@@ -1,4 +1,4 @@
-//! The calls of `slh.h` over `slh_plain`, for C and for the crate `slh`.
+//! The calls of `slh.h` over the crate `slh`, for C.
 //!
 //! `slh_verify_many` is in `many`.
 //!
@@ -11,11 +11,10 @@
 #[macro_use]
 mod calls;
 mod many;
-mod refusal_text;
 
 use calls::{input, output};
 use core::ffi::c_char;
-use slh_plain::slh_c;
+use slh::slh_c;
 
 calls! { slh_c:
     keys::slh_lengths(set: number, pk: place usize, sk: place usize, sig: place usize, n: place usize,);
@@ -60,6 +59,8 @@ calls! { slh_c:
         job: number, answer: output,);
     generation::slh_keygen_join(set: number, xmss_levels: number, sk_seed: input, sk_prf: input, pk_seed: input,
         answers: input, sk: output,);
+    key_files::slh_key_read(file: input, set: place u32, kind: place u32, key: output,);
+    key_files::slh_key_write(set: number, kind: number, key: input, file: output,);
     self_test::slh_self_test(set: number, scratch: output,);
     names::slh_refusal_name(refusal: number, name: output,);
 }
@@ -79,7 +80,7 @@ pub extern "C" fn slh_level() -> u32 {
 /// A sentence on a result.
 #[unsafe(no_mangle)]
 pub extern "C" fn slh_refusal_text(result: u32) -> *const c_char {
-    refusal_text::refusal_text(result).as_ptr()
+    slh::refusal_text::refusal_text(result).as_ptr()
 }
 
 /// Writes zeros, which no compiler omits.

@@ -1,6 +1,6 @@
 //! `slh_verify_many`, whose items have pointers.
 use crate::calls::{input, output};
-use slh_plain::slh_c::many::{Signed, slh_verify_many as verify_many};
+use slh::slh_c::many::{Signed, slh_verify_many as verify_many};
 
 const DONE: u32 = 0;
 /// So many items are read at a time, since nothing here allocates memory: a multiple of the eight that are hashed side by

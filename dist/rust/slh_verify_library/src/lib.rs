@@ -7,7 +7,7 @@
 mod calls;
 
 use calls::input;
-use slh_plain::slh_c_verify;
+use slh::slh_c_verify;
 
 calls! { slh_c_verify:
     pure_form::slh_verify(set: number, pk: input, msg: input, ctx: input, sig: input,);
