@@ -9,6 +9,7 @@ draws the processor whose code is tried by the vectors.
 import ctypes
 import os
 import pathlib
+import re
 import sys
 
 import pytest
@@ -16,7 +17,7 @@ import pytest
 import machines
 from conftest import STRICT
 from machines import LIBRARY_CALLS, OF_C, counted, of_kind, symbols
-from support import HERE, TESTS, Outcome, best_level, need_level, run, tool_of
+from support import HERE, TESTS, Outcome, best_level, need, need_level, run, succeed, tool_of
 
 LEVEL = "#include <slh.h>\nint main(void) { return (int)slh_level(); }\n"
 LEVELS = [2, 3, 4]
@@ -204,14 +205,35 @@ def test_sha_instructions_run_if_chosen(emulated_with_sha, linked, weak, letter,
     assert outcome(emulates, without.lower()).output == outcome(emulates, name).output == VALID.output
 
 
+@pytest.mark.parametrize("archive", ["libslh.a", *(f"libslh-v{it}.a" for it in LEVELS)])
+def test_single_messages_by_sha_instructions_take_no_branch(lib, archive):
+    """And no address but of the arguments, the stack and constants: so their time depends on no byte of them."""
+    need("objdump")
+    said = succeed("objdump", "-d", "--no-show-raw-insn", lib / archive).decode()
+    code, = re.findall(r"<slh_sha256>:\n(.*?)\n\n", said + "\n\n", re.S)
+    lines = re.findall(r"^ +[0-9a-f]+:\t(\S.*?) *$", code, re.M)
+    assert len(lines) > 100 and [it for it in lines if re.match("(notrack )?(j|call|ret|loop)", it)] == ["ret"]
+    assert {it for line in lines for it in re.findall(r"\(([^)]*)\)", line)} <= {"%rdi", "%rsi", "%rsp", "%rip"}
+
+
 @pytest.mark.slow
 def test_sha_instructions_run_at_the_highest_level(linked, weak, letter):
-    """By x86-64-v4, which no emulator has: a processor without them ends at an illegal instruction, and one that has
-    them signs."""
+    """By x86-64-v4, which no emulator has. A processor without them ends at an illegal instruction, unless the program
+    emulates it; one that has them signs."""
     need_level(4)
-    program = linked(HERE / "examples/sign_file.c", TESTS / "forced_level.c", weak)
-    done = run(program, letter, env={**os.environ, "PROCESSOR": "skylake with SHA instructions"})
+    words = [HERE / "examples/sign_file.c", TESTS / "forced_level.c", weak]
+    env = {**os.environ, "PROCESSOR": "skylake with SHA instructions"}
+    done = run(linked(*words), letter, env=env)
     assert done == VALID if has_sha() else done.status == ILLEGAL
+    assert run(linked("-std=c11", *STRICT, TESTS / "sha_by_signals.c", *words), letter, env=env) == VALID
+
+
+@pytest.mark.slow
+def test_vectors_by_sha_instructions_at_the_highest_level(pytestconfig, linked, weak):
+    need_level(4)
+    program = linked("-std=c11", *STRICT, TESTS / "sha_by_signals.c", TESTS / "target_calls.c",
+                     TESTS / "forced_level.c", weak)
+    machines.vectors_through(pytestconfig, "env", "PROCESSOR=skylake with SHA instructions", program, few=True)
 
 
 @pytest.mark.parametrize("other", [pytest.param(it, marks=EMULATED) for it in ("haswell", "skylake")])

@@ -188,15 +188,6 @@ def test_wrong_block_of_x86_is_found(compare_blocks, tmp_path, before, after):
     assert done.status == 1 and not done.output.endswith(b" 0 failed\n")
 
 
-def test_block_of_x86_has_no_branch(compare_blocks):
-    """And no address but of its arguments, its stack and constants: its time depends on no byte of them."""
-    compare_blocks(OF_X86)
-    text = succeed("objdump", "-d", "--no-show-raw-insn", compare_blocks(OF_X86).parent / "sha256_x86.o").decode()
-    lines = re.findall(r"^ +[0-9a-f]+:\t(.*)$", text, re.M)
-    assert len(lines) > 100 and [it for it in lines if re.match("j|call|ret|loop", it)] == ["ret"]
-    assert {it for line in lines for it in re.findall(r"\(([^)]*)\)", line)} == {"%rdi", "%rsi", "%rsp", "%rip"}
-
-
 def test_block_of_x86_takes_as_much_stack_as_is_cleared_for_it_on_windows(compare_blocks, tmp_path):
     """No test runs it there: so 256 bytes more are cleared than the proved function takes, which has over 128."""
     succeed(clang_of_kit(), "--target=x86_64-pc-windows-gnu", *targets.AS_EXPORTS, "-fstack-usage", "-c", OF_X86.name,

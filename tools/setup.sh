@@ -283,7 +283,7 @@ install_qemu() {
     unpack qemu-user
     install -D "$work/root/usr/bin/qemu-x86_64" "$folder/qemu-10/qemu-x86_64"
     ln -sf "$folder/qemu-10/qemu-x86_64" /usr/local/bin/qemu-x86_64-10
-    qemu-x86_64-10 --version | sed 1q
+    qemu-x86_64-10 --version | sed -n 1p
 }
 
 mapfile -t found < <(missing)
