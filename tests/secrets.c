@@ -186,15 +186,14 @@ static void learn(uint32_t function, const uint8_t *it) {
     must(result == SLH_DONE && known_count > d, "the signature is not valid, or digits_of was not wrapped");
 }
 
-/* Of each digit of SK.seed and SK.prf these are verdicts: it does not end the line, it is a number, and else it is a
-   letter. Which number or letter it is stays secret. */
+/* Of each digit of SK.seed and SK.prf these are verdicts: it does not end the line, and it is a digit. Which digit it is
+   stays secret, and so does whether it is a number or a letter. */
 static void key_files(void) {
     static char file[SLH_MAX_KEY_FILE];
     uint32_t set_read, kind_read;
-    unsigned verdicts = 0;
-    for (size_t i = 0; i < 4 * n; i++) verdicts += (sk[i / 2] >> (i % 2 ? 0 : 4) & 15) < 10 ? 2 : 3;
+    unsigned digits = 4 * (unsigned)n;
     TRY("slh_key_write", 0, 0, slh_key_write(set, SLH_SECRET_KEY, sk, sk_len, file, sizeof file));
-    TRY_UP_TO("slh_key_read", 1, verdicts, 0,
+    TRY_UP_TO("slh_key_read", 1, 2 * digits, 0,
               slh_key_read((const uint8_t *)file, 36 + 2 * sk_len, &set_read, &kind_read, made, sk_len));
     must(memcmp(made, sk, sk_len) == 0, "another key");
 }
