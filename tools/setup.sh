@@ -41,7 +41,7 @@ pkg-config pkg-config
 python3 python3
 pytest python3-pytest python3-pytest-xdist
 - python3-venv python3-setuptools python3-wheel python3-distributed python3-tqdm
-- python3-prometheus-client e2fsprogs
+- python3-prometheus-client python3-cbor2 e2fsprogs
 - librust-rand-core-dev librust-sha2-dev librust-arrayvec-dev librust-thiserror-dev
 - librust-getrandom-dev librust-zeroize-dev
 git git
