@@ -329,10 +329,11 @@ def program(pytestconfig):
             pytest.skip("the release has no program for this processor (it takes x86-64-v2)")
         return found[0]
     # A first build proves all crates for an hour: nobody expects that of a test.
-    if not (HERE / "crates/slh/out/slh").exists():
+    built = HERE / "out/program/x86-64-v2/slh"
+    if not built.exists():
         pytest.fail("the sources are not those of dist/: build the program by ./slh params, or give --release=dist")
     succeed(HERE / "slh", "params", timeout=7200)
-    return str(HERE / "crates/slh/out/slh")
+    return str(built)
 
 
 @pytest.fixture(scope="session")

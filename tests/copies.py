@@ -9,8 +9,6 @@ LEVELS = ("x86-64-v2", "x86-64-v3", "x86-64-v4")
 WITHOUT_KIT = "/usr/bin:/bin"
 # Without the work of earlier checks, the release and git's folder.
 COPY = 'tar -C "$0" --exclude=./.git --exclude=./dist --exclude=out --exclude=__pycache__ -cf - . | tar -C "$1" -xf -'
-SET_NOTE = """here=$0; source "$here/tools/released.sh"
-file=$(programs_here | head -n 1); file=${file#"$dist/"}; note_of "${file%/slh}"; """
 
 
 def skip_beside_kit():
@@ -77,13 +75,6 @@ class Copy:
         """Lists the files of the release as they are now."""
         words = "find . -type f ! -name SHA256SUMS -printf '%P\\0' | xargs -0 sha256sum"
         (self.dist / "SHA256SUMS").write_bytes(run("bash", "-c", words, cwd=self.dist).output)
-
-    def released(self, words, *arguments):
-        """What words of bash print that have tools/released.sh of the copy, `file`, the program for this processor in
-        dist/, and `note`, the file in which ./slh notes what it found of it."""
-        done = self.run("bash", "-c", SET_NOTE + words, self.path, *arguments)
-        assert done.status == 0, done
-        return done.output.decode()
 
     def remove(self):
         shutil.rmtree(self.work, ignore_errors=True)

@@ -31,7 +31,7 @@ WITH_KIT = {
     "tests/tested_bodies.py": {"whole": ["tests/tested_bodies.py", "--few"]},
 }
 OF_PYTEST = {"whole": ["--release=out/release"], "release": ["--release=dist"],
-             "quick": ["-m", "program or quick", "--program=crates/slh/out/slh"],
+             "quick": ["-m", "program or quick", "--program=out/program/x86-64-v2/slh"],
              "few": ["-m", "not slow", "--release=dist"]}
 
 

@@ -167,11 +167,11 @@ def test_commands_in_a_root_without_the_kit(copy, in_another_root):
 
 @slow
 @pytest.mark.parametrize("how", ["damaged", "missing"])
-@pytest.mark.parametrize("level", LEVELS)
+@pytest.mark.parametrize("level", ["x86-64", *LEVELS])
 def test_program_is_not_run(changed, level, how):
-    need_level(level)
+    """Nor another one beside it."""
     changed.harm(f"{level}/slh", how)
-    changed.refuses(f"slh: dist/{level}/slh is {how}", *PARAMS, SLH_CPU=level)
+    changed.refuses(f"slh: dist/{level}/slh is {how}", *PARAMS)
 
 
 @pytest.mark.parametrize("file, text", [("BUILD", "sources 0\n"), ("SHA256SUMS", "")], ids=["BUILD", "SHA256SUMS"])
@@ -263,27 +263,14 @@ def test_no_other_folder_is_a_target(changed, name):
 @slow
 @pytest.mark.parametrize("file", ["BUILD", "SHA256SUMS", "the program"])
 def test_fifo_is_not_waited_for(changed, file):
-    """With a note on the program and without."""
-    path = changed.dist / (changed.released('echo "$file"').strip() if file == "the program" else file)
-    note = note_now(changed, "same")
+    path = changed.dist / (f"{BEST}/slh" if file == "the program" else file)
     path.unlink()
     os.mkfifo(path)
-    changed.refuses("slh: ", *PARAMS)
-    note.unlink()
     changed.refuses("slh: ", *PARAMS)
     if file != "the program":
         changed.refuses("library.sh: ", "tools/library.sh", "prefix")
     changed.refuses(".sh: ", "tools/install.sh", "prefix")
     assert not (changed.path / "prefix").exists()
-
-
-def test_fifo_in_place_of_a_note_is_not_waited_for(changed):
-    note = note_now(changed, "same")
-    note.unlink()
-    os.mkfifo(note)
-    done = changed.run(*PARAMS)
-    note.unlink()
-    assert done.status == 0
 
 
 @pytest.mark.parametrize("target, installed, file", [
@@ -327,7 +314,7 @@ def test_program_is_built_if_that_is_asked_for(changed):
 
 def test_program_is_built_if_that_of_the_release_is_damaged(changed):
     changed.harm("x86-64-v2/slh", "damaged")
-    done, called = changed.run_with_kit(*PARAMS, SLH_CPU="x86-64-v2")
+    done, called = changed.run_with_kit(*PARAMS)
     assert done.status and done.output == b"" and called
     assert b"dist/x86-64-v2/slh is damaged" in done.errors
 
@@ -359,24 +346,24 @@ def test_change_of_a_test_is_no_change_of_the_sources(copy):
     assert lists_sets(copy.run(*PARAMS))
 
 
-def test_unknown_level_is_refused(changed):
-    changed.refuses("SLH_CPU is x86-64-v2, x86-64-v3 or x86-64-v4", *PARAMS, SLH_CPU="v4")
+@pytest.mark.parametrize("variables", [{}, {"SLH_BUILD": "1"}], ids=["release", "build"])
+def test_unknown_level_is_refused_by_the_script(changed, variables):
+    done, called = changed.run_with_kit(*PARAMS, SLH_CPU="v4", **variables)
+    assert (done.status, done.output, called) == (2, b"", False)
+    assert done.errors == b"slh: SLH_CPU is x86-64-v2, x86-64-v3 or x86-64-v4\n"
 
 
-# ---- notes
+def test_level_is_chosen_by_slh_cpu(changed):
+    """Of a release whose programs print where they are, by the starter of that release."""
+    for level in LEVELS:
+        (changed.dist / level / "slh").write_text('#!/bin/sh\nprintf "%s\\n" "$0"\n')
+    changed.list_anew()
+    for level in HERE_ARE:
+        assert changed.run(*PARAMS, SLH_CPU=level).output.decode() == f"{changed.dist}/x86-64/../{level}/slh\n"
+    assert changed.run(*PARAMS).output.decode() == f"{changed.dist}/x86-64/../{BEST}/slh\n"
 
 
-def note_now(copy, found):
-    """Writes the note that ./slh would write two seconds after the last change: what was FOUND, for all files as they
-    are."""
-    said = copy.released('mkdir -p "${note%/*}" && { echo "$1" && (looked_at); } >"$note"; echo "$note"', found)
-    note = pathlib.Path(said.strip())
-    assert "BUILD" in note.read_text()
-    return note
-
-
-def says_same(copy):
-    return lists_sets(copy.run(*PARAMS))
+# ---- changed sources, and the time
 
 
 def says_other(copy):
@@ -397,189 +384,56 @@ def change_unseen(path, text=b""):
 
 
 @slow
-def test_a_note_is_written(copy):
-    """Once no file was changed for two seconds. Before that ./slh looks at the hashes each time."""
-    note = pathlib.Path(copy.released('echo "$note"').strip())
-    note.unlink(missing_ok=True)
-    (copy.path / "VERSION").touch()
-    assert says_same(copy) and not note.exists()
-    time.sleep(3.1)
-    assert says_same(copy) and note.read_text().splitlines()[0] == "same"
-    written = note.read_bytes()
-    assert note_now(copy, "same").read_bytes() == written
-    copy.append("crates/slh_core/src/lib.rt", "// changed")
-    time.sleep(3.1)
-    assert says_other(copy) and note.read_text().splitlines()[0] == "other"
-
-
-def test_each_source_is_one_that_a_note_depends_on(copy):
-    """Each file that tools/sources.sh reads is one of those that ./slh looks at."""
-    summed = copy.work / "summed"
-    script(copy.work / "sums/sha256sum",
-           f'#!/bin/sh\nprintf "%s\\n" "$@" >>"{summed}"\nexec /usr/bin/sha256sum "$@"\n')
-    assert copy.run(copy.path / "tools/sources.sh", path=f"{copy.work / 'sums'}:{WITHOUT_KIT}").status == 0
-    files = set(summed.read_text().splitlines()) - {""}  # a sum of standard input names no file
-    looked = {it.split(" ", 3)[3].removeprefix(f"{copy.path}/") for it in copy.released("looked_at").splitlines()}
-    assert len(files) > 500 and not files - looked
-
-
-@slow
 @pytest.mark.parametrize("file", [
-    "HANDLES", "VERSION", "crates.txt", "c/include/slh.h", "tools/kit.py", "tools/program.sh", "tools/targets.py",
-    "tools/symbols.sh", "crates/slh/src/main.rt", "crates/slh_params/specs/Lib.antt",
+    "HANDLES", "VERSION", "crates.txt", "c/include/slh.h", "c/starter.c", "tools/kit.py", "tools/program.sh",
+    "tools/targets.py", "tools/symbols.sh", "crates/slh/src/main.rt", "crates/slh_params/specs/Lib.antt",
     "crates/slh_params/proofs/Bounds.antt"])
-def test_changed_source_is_seen_over_a_note(copy_of_module, file):
+def test_changed_source_is_seen(copy_of_module, file):
     """Though its length and time are as they were."""
     copy, path = copy_of_module.take_release(), copy_of_module.path / file
     was = path.read_bytes()
-    note_now(copy, "same")
     try:
-        assert says_same(copy)
+        assert lists_sets(copy.run(*PARAMS))
         change_unseen(path)
         assert says_other(copy)
     finally:
         path.write_bytes(was)
-    assert says_same(copy)
+    assert lists_sets(copy.run(*PARAMS))
 
 
 @slow
-def test_new_or_missing_source_is_seen_over_a_note(copy):
-    note_now(copy, "same")
-    (copy.path / "crates" / "slh/src/more.rt").write_text("\n")
+def test_new_or_missing_source_is_seen(copy):
+    more = copy.path / "crates" / "slh/src/more.rt"
+    more.write_text("\n")
     assert says_other(copy)
-    note_now(copy, "other")
-    (copy.path / "crates" / "slh/src/more.rt").unlink()
-    assert says_same(copy)
-    note_now(copy, "same")
+    more.unlink()
+    assert lists_sets(copy.run(*PARAMS))
     (copy.path / "crates/slh/src/main.rt").unlink()
     assert says_other(copy)
 
 
 @slow
 @pytest.mark.parametrize("file", ["the program", "BUILD", "SHA256SUMS"])
-def test_damage_is_seen_over_a_note(changed, file):
+def test_damage_is_seen(changed, file):
     """Of the program, of the list of hashes, and of the file that says of which sources it is."""
-    program = changed.released('echo "$file"').strip()
-    named = program if file != "BUILD" else file
+    named = "BUILD" if file == "BUILD" else f"{BEST}/slh"
     text = b""
     if file == "SHA256SUMS":
-        text = hashlib.sha256((changed.dist / program).read_bytes()).hexdigest().encode()
-    note_now(changed, "same")
-    assert says_same(changed)
-    change_unseen(changed.dist / (program if file == "the program" else file), text)
-    changed.refuses(f"dist/{named} is damaged", *PARAMS)
-    note_now(changed, "same")
+        text = hashlib.sha256((changed.dist / named).read_bytes()).hexdigest().encode()
+    change_unseen(changed.dist / (named if file == "the program" else file), text)
     changed.refuses(f"dist/{named} is damaged", *PARAMS)
 
 
-@needs_root
 @slow
-def test_note_of_another_user_is_not_believed(copy):
-    change_unseen(copy.path / "VERSION")
-    note = note_now(copy, "same")
-    assert says_same(copy)
-    os.chown(note, 65534, 65534)
-    assert says_other(copy)
+def test_start_takes_little(changed):
+    """./slh looks at the hashes of some 1,300 sources at each start. The least of many runs, in processor seconds."""
+    def seconds():
+        before = os.times()
+        assert lists_sets(changed.run(*PARAMS))
+        after = os.times()
+        return after.children_user + after.children_system - before.children_user - before.children_system
 
-
-@needs_root
-@slow
-@pytest.mark.parametrize("cache, home", [
-    ("/dev/null/none", "/"), ("relative", "/dev/null"), ("", "relative"), ("", "")])
-def test_folder_that_cant_be_written_is_no_hindrance(copy, cache, home):
-    change_unseen(copy.path / "VERSION")
-    time.sleep(3.1)
-    done = copy.run(*PARAMS, XDG_CACHE_HOME=cache, HOME=home)
-    assert len(done.output.splitlines()) == 6 and len(done.errors.splitlines()) == 1
-    assert not (copy.path / "relative").exists()
-
-
-def seconds_of(*words, **options):
-    """The processor seconds of a run, of ten."""
-    before = os.times()
-    for _ in range(10):
-        subprocess.run(words, stdout=subprocess.DEVNULL, stderr=subprocess.DEVNULL, check=True, **options)
-    after = os.times()
-    return (after.children_user + after.children_system - before.children_user - before.children_system) / 10
-
-
-@slow
-def test_a_note_saves_most_of_the_time(changed):
-    """./slh takes less than a third of the time that it takes to look at all hashes."""
-    note_now(changed, "same")
-    with_note = seconds_of(changed.path / "slh", "params", env={"HOME": str(changed.work), "PATH": WITHOUT_KIT})
-    without = seconds_of(changed.path / "slh", "params", env={"PATH": WITHOUT_KIT})
-    assert 3 * with_note < without
-
-
-# ---- which build for a processor
-
-# The features of each level that /proc/cpuinfo tells.
-V2 = "cx16 lahf_lm popcnt pni sse4_1 sse4_2 ssse3".split()
-V3 = "avx avx2 bmi1 bmi2 f16c fma abm movbe".split()
-V4 = "avx512f avx512bw avx512cd avx512dq avx512vl".split()
-
-
-@pytest.fixture
-def processor(changed, can_unshare):
-    """Runs ./slh where /proc/cpuinfo has these flags, with the programs of the release replaced: processor(FLAGS,
-    LEVEL) has the one of this level print its path, and all others damaged, since this processor need not have it."""
-
-    def runs(flags, level=None, **variables):
-        changed.take_release()
-        for other in LEVELS:
-            changed.harm(f"{other}/slh", "damaged")
-        if level:
-            (changed.dist / level / "slh").write_text('#!/bin/sh\necho "$0"\n')
-        changed.list_anew()
-        for other in LEVELS:
-            if other != level:
-                changed.append(f"dist/{other}/slh", "")
-        cpuinfo = changed.work / "cpuinfo"
-        cpuinfo.write_text(f"flags : {' '.join(flags)}\n")
-        return changed.run("unshare", "-rm", "bash", "-c", 'mount --bind "$0" /proc/cpuinfo && exec "$@"', cpuinfo,
-                           *PARAMS, **variables)
-
-    runs.copy = changed
-    return runs
-
-
-def without(flags, flag):
-    return [it for it in flags if it != flag]
-
-
-CHOICES = {
-    "v2": (V2, "v2", {}), "v3": (V2 + V3, "v3", {}), "v4": (V2 + V3 + V4, "v4", {}),
-    **{f"without {it}": (V2 + V3 + without(V4, it), "v3", {}) for it in V4},
-    **{f"without {it}": (V2 + without(V3, it) + V4, "v2", {}) for it in V3},
-    **{f"{it} of v4": (V2 + V3 + V4, it, {"SLH_CPU": f"x86-64-{it}"}) for it in ("v2", "v3", "v4")},
-}
-LACKING = {
-    **{f"v4 without {it}": (V2 + V3 + without(V4, it), "v4") for it in V4},
-    "v3 of v2": (V2, "v3"), "v4 of v3": (V2 + V3, "v4"),
-}
-
-
-@slow
-@pytest.mark.parametrize("case", CHOICES)
-def test_level_of_the_processor_is_chosen(processor, case):
-    flags, level, variables = CHOICES[case]
-    done = processor(flags, f"x86-64-{level}", **variables)
-    assert done.status == 0 and done.output.decode() == f"{processor.copy.dist}/x86-64-{level}/slh\n"
-
-
-@slow
-@pytest.mark.parametrize("case", LACKING)
-def test_level_that_the_processor_lacks_is_refused(processor, case):
-    flags, level = LACKING[case]
-    done = processor(flags, f"x86-64-{level}", SLH_CPU=f"x86-64-{level}")
-    assert (done.status, done.output) == (2, b"") and f"not of the level x86-64-{level}" in done.errors.decode()
-
-
-@slow
-def test_processor_below_all_levels_is_refused(processor):
-    done = processor(["cx16", "popcnt"])
-    assert done.status == 2 and b"not of the level x86-64-v2" in done.errors
+    assert min(seconds() for _ in range(20)) <= 0.2
 
 
 # ---- the installed program
@@ -639,19 +493,43 @@ class StandIns:
     def __init__(self, copy, program):
         self.copy, self.program = copy, program
 
-    def run_build(self, number, *before):
+    def run_build(self, number, *before, **variables):
         """The installed program runs the build for a level, with its words and variables as they are. A command may
         be before it."""
-        done = self.copy.run(*before, self.program, "a  b", "", "c", IT="an  it")
+        done = self.copy.run(*before, self.program, "a  b", "", "c", IT="an  it", **variables)
         assert (done.status, done.output.decode()) == (3, f"v{number} an  it a  b  c\n"), done
 
-    def refuse_processor(self, *before):
-        said = self.copy.refuses("slh: this processor is not of the level x86-64-v2", *before, self.program, "params")
-        assert len(said.splitlines()) == 1
+    def refuse_processor(self, *before, said="this processor is not of the level x86-64-v2", **variables):
+        errors = self.copy.refuses(f"slh: {said}\n", *before, self.program, "params", **variables)
+        assert len([it for it in errors.splitlines() if not it.startswith("qemu-x86_64: warning: ")]) == 1
+
+    def judge_level(self, number, *before):
+        """The processor is of the level `number`, or below all if that is None: it runs that build, or the one that
+        SLH_CPU names of those that it can run."""
+        self.run_build(number, *before) if number else self.refuse_processor(*before)
+        for asked in (2, 3, 4):
+            named = {"SLH_CPU": f"x86-64-v{asked}"}
+            if number and asked <= number:
+                self.run_build(asked, *before, **named)
+            elif number:
+                said = f"this processor is not of the level x86-64-v{asked}: unset SLH_CPU"
+                self.refuse_processor(*before, said=said, **named)
+            else:
+                self.refuse_processor(*before, **named)
 
 
 def test_installed_program_runs_the_build_for_the_processor(stand_ins):
-    stand_ins.run_build(best_number())
+    stand_ins.judge_level(best_number())
+    stand_ins.run_build(best_number(), SLH_CPU="")
+
+
+@pytest.mark.parametrize("name", ["x86-64-v1", "x86-64-v5", "x86-64-v", "x86-64-v22", "x86-64_v2", "v2", "X86-64-v2", " "])
+def test_unknown_level_is_refused(stand_ins, name):
+    stand_ins.refuse_processor(said="SLH_CPU is x86-64-v2, x86-64-v3 or x86-64-v4", SLH_CPU=name)
+
+
+def test_variables_of_similar_names_choose_no_level(stand_ins):
+    stand_ins.run_build(best_number(), SLH_CPU_="x86-64-v2", SLH_CP="U=x86-64-v2", XSLH_CPU="x86-64-v2", slh_cpu="v1")
 
 
 EMULATED = {"Nehalem": 2, "Haswell": 3, "core2duo": None,
@@ -664,7 +542,7 @@ EMULATED = {"Nehalem": 2, "Haswell": 3, "core2duo": None,
 def test_build_for_an_emulated_processor(stand_ins, processor_name, number):
     need("qemu-x86_64")
     before = ("qemu-x86_64", "-cpu", processor_name)
-    stand_ins.run_build(number, *before) if number else stand_ins.refuse_processor(*before)
+    stand_ins.judge_level(number, *before)
 
 
 @slow
@@ -676,8 +554,8 @@ def test_build_for_each_processor_of_a_table(stand_ins, place, number):
     stand_ins.copy.path.joinpath("chooser").unlink(missing_ok=True)
     succeed("cc", "-std=c11", *STRICT, "-O2", "-ffreestanding", "-fno-stack-protector", "-nostdlib", "-static",
             f"-DPROCESSOR={place}", "c/starter.c", "c/exports/chosen.c", "tests/forced_level.c", "-o",
-            stand_ins.program, cwd=stand_ins.copy.path)
-    stand_ins.run_build(number) if number else stand_ins.refuse_processor()
+            stand_ins.program.resolve(), cwd=stand_ins.copy.path)
+    stand_ins.judge_level(number)
 
 
 @slow
@@ -685,7 +563,7 @@ def test_build_for_each_processor_of_a_table(stand_ins, place, number):
 def test_build_that_cant_be_run_has_status_2(stand_ins, words):
     build = f"lib/slh/{BEST}/slh"
     succeed(*words, stand_ins.program.parent.parent / build)
-    path = f"{stand_ins.program.parent}/../{build}"
+    path = f"{stand_ins.program.resolve().parent}/../{BEST}/slh"
     said = stand_ins.copy.refuses(f"slh: {path} can't be run", stand_ins.program, "params")
     assert len(said.splitlines()) == 1
 

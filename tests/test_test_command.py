@@ -121,7 +121,7 @@ def test_release_of_rt_ci_is_tested_once(small):
 def test_program_is_tested_quickly(small):
     small.add_kit()
     script(small.path / "slh", STUB)
-    script(small.path / "crates/slh/out/slh", "#!/bin/sh\necho 128f\n")
+    script(small.path / "out/program/x86-64-v2/slh", "#!/bin/sh\necho 128f\n")
     small.write("tests/test_vectors.py", TESTS_OF_PYTEST.replace("def", "@pytest.mark.quick\ndef"))
     status, lines = small.run("--no-setup", "--quick")
     assert small.calls() == ["slh params", "wrong_bodies.py --changed"]
@@ -132,7 +132,7 @@ def test_program_is_tested_quickly(small):
 def test_program_that_is_not_built_is_a_failure(small):
     small.add_kit()
     script(small.path / "slh", "#!/bin/sh\nexit 2\n")
-    script(small.path / "crates/slh/out/slh", "#!/bin/sh\necho 128f\n")
+    script(small.path / "out/program/x86-64-v2/slh", "#!/bin/sh\necho 128f\n")
     status, lines = small.run("--no-setup", "--quick")
     assert status == 1 and "SLH_BUILD=1 ./slh params: no" in failures(lines)
 

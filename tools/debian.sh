@@ -170,10 +170,11 @@ make_libslh_dev() {
 make_slh() {
     local level
     begin slh
-    for level in x86-64-v2 x86-64-v3 x86-64-v4; do
+    for level in x86-64 x86-64-v2 x86-64-v3 x86-64-v4; do
         put 755 $level/slh usr/lib/slh/$level/slh
     done
-    put 755 x86-64/slh usr/bin/slh
+    mkdir -p "$root/usr/bin"
+    ln -s ../lib/slh/x86-64/slh "$root/usr/bin/slh"
     make_share "$root/usr/lib/slh/x86-64-v2/slh" "$upstream"
     put_zipped man/man1/slh.1 usr/share/man/man1/slh.1
     put_share bash-completion/completions/slh usr/share/bash-completion/completions/slh

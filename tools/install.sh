@@ -2,7 +2,8 @@
 # Installs the program `slh` and, by tools/library.sh, the library for C: those of the release in dist/ where the
 # sources are those that it was built of and each file has the hash that is listed; else it builds them.
 #
-#   PREFIX/bin/slh                            runs the best build for the processor that it finds at each start
+#   PREFIX/bin/slh                            a link to PREFIX/lib/slh/x86-64/slh, which runs the best build for the
+#                                             processor that it finds at each start
 #   PREFIX/lib/slh/x86-64-v2/slh, -v3/, -v4/  the builds
 #   PREFIX/share/man/man1/slh.1               the man page, and completions for bash and zsh:
 #   PREFIX/share/bash-completion/completions/slh, PREFIX/share/zsh/site-functions/_slh
@@ -47,10 +48,11 @@ fi
 
 "$here/tools/library.sh" "$1"
 prefix=$(cd "$1" && pwd)
-for level in "${levels[@]}"; do
+for level in $chooser "${levels[@]}"; do
     install -D -m 755 "$made/$level/slh" "$prefix/lib/slh/$level/slh"
 done
 for file in ${texts[@]+"${texts[@]}"}; do
     install -D -m 644 "$made/$file" "$prefix/$file"
 done
-install -D -m 755 "$made/$chooser/slh" "$prefix/bin/slh"
+mkdir -p "$prefix/bin"
+ln -sfn ../lib/slh/$chooser/slh "$prefix/bin/slh"

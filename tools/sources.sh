@@ -37,15 +37,16 @@ lines() {
     ' crates.txt | sort
 }
 
-mapfile -t crates < <(lines | sed 's/[: ].*//')
+mapfile -t lines < <(lines)
+crates=("${lines[@]%%[: ]*}")
 {
-    lines
+    printf '%s\n' "${lines[@]}"
     {
         find HANDLES VERSION c/{exports,include,portable} c/starter.c \
             tools/{clang.sh,for_128.sed,for_hook.sed,for_machine.sed,for_size.sed,kit.py,lay_out.py} \
             tools/for_{pads_arm,pads_x86,sha256_arm,sha256_x86,sha512_arm,single_x86}.sed \
             tools/{portable.py,program.sh,symbols.sh,targets.py} -type f -print0
-        find "${crates[@]/#/crates/}" -path '*/out' -prune -o -path '*/tests/*' -o -name 'tests.*' \
-            -o \( -path '*/src/*' -o -path '*/specs/*' -o -path '*/proofs/*' \) -type f -print0
+        find "${crates[@]/#/crates/}" -type d \( -name out -o -name tests -o -name wrong -o -name must-fail \) -prune \
+            -o -type f \( -path '*/src/*' -o -path '*/specs/*' -o -path '*/proofs/*' \) ! -name 'tests.*' -print0
     } | sort -z | xargs -0 sha256sum
 } | sha256sum | cut -d ' ' -f 1

@@ -4,7 +4,7 @@
  * and what no longer has it was used. The test command does not run it.
  *
  *     cc -O1 -shared -fPIC -o stack.so tests/benches/program_stack.c
- *     LD_PRELOAD=./stack.so crates/slh/out/slh sign --key secret.key --message letter.txt --workers 64 > letter.sig
+ *     LD_PRELOAD=./stack.so out/program/x86-64-v2/slh sign --key secret.key --message letter.txt --workers 64 > letter.sig
  */
 #define _GNU_SOURCE
 #include <dlfcn.h>
