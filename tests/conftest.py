@@ -267,7 +267,7 @@ def budgets():
     if not tomllib:
         return {}
     tables = tomllib.loads((HERE / "tests/budgets.toml").read_text())
-    return tables.get(os.environ.get("SLH_MODE", "release"), {})
+    return {**tables.get("whole", {}), **tables.get(os.environ.get("SLH_MODE", "release"), {})}
 
 
 def spent_before():

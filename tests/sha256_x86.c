@@ -2,22 +2,18 @@
  * Compares a block of SHA-256 by the proved function of the kit's `sha2` (model_compress) with the same by the SHA
  * instructions of x86-64 (slh_sha256 of c/exports/sha256_x86.c): on random bytes, on words such as 0 and the highest
  * bit, on single bits, on a mixture, and on each input that differs in one bit from zeros or from ones. Hash values and
- * blocks begin at any address. Usage: sha256_x86 TRIES SEED.
+ * blocks begin at any address.
  */
 #include "drawn_words.h"
-
-#include <stdio.h>
-#include <stdlib.h>
-#include <string.h>
 
 void model_compress(uint32_t *state, const uint8_t *block, size_t block_len);
 void slh_sha256(uint32_t *state, const uint8_t *block, size_t block_len);
 
-enum { STATE = 32, BLOCK = 64, INPUT = STATE + BLOCK, KINDS = 4, PLACES = 16 };
-static long passed, failed;
+enum { STATE = 32, BLOCK = 64, INPUT = STATE + BLOCK, PLACES = 16 };
 
 /* Nothing round the hash value is written, and nothing of the block. */
-static void compare(const uint8_t *it, int place) {
+static void compare_all(const uint8_t *it, long number) {
+    size_t place = (size_t)number % PLACES;
     uint32_t model[STATE / 4], room[STATE / 4 + 2] = {0x5a5a5a5a};
     uint8_t bytes[BLOCK + PLACES];
     room[STATE / 4 + 1] = 0x5a5a5a5a;
@@ -32,22 +28,5 @@ static void compare(const uint8_t *it, int place) {
 
 int main(int count, char **words) {
     uint8_t it[INPUT];
-    if (count != 3) return 2;
-    long tries = atol(words[1]);
-    drawn = strtoull(words[2], NULL, 10);
-    for (long i = 0; i < tries; i++) {
-        for (int k = 0; k < INPUT; k += 8) {
-            uint64_t word = word_of_kind((int)(i % KINDS));
-            memcpy(it + k, &word, sizeof word);
-        }
-        compare(it, (int)(i / KINDS % PLACES));
-    }
-    for (int bit = 0; bit < 8 * INPUT; bit++)
-        for (int ones = 0; ones < 2; ones++) {
-            memset(it, ones ? 0xff : 0, sizeof it);
-            it[bit / 8] ^= (uint8_t)(1 << bit % 8);
-            compare(it, bit % PLACES);
-        }
-    printf("%ld passed, %ld failed\n", passed, failed);
-    return failed != 0;
+    return compare_inputs(it, INPUT, count, words);
 }

@@ -1,13 +1,9 @@
 /*
  * Compares four functions of slh_lanes::instructions as they are proved (model_) with what the rules of tools/ make of
  * them (rule_): on random words, on words such as 0 and the highest bit, on single bits, on a mixture, and on each input
- * that differs in one bit from zeros or from ones. Usage: sha_instructions TRIES SEED.
+ * that differs in one bit from zeros or from ones.
  */
 #include "drawn_words.h"
-
-#include <stdio.h>
-#include <stdlib.h>
-#include <string.h>
 
 void model_four_rounds(void *to, const void *state, const void *sums);
 void rule_four_rounds(void *to, const void *state, const void *sums);
@@ -19,14 +15,14 @@ void model_next_pair(void *to, const void *w0, const void *w2, const void *w9, c
 void rule_next_pair(void *to, const void *w0, const void *w2, const void *w9, const void *w14);
 
 /* Bytes of a vector, and of the longest input and result. */
-enum { VECTOR = 16, INPUT = 5 * VECTOR, RESULT = 4 * VECTOR, KINDS = 4 };
-static long passed, failed;
+enum { VECTOR = 16, INPUT = 5 * VECTOR, RESULT = 4 * VECTOR };
 
 static void compare(const unsigned char *model, const unsigned char *rule, size_t len) {
     memcmp(model, rule, len) == 0 ? passed++ : failed++;
 }
 
-static void compare_all(const unsigned char *it) {
+static void compare_all(const uint8_t *it, long number) {
+    (void)number;
     unsigned char model[RESULT], rule[RESULT];
     model_four_rounds(model, it, it + 2 * VECTOR);
     rule_four_rounds(rule, it, it + 2 * VECTOR);
@@ -43,23 +39,6 @@ static void compare_all(const unsigned char *it) {
 }
 
 int main(int count, char **words) {
-    unsigned char it[INPUT];
-    if (count != 3) return 2;
-    long tries = atol(words[1]);
-    drawn = strtoull(words[2], NULL, 10);
-    for (long i = 0; i < tries; i++) {
-        for (int k = 0; k < INPUT; k += 8) {
-            uint64_t word = word_of_kind((int)(i % KINDS));
-            memcpy(it + k, &word, sizeof word);
-        }
-        compare_all(it);
-    }
-    for (int bit = 0; bit < 8 * INPUT; bit++)
-        for (int ones = 0; ones < 2; ones++) {
-            memset(it, ones ? 0xff : 0, sizeof it);
-            it[bit / 8] ^= (unsigned char)(1 << bit % 8);
-            compare_all(it);
-        }
-    printf("%ld passed, %ld failed\n", passed, failed);
-    return failed != 0;
+    uint8_t it[INPUT];
+    return compare_inputs(it, INPUT, count, words);
 }

@@ -32,7 +32,6 @@ def levels_here():
 
 HERE_ARE = levels_here()
 BEST = HERE_ARE[0] if HERE_ARE else "none"
-needs_root = pytest.mark.skipif(os.getuid() != 0, reason="this is not root")
 
 
 def need_level(level):
@@ -317,6 +316,44 @@ def test_program_is_built_if_that_of_the_release_is_damaged(changed):
     done, called = changed.run_with_kit(*PARAMS)
     assert done.status and done.output == b"" and called
     assert b"dist/x86-64-v2/slh is damaged" in done.errors
+
+
+# In place of tools/program.sh: notes its level, and writes a program that prints SLH_CPU and its words.
+BUILDER = """#!/bin/sh
+echo "$1" >>"$HOME/built"
+mkdir -p "${2%/*}" && printf '#!/bin/sh\\necho "$SLH_CPU" "$@"\\n' >"$2" && chmod +x "$2"
+"""
+
+
+class Built:
+    """./slh in a copy with stand-ins of rt and tools/program.sh, which build at once."""
+
+    def __init__(self, copy):
+        self.copy, self.kit = copy, script(copy.work / "kit/rt", "#!/bin/sh\nexit 0\n").parent
+        script(copy.path / "tools/program.sh", BUILDER)
+
+    def built_by(self, level, **variables):
+        """The levels that a run has built. It has to run the program of LEVEL with its words."""
+        note = self.copy.work / "built"
+        note.unlink(missing_ok=True)
+        done = self.copy.run(*PARAMS, path=f"{self.kit}:{WITHOUT_KIT}", **variables)
+        assert (done.status, done.output.decode()) == (0, f"{level} params\n"), done
+        return note.read_text().split() if note.exists() else []
+
+
+@slow
+def test_program_is_built_once(copy):
+    """Of other sources than the release's; for each level that is asked for; and again if a source is newer."""
+    built = Built(copy)
+    assert built.built_by("x86-64-v2") == ["x86-64", "x86-64-v2"]
+    assert built.built_by("x86-64-v2") == built.built_by("x86-64-v2", SLH_BUILD="1", SLH_CPU="") == []
+    assert built.built_by("x86-64-v3", SLH_CPU="x86-64-v3") == ["x86-64", "x86-64-v3"]
+    assert built.built_by("x86-64-v3", SLH_CPU="x86-64-v3") == built.built_by("x86-64-v2") == []
+    for file in ("crates/slh_params/src/lib.rt", "c/exports/sha256_x86.c", "tools/program.sh", "crates.txt"):
+        future = time.time() + 2
+        os.utime(copy.path / file, (future, future))
+        assert built.built_by("x86-64-v2") == ["x86-64", "x86-64-v2"], file
+        os.utime(copy.path / file, (1, 1))
 
 
 def test_links_are_followed(changed):

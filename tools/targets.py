@@ -48,7 +48,6 @@ compiler is told of the machine.
 import os
 import pathlib
 import re
-import shutil
 import subprocess
 import sys
 import tempfile

@@ -15,7 +15,6 @@ import pathlib
 import re
 import subprocess
 import sys
-import tempfile
 
 ZENS = ["znver1", "znver2", "znver3", "znver4"]
 PROCESSORS = ["goldmont", *ZENS, "icelake-server", "alderlake"]
