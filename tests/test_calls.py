@@ -35,6 +35,7 @@ CHANGES = {
     "a mark of JavaScript": ("bindings/javascript/slh.d.ts", "@deprecated", "@remarks", "twice of JavaScript is not"),
     "a mark of Java": ("bindings/java/src/pipitscreen/slh/SlhSignatureSpec.java", "    @Deprecated\n", "",
                        "SlhSignatureSpec.verified of Java is not marked"),
+    "a kept name that is gone": ("bindings/openssl/slh.cnf.in", "twice = 1", "once = 0", "twice of `slh.cnf` is not in"),
     "another page": ("bindings/CALLS.md", "`slh_check`", "`slh_checks`", "is not as it would be written"),
 }
 
@@ -43,9 +44,11 @@ CHANGES = {
 def copy(tmp_path):
     """A copy of the files that the table is made of."""
     for folder in ("c/include", "bindings/rust/slh/src", "bindings/go", "bindings/python/slh", "bindings/javascript",
-                   "bindings/java/src"):
+                   "bindings/java/src", "bindings/openssl"):
         shutil.copytree(HERE / folder, tmp_path / folder)
-    (tmp_path / "tools").mkdir()
+    for folder in ("tools", "crates/slh_tool/src"):
+        (tmp_path / folder).mkdir(parents=True)
+    shutil.copy(HERE / "crates/slh_tool/src/arguments.rt", tmp_path / "crates/slh_tool/src")
     shutil.copy(HERE / "tools/calls.py", tmp_path / "tools")
     shutil.copy(HERE / "bindings/CALLS.md", tmp_path / "bindings")
     return tmp_path

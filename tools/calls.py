@@ -125,6 +125,21 @@ REASONS = {
     ("the context", "C"): "as FIPS 205 names it",
     ("the type of a refusal", "C++"): "thrown for 38 Fault, too, as Rust's `Error`",
 }
+# Names that differ from their siblings and stay: where, the name, its siblings, the reason, the file, and its text there.
+KEPT = [
+    ("C++", "SecretKey::from_bytes", "the constructor of `PublicKey`",
+     "`PublicKey` is of bytes alone; three calls make a `SecretKey`, each with its name", "c/include/slh.hpp",
+     "static SecretKey from_bytes("),
+    ("Python", "secret_from_pem", "JavaScript's `secretKeyFromPem`",
+     "a call of the module `pkix`, which a program writes before it: `pkix.secret_from_pem`", "bindings/python/slh/pkix.py",
+     "def secret_from_pem("),
+    ("the program", "--random", "the packages' `randomizer`",
+     "as the standard names the value: `addrnd`, additional randomness; and scripts write it",
+     "crates/slh_tool/src/arguments.rt", "use --random and"),
+    ("`slh.cnf`", "twice", "the packages' `once`",
+     "a setting has a value that can be read again: services look for `twice=1` in the provider's build info",
+     "bindings/openssl/slh.cnf.in", "twice = 1"),
+]
 # Deprecated names: the language, the name, the name to write instead, the file, and its mark in the language's manner.
 # C++17 has none for a member of an aggregate: compilers would warn of each `Options`.
 DEPRECATED = [
@@ -238,6 +253,12 @@ def unmarked():
             for language, name, _, path, mark in DEPRECATED if not re.search(mark, (ROOT / path).read_text())]
 
 
+def gone():
+    """The kept names that are no longer there."""
+    return [f"{name} of {where} is not in {path}" for where, name, _, _, path, text in KEPT
+            if text not in (ROOT / path).read_text()]
+
+
 def faults():
     """What is wrong with ROWS: words that are not declared, or have no reason, and calls that no row has."""
     calls, words = declared()
@@ -251,7 +272,7 @@ def faults():
     found += [f"{language} has another word for {subject!r}: settle it, or give a reason in REASONS"
               for subject, language in other_words() if (subject, language) not in REASONS]
     found += [f"REASONS has {it}, whose word is no other" for it in sorted(set(REASONS) - set(other_words()))]
-    return found + unmarked()
+    return found + unmarked() + gone()
 
 
 def cell_text(cell):
@@ -284,6 +305,9 @@ def pages_end():
         of_reason[subject, reason].append(language)
     lines += [f"| {subject} | {', '.join(languages)} | {reason} |"
               for (subject, reason), languages in of_reason.items()]
+    lines += ["", "Four names differ from those beside them, and stay:", "", "| where | name | beside it | reason |",
+              "|---|---|---|---|"]
+    lines += [f"| {where} | `{name}` | {sibling} | {reason} |" for where, name, sibling, reason, *_ in KEPT]
     lines += ["", "## Deprecated names", "",
               "They work as before. Two computations are the default, so omit `twice`. Each language marks the names",
               "as deprecated, and a test checks that. C++ marks in a comment: compilers would warn of each `Options`.",
