@@ -52,8 +52,8 @@ int main(void) {
 }
 """
 # The commands that the scripts use, besides the tools that a test removes or replaces.
-TOOLS = ["bash", "basename", "cat", "cp", "dirname", "env", "grep", "head", "install", "ld", "ln", "mkdir", "mktemp",
-         "python3", "rm", "sed", "sort", "tr", "uname"]
+TOOLS = ["awk", "bash", "basename", "cat", "cp", "cut", "dirname", "env", "grep", "head", "install", "ld", "ln", "mkdir",
+         "mktemp", "python3", "rm", "sed", "sort", "tr", "uname"]
 
 
 def need_rust():
@@ -266,6 +266,9 @@ def stub(folder, name, text):
     (folder / name).chmod(0o755)
 
 
+NEEDED = "1.85 or later is needed (Debian 13 has it in the package {}; elsewhere rustup installs it)"
+
+
 def is_refused(outcome, words, prefix):
     """The command names what is missing, and installs nothing."""
     assert outcome.status == 2 and words in outcome.errors.decode(), text_of(outcome)[-4000:]
@@ -275,16 +278,17 @@ def is_refused(outcome, words, prefix):
 
 def test_without_cargo(path, tmp_path):
     outcome = installs(tmp_path / "prefix", env={"PATH": str(path)})
-    assert is_refused(outcome, "there is no cargo (Debian has it in the package cargo)", tmp_path / "prefix")
+    assert is_refused(outcome, f"there is no cargo: {NEEDED.format('cargo')}", tmp_path / "prefix")
 
 
 @pytest.mark.parametrize("version", ["1.84.1 (e71f9a9a9 2025-01-27)", "1.63.0"])
-def test_old_rustc(path, tmp_path, version):
-    for name in ("cargo", "rustfmt"):
-        stub(path, name, "exit 1")
-    stub(path, "rustc", f"echo 'rustc {version}'")
+@pytest.mark.parametrize("tool", ["cargo", "rustc"])
+def test_old_rust(path, tmp_path, tool, version):
+    for name in ("cargo", "rustc"):
+        stub(path, name, f"echo '{name} {version if name == tool else '1.85.0'}'")
     outcome = installs(tmp_path / "prefix", env={"PATH": str(path)})
-    assert is_refused(outcome, "rustc is older than 1.85", tmp_path / "prefix")
+    said = f"tools/from_source.sh: {tool} {version.split()[0]} is too old: {NEEDED.format(tool)}\n"
+    assert is_refused(outcome, said, tmp_path / "prefix") and outcome.errors.decode() == said
 
 
 def test_target_without_a_library(tmp_path):

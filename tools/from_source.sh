@@ -42,11 +42,18 @@ refuse() {
 # Refuses without a command: COMMAND PACKAGE.
 need() { command -v "$1" >/dev/null || refuse "there is no $1 (Debian has it in the package $2)"; }
 
-# Whether rustc is 1.MINOR or later.
-has_rustc() {
+# Whether cargo or rustc is 1.MINOR or later: COMMAND MINOR.
+is_since() {
     local major minor
-    IFS=' .' read -r _ major minor _ < <(rustc --version)
-    [ "$major" -gt 1 ] || [ "$minor" -ge "$1" ]
+    IFS=' .' read -r _ major minor _ < <("$1" --version)
+    [ "$major" -gt 1 ] || [ "$minor" -ge "$2" ]
+}
+
+# Refuses without a cargo or rustc that is new enough: COMMAND.
+need_new() {
+    local how="1.85 or later is needed (Debian 13 has it in the package $1; elsewhere rustup installs it)"
+    command -v "$1" >/dev/null || refuse "there is no $1: $how"
+    is_since "$1" 85 || refuse "$("$1" --version | cut -d ' ' -f 1,2) is too old: $how"
 }
 
 # The C compiler for the target: on Debian that for aarch64-unknown-linux-gnu is aarch64-linux-gnu-gcc.
@@ -66,7 +73,7 @@ compiler() {
 level() {
     local loader=/lib64/ld-linux-x86-64.so.2 known=23
     [ -z "$triple" ] && [ -x $loader ] || return 0
-    ! has_rustc 89 || known=234
+    ! is_since rustc 89 || known=234
     $loader --help | sed -n "s/^ *\(x86-64-v[$known]\) (supported.*/-C target-cpu=\1/p" | sort -r | head -n 1
 }
 
@@ -103,11 +110,10 @@ archive() {
     "$("$cc" -print-prog-name=ar)" rcsD "$folder/$1.a" "$work/$1.o"
 }
 
-need cargo cargo
-need rustc rustc
+need_new cargo
+need_new rustc
 need python3 python3
 need rustfmt rustfmt
-has_rustc 85 || refuse "rustc is older than 1.85 (Debian 13 has it in the package rustc)"
 cc=$(compiler)
 need "$cc" gcc
 words=()
