@@ -52,8 +52,8 @@ int main(void) {
 }
 """
 # The commands that the scripts use, besides the tools that a test removes or replaces.
-TOOLS = ["awk", "bash", "basename", "cat", "cp", "cut", "dirname", "env", "grep", "head", "install", "ld", "ln", "mkdir",
-         "mktemp", "python3", "rm", "sed", "sort", "tr", "uname"]
+TOOLS = ["awk", "bash", "basename", "cat", "cp", "cut", "dirname", "env", "grep", "head", "install", "ld", "ln",
+         "mkdir", "mktemp", "python3", "rm", "sed", "sort", "tr", "uname"]
 
 
 def need_rust():
