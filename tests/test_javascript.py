@@ -64,9 +64,10 @@ def outcome_of(node, program, **options):
     return run(node, "--no-warnings", program, **options)
 
 
-def test_package_passes_its_tests(node, module):
+@pytest.mark.parametrize("file", sorted(it.name for it in (PACKAGE / "tests").glob("*.test.js")))
+def test_package_passes_its_tests(node, module, file):
     """The lines of its README are among them."""
-    outcome = run(node, "--test", "--test-reporter=tap", PACKAGE / "tests", timeout=1800,
+    outcome = run(node, "--test", "--test-reporter=tap", PACKAGE / "tests" / file, timeout=1800,
                   env={**os.environ, "SLH_WASM": str(module)})
     count_tests(outcome, r"^# pass (\d+)$")
 

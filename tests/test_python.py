@@ -228,9 +228,11 @@ def test_pip_installs_it_without_a_network(apart, bare, copied, installed):
 # ---- the installed package
 
 
-def test_package_passes_its_tests(python):
+@pytest.mark.parametrize("file", sorted(it.name for it in (HERE / "bindings/python/tests").glob("test_*.py")))
+def test_package_passes_its_tests(python, file):
     """The lines of its README are among them."""
-    outcome = run(python, "-m", "unittest", "discover", "-s", HERE / "bindings/python/tests", env=ENV, timeout=1800)
+    words = ["discover", "-s", HERE / "bindings/python/tests", "-p", file]
+    outcome = run(python, "-m", "unittest", *words, env=ENV, timeout=1800)
     count_tests(outcome, r"^Ran (\d+) tests? in ")
 
 
