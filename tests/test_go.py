@@ -1,14 +1,17 @@
 """Builds and uses the package for Go, over the library as it is installed: its own tests by `go test`, a program of a
 user, what it leaves in memory, and a library that fails its self-test. No network is used."""
 import os
+import re
 import shutil
 
 import pytest
 
-from packages import GO_MODULE, check_memory, refuses_to_build, says_best_level, write_another_library
+from packages import GO_MODULE, check_memory, refuses_to_build, says_best_level, text_of, write_another_library
 from support import HERE, need, run, succeed
 
 PACKAGE = HERE / "bindings/go"
+OWN_TESTS = sorted(it for file in PACKAGE.glob("*_test.go")
+                   for it in re.findall(r"^func (Test\w+|Example\w*|Fuzz\w+)\(", file.read_text(), re.M))
 LEVEL = f"""package main
 
 // #cgo LDFLAGS: -l:libslh.a
@@ -79,12 +82,27 @@ def test_vet(env):
     succeed("go", "vet", "./...", cwd=PACKAGE, env=env)
 
 
-def test_package_passes_its_tests(env):
+@pytest.fixture(scope="module")
+def own_tests(env, tmp_path_factory):
+    """The program of the package's own tests."""
+    program = tmp_path_factory.mktemp("own") / "tests"
+    succeed("go", "test", "-c", "-o", program, ".", cwd=PACKAGE, env=env)
+    return program
+
+
+@pytest.mark.parametrize("name", OWN_TESTS)
+def test_package_passes_its_tests(own_tests, env, name):
     """The lines of its README are among them."""
-    outcome = run("go", "test", "-count=1", "-v", "./...", cwd=PACKAGE, env=env, timeout=1800)
-    lines = outcome.output.decode(errors="replace").splitlines()
-    assert outcome.status == 0, "\n".join(lines[-80:]) + outcome.errors.decode(errors="replace")
-    assert [it for it in lines if it.startswith("--- PASS: ")], "it ran no test"
+    outcome = run(own_tests, "-test.v", f"-test.run=^{name}$", cwd=PACKAGE, env=env, timeout=1800)
+    said = text_of(outcome)
+    assert outcome.status == 0 and re.search(f"^--- (PASS|SKIP): {name} ", said, re.M), said[-6000:]
+    if skipped := re.search(f"(.*)\n--- SKIP: {name} ", said):
+        pytest.skip(skipped[1].strip())
+
+
+def test_each_own_test_has_a_name(own_tests, env):
+    listed = succeed(own_tests, "-test.list=.", cwd=PACKAGE, env=env).decode().split()
+    assert sorted(listed) == OWN_TESTS
 
 
 # ---- a program of a user
