@@ -43,6 +43,7 @@ has_plain_list() {
 # Whether these files of dist/ have the hashes that SHA256SUMS lists. The first that has not is told.
 are_whole() {
     local file sum sums name=${dist#"$here/"}
+    local -x LC_ALL=C # grep takes ten times as long by UTF-8
     has_plain_list || return 1
     sums=$'\n'$(<"$dist/SHA256SUMS")$'\n'
     for file in "$@"; do
