@@ -2,3 +2,8 @@ pub mod LineFeeds
 pub mod Decoding
 pub mod Front
 pub mod Reading
+pub mod Forms
+pub mod Characters
+pub mod Groups
+pub mod Cutting
+pub mod Padding

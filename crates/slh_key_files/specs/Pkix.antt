@@ -58,6 +58,11 @@ pem_len Secret p = 54 + lines_len (der_len Secret p)
 
 -- ---- what is read
 
+-- the key of a kind
+abbrev pub any_key : KeyKind → Key → AnyKey
+any_key Public key = any.Public key
+any_key Secret key = any.Secret key
+
 -- a file in which a key of one of the standard's sets stands as a form of keys writes it
 pub record IsWritten (form : KeyKind → Key → Text) (kind : KeyKind) (file : Text) (key : Key) : Type 0 where
   pub standard : IsStandard key.set

@@ -1,6 +1,6 @@
 //! Base64 (RFC 4648, section 4) of bytes that may be a secret key's. So its characters are read and written by sums and
 //! comparisons, and no `match` and no table takes one.
-ghost use Rattle.std.specs.Prelude.{◌≡◌, ◌+◌, ◌*◌, ◌/◌, ◌%◌, ◌<◌, ◌≤◌, ◌++◌, ℕ, List, length, slice_index};
+ghost use Rattle.std.specs.Prelude.{◌≡◌, ◌+◌, ◌*◌, ◌/◌, ◌%◌, ◌<◌, ◌≤◌, ◌-◌, ◌++◌, ℕ, List, length, replicate, slice_index, take};
 ghost use Rattle.hex.specs.Hex.{IsBytes};
 ghost use Rattle.base64.specs.Rfc4648.{encode_symbols};
 ghost use Rattle.slh_key_files.specs.Lines.{line};
@@ -88,6 +88,25 @@ fn take_lines(text: &[u8], chars: &mut [u8])
     }
 }
 
+/// Writes bytes, and zeros from there to the end.
+fn put_zeros_after(bytes: &[u8], out: &mut [u8])
+    requires { length bytes.now ≤ length out.old }
+    ensures { out.new ≡ bytes.now ++ replicate (length out.old - length bytes.now) 0 }
+{
+    let (front, rest) = out.split_at_mut(bytes.len());
+    front.copy_from_slice(bytes);
+    rest.fill(0);
+}
+
+/// Writes a character from a place to the end.
+fn end_with(char: u8, from: usize, chars: &mut [u8])
+    requires { from ≤ length chars.old }
+    ensures { chars.new ≡ take from chars.old ++ replicate (length chars.old - from) char }
+{
+    let (_, rest) = chars.split_at_mut(from);
+    rest.fill(char);
+}
+
 /// Writes the base64 of bytes, in lines.
 pub(crate) fn put_base64(bytes: &[u8], text: &mut [u8])
     requires few { length bytes.now ≤ 150 }
@@ -95,12 +114,13 @@ pub(crate) fn put_base64(bytes: &[u8], text: &mut [u8])
     ensures { text.new ≡ base64_lines bytes.now }
 {
     let groups = (bytes.len() + 2) / 3;
-    let mut whole = [0; 150];
-    whole[..bytes.len()].copy_from_slice(bytes);
+    let mut whole_buffer = [0; 150];
+    let whole = &mut whole_buffer[..3 * groups];
+    put_zeros_after(bytes, whole);
     let mut buffer = [0; 200];
     let chars = &mut buffer[..4 * groups];
-    encode_groups(&whole[..3 * groups], chars);
-    chars[groups + bytes.len()..].fill(b'=');
+    encode_groups(whole, chars);
+    end_with(b'=', groups + bytes.len(), chars);
     put_lines(chars, text);
 }
 
@@ -114,8 +134,9 @@ pub(crate) fn get_base64(text: &[u8], bytes: &mut [u8])
     let mut buffer = [0; 200];
     let chars = &mut buffer[..4 * groups];
     take_lines(text, chars);
-    chars[groups + bytes.len()..].fill(b'A');
-    let mut whole = [0; 150];
-    decode_groups(chars, &mut whole[..3 * groups]);
+    end_with(b'A', groups + bytes.len(), chars);
+    let mut whole_buffer = [0; 150];
+    let whole = &mut whole_buffer[..3 * groups];
+    decode_groups(chars, whole);
     bytes.copy_from_slice(&whole[..bytes.len()]);
 }

@@ -1,13 +1,15 @@
 //! Keys as other programs read them: SubjectPublicKeyInfo and PKCS#8, in DER and PEM (docs/FORMATS.md, "DER and PEM").
-ghost use Rattle.std.specs.Prelude.{◌≡◌, ◌↔◌, ◌+◌, ◌≤◌, ◌++◌, ◌⊎◌, true, length, IsTrue, IfSome, Some};
+ghost use Rattle.std.specs.Prelude.{◌≡◌, ◌↔◌, ◌+◌, ◌≤◌, ◌++◌, ◌⊎◌, ◌==◌, ◌<◌, if◌then◌else◌, true, length, slice_index, IsTrue, IfSome, IsSomeAnd, Some, None};
 ghost use Rattle.slh_core.specs.Keys.{Key};
 ghost use Rattle.slh_params.specs.ParamSet.{IsStandard, is_standard, params};
 ghost use Rattle.slh_key_files.specs.Base64Lines.{lines_len};
 ghost use Rattle.slh_key_files.specs.KeyFile.{IsKey, key_len};
 ghost use Rattle.slh_key_files.specs.Lines.{Text, line};
-ghost use Rattle.slh_key_files.specs.Pkix.{IsDer, IsPem, arc, der_len, first_line, key_der, key_pem, last_line, pem_len};
+ghost use Rattle.slh_key_files.specs.Pkix.{IsDer, IsPem, any_key, arc, der_len, first_line, key_der, key_pem, last_line, pem_len};
 ghost use Rattle.slh_key_files.specs.declared.key_file.AnyKey.{AnyKey};
 ghost use Rattle.slh_key_files.specs.declared.key_kind.KeyKind.{KeyKind};
+ghost use Rattle.slh_key_files.specs.declared.key_kind.KeyKind.TheVariants.{Public, Secret};
+ghost use Rattle.slh_params.specs.declared.param_set.ParamSet.{ParamSet};
 
 use super::base64_lines::{get_base64, put_base64};
 use super::key_file::AnyKey;
@@ -35,6 +37,7 @@ pub fn der_len(kind: KeyKind, set: ParamSet) -> usize
 /// What stands before the bytes of a public key.
 fn public_prefix(set: ParamSet) -> &'static [u8]
     requires { is_standard set ≡ true }
+    ensures { (key : Key) → key.set ≡ set → length key.bytes ≡ key_len Public (params set) → key_der Public key ≡ result.now ++ key.bytes }
 {
     match set.name() {
         "SLH-DSA-SHA2-128s" => b"\x30\x30\x30\x0b\x06\x09\x60\x86\x48\x01\x65\x03\x04\x03\x14\x03\x21\x00",
@@ -49,6 +52,7 @@ fn public_prefix(set: ParamSet) -> &'static [u8]
 /// What stands before the bytes of a secret key.
 fn secret_prefix(set: ParamSet) -> &'static [u8]
     requires { is_standard set ≡ true }
+    ensures { (key : Key) → key.set ≡ set → length key.bytes ≡ key_len Secret (params set) → key_der Secret key ≡ result.now ++ key.bytes }
 {
     match set.name() {
         "SLH-DSA-SHA2-128s" => b"\x30\x52\x02\x01\x00\x30\x0b\x06\x09\x60\x86\x48\x01\x65\x03\x04\x03\x14\x04\x40",
@@ -88,7 +92,10 @@ pub fn put_der(kind: KeyKind, set: ParamSet, key: &[u8], der: &mut [u8])
 
 /// The kind of a key that has so many bytes in DER, and the place there of the last number of its set's identifier.
 fn form_of(len: usize) -> Option<(KeyKind, usize)>
-    ensures place { IfSome result (λ it. it.1 + 1 ≤ len) }
+    ensures place { IfSome result (λ it. it.1 < len) }
+    ensures found { (kind : KeyKind) (set : ParamSet) → IsStandard set → len ≡ der_len kind (params set)
+        → IsSomeAnd result (λ it. (it.0 ≡ kind) × ((bytes : Text) → length bytes ≡ key_len kind (params set)
+        → slice_index (key_der kind (record { set = set; bytes = bytes })) it.1 ≡ arc set)) }
 {
     match len {
         50 | 66 | 82 => Some((KeyKind::Public, 14)),
@@ -116,6 +123,7 @@ fn set_of_arc(number: u8) -> Option<ParamSet>
 
 /// The key of a kind and a set that has these bytes.
 fn key_of(kind: KeyKind, set: ParamSet, bytes: &[u8]) -> Option<AnyKey>
+    ensures { result ≡ (if length bytes.now == key_len kind (params set) then Some (any_key kind (record { set = set; bytes = bytes.now })) else None) }
 {
     match kind {
         KeyKind::Public => Some(AnyKey::Public(PublicKey::from_bytes(set, bytes).ok()?)),
