@@ -7,3 +7,5 @@ pub mod Characters
 pub mod Groups
 pub mod Cutting
 pub mod Padding
+pub mod DerReading
+pub mod PemReading

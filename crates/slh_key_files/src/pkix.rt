@@ -1,15 +1,12 @@
 //! Keys as other programs read them: SubjectPublicKeyInfo and PKCS#8, in DER and PEM (docs/FORMATS.md, "DER and PEM").
-ghost use Rattle.std.specs.Prelude.{◌≡◌, ◌↔◌, ◌+◌, ◌≤◌, ◌++◌, ◌⊎◌, ◌==◌, ◌<◌, if◌then◌else◌, true, length, slice_index, IsTrue, IfSome, IsSomeAnd, Some, None};
-ghost use Rattle.slh_core.specs.Keys.{Key};
+ghost use Rattle.std.specs.Prelude.{◌≡◌, ◌↔◌, ◌+◌, ◌/◌, ◌≤◌, ◌<◌, ◌⊎◌, true, length, IsTrue, IfSome, Some};
 ghost use Rattle.slh_params.specs.ParamSet.{IsStandard, is_standard, params};
-ghost use Rattle.slh_key_files.specs.Base64Lines.{lines_len};
-ghost use Rattle.slh_key_files.specs.KeyFile.{IsKey, key_len};
-ghost use Rattle.slh_key_files.specs.Lines.{Text, line};
-ghost use Rattle.slh_key_files.specs.Pkix.{IsDer, IsPem, any_key, arc, der_len, first_line, key_der, key_pem, last_line, pem_len};
+ghost use Rattle.slh_key_files.specs.Base64Lines.{chars_len};
+ghost use Rattle.slh_key_files.specs.KeyFile.{key_len};
+ghost use Rattle.slh_key_files.specs.Lines.{line};
+ghost use Rattle.slh_key_files.specs.Pkix.{IsDer, IsPem, any_pem, der_form, der_key, der_len, first_line, key_after, key_der, key_front, key_of, key_pem, last_line, pem_form, pem_len, set_of, set_of_arc};
 ghost use Rattle.slh_key_files.specs.declared.key_file.AnyKey.{AnyKey};
-ghost use Rattle.slh_key_files.specs.declared.key_kind.KeyKind.{KeyKind};
 ghost use Rattle.slh_key_files.specs.declared.key_kind.KeyKind.TheVariants.{Public, Secret};
-ghost use Rattle.slh_params.specs.declared.param_set.ParamSet.{ParamSet};
 
 use super::base64_lines::{get_base64, put_base64};
 use super::key_file::AnyKey;
@@ -18,18 +15,16 @@ use slh_core::{PublicKey, SecretKey};
 use slh_params::ParamSet;
 
 /// The length of a key in DER.
+#[tactic(auto, using(slh_params::proofs::Bounds::n_high))]
 pub fn der_len(kind: KeyKind, set: ParamSet) -> usize
-    ensures { result ≡ der_len kind (params set) }
+    ensures len { result ≡ der_len kind (params set) }
+    ensures most { result ≤ 150 }
 {
-    let len = kind.key_len(set);
     match kind {
-        KeyKind::Public => 18 + len,
+        KeyKind::Public => 18 + set.pk_len(),
         KeyKind::Secret => {
-            if len < 128 {
-                20 + len
-            } else {
-                22 + len
-            }
+            let len = set.sk_len();
+            if len < 128 { 20 + len } else { 22 + len }
         }
     }
 }
@@ -37,7 +32,7 @@ pub fn der_len(kind: KeyKind, set: ParamSet) -> usize
 /// What stands before the bytes of a public key.
 fn public_prefix(set: ParamSet) -> &'static [u8]
     requires { is_standard set ≡ true }
-    ensures { (key : Key) → key.set ≡ set → length key.bytes ≡ key_len Public (params set) → key_der Public key ≡ result.now ++ key.bytes }
+    ensures { result.now ≡ key_front Public set }
 {
     match set.name() {
         "SLH-DSA-SHA2-128s" => b"\x30\x30\x30\x0b\x06\x09\x60\x86\x48\x01\x65\x03\x04\x03\x14\x03\x21\x00",
@@ -52,7 +47,7 @@ fn public_prefix(set: ParamSet) -> &'static [u8]
 /// What stands before the bytes of a secret key.
 fn secret_prefix(set: ParamSet) -> &'static [u8]
     requires { is_standard set ≡ true }
-    ensures { (key : Key) → key.set ≡ set → length key.bytes ≡ key_len Secret (params set) → key_der Secret key ≡ result.now ++ key.bytes }
+    ensures { result.now ≡ key_front Secret set }
 {
     match set.name() {
         "SLH-DSA-SHA2-128s" => b"\x30\x52\x02\x01\x00\x30\x0b\x06\x09\x60\x86\x48\x01\x65\x03\x04\x03\x14\x04\x40",
@@ -69,7 +64,7 @@ fn secret_prefix(set: ParamSet) -> &'static [u8]
 /// What stands before the bytes of a key in DER.
 fn prefix(kind: KeyKind, set: ParamSet) -> &'static [u8]
     requires { is_standard set ≡ true }
-    ensures { (key : Key) → key.set ≡ set → length key.bytes ≡ key_len kind (params set) → key_der kind key ≡ result.now ++ key.bytes }
+    ensures { result.now ≡ key_front kind set }
 {
     match kind {
         KeyKind::Public => public_prefix(set),
@@ -92,10 +87,8 @@ pub fn put_der(kind: KeyKind, set: ParamSet, key: &[u8], der: &mut [u8])
 
 /// The kind of a key that has so many bytes in DER, and the place there of the last number of its set's identifier.
 fn form_of(len: usize) -> Option<(KeyKind, usize)>
+    ensures form { result ≡ der_form len }
     ensures place { IfSome result (λ it. it.1 < len) }
-    ensures found { (kind : KeyKind) (set : ParamSet) → IsStandard set → len ≡ der_len kind (params set)
-        → IsSomeAnd result (λ it. (it.0 ≡ kind) × ((bytes : Text) → length bytes ≡ key_len kind (params set)
-        → slice_index (key_der kind (record { set = set; bytes = bytes })) it.1 ≡ arc set)) }
 {
     match len {
         50 | 66 | 82 => Some((KeyKind::Public, 14)),
@@ -106,9 +99,10 @@ fn form_of(len: usize) -> Option<(KeyKind, usize)>
 }
 
 /// The set whose identifier ends with this number.
+#[tactic(auto, unfolding(crate::specs::Pkix::set_of_arc, slh_params::specs::ParamSet::is, slh_params::specs::ParamSet::is_standard))]
 fn set_of_arc(number: u8) -> Option<ParamSet>
+    ensures set { result ≡ set_of_arc number }
     ensures standard { IfSome result IsStandard }
-    ensures found { (set : ParamSet) → IsStandard set → number ≡ arc set → result ≡ Some set }
 {
     match number {
         20 => Some(ParamSet::S128s),
@@ -123,7 +117,7 @@ fn set_of_arc(number: u8) -> Option<ParamSet>
 
 /// The key of a kind and a set that has these bytes.
 fn key_of(kind: KeyKind, set: ParamSet, bytes: &[u8]) -> Option<AnyKey>
-    ensures { result ≡ (if length bytes.now == key_len kind (params set) then Some (any_key kind (record { set = set; bytes = bytes.now })) else None) }
+    ensures { result ≡ key_of kind set bytes.now }
 {
     match kind {
         KeyKind::Public => Some(AnyKey::Public(PublicKey::from_bytes(set, bytes).ok()?)),
@@ -131,14 +125,27 @@ fn key_of(kind: KeyKind, set: ParamSet, bytes: &[u8]) -> Option<AnyKey>
     }
 }
 
+/// The key of a kind and a set whose file in DER this is.
+fn key_after(kind: KeyKind, set: ParamSet, der: &[u8]) -> Option<AnyKey>
+    requires { is_standard set ≡ true }
+    ensures { result ≡ key_after kind set der.now }
+{
+    let prefix = prefix(kind, set);
+    if der.len() < prefix.len() {
+        return None;
+    }
+    let (front, bytes) = der.split_at(prefix.len());
+    if front == prefix { key_of(kind, set, bytes) } else { None }
+}
+
 /// The key that a file in DER has. `None` for each other file: a key has one form.
 pub fn read_der(der: &[u8]) -> Option<AnyKey>
-    ensures { (key : AnyKey) → (result ≡ Some key) ↔ IsDer der.now key }
+    ensures key { result ≡ der_key der.now }
+    ensures accepted { (key : AnyKey) → (result ≡ Some key) ↔ IsDer der.now key }
 {
     let (kind, place) = form_of(der.len())?;
     let set = set_of_arc(der[place])?;
-    let bytes = der.strip_prefix(prefix(kind, set))?;
-    key_of(kind, set, bytes)
+    key_after(kind, set, der)
 }
 
 /// The first line of a key in PEM.
@@ -163,7 +170,8 @@ fn last_line(kind: KeyKind) -> &'static [u8]
 
 /// The length of a key in PEM.
 pub fn pem_len(kind: KeyKind, set: ParamSet) -> usize
-    ensures { result ≡ pem_len kind (params set) }
+    ensures len { result ≡ pem_len kind (params set) }
+    ensures most { result ≤ 258 }
 {
     let chars = (der_len(kind, set) + 2) / 3 * 4;
     first_line(kind).len() + chars + (chars + 63) / 64 + last_line(kind).len()
@@ -188,7 +196,8 @@ pub fn put_pem(kind: KeyKind, set: ParamSet, key: &[u8], pem: &mut [u8])
 
 /// For the length of a file in PEM, those of its first line and of its key in DER.
 fn parts_of(len: usize) -> Option<(usize, usize)>
-    ensures fits { IfSome result (λ it. (it.1 ≤ 150) × (it.0 + lines_len it.1 ≤ len)) }
+    ensures form { result ≡ pem_form len }
+    ensures fits { IfSome result (λ it. (it.1 ≤ 150) × (it.0 + chars_len it.1 + chars_len it.1 / 64 ≤ len)) }
 {
     match len {
         121 | 122 => Some((27, 50)),
@@ -232,6 +241,17 @@ fn is_pem(file: &[u8], kind: KeyKind, set: ParamSet, key: &[u8]) -> bool
     }
 }
 
+/// The same of a key of either kind.
+fn is_pem_of(file: &[u8], key: &AnyKey) -> bool
+    requires { is_standard (set_of key.now) ≡ true }
+    ensures { IsTrue result ↔ ((file.now ≡ any_pem key.now) ⊎ (line file.now ≡ any_pem key.now)) }
+{
+    match key {
+        AnyKey::Public(it) => is_pem(file, KeyKind::Public, it.set(), it.bytes()),
+        AnyKey::Secret(it) => is_pem(file, KeyKind::Secret, it.set(), it.bytes()),
+    }
+}
+
 /// The key that a file in PEM has. `None` for each other file: a key has one form, but for its last line feed.
 pub fn read_pem(pem: &[u8]) -> Option<AnyKey>
     ensures { (key : AnyKey) → (result ≡ Some key) ↔ IsPem pem.now key }
@@ -241,9 +261,5 @@ pub fn read_pem(pem: &[u8]) -> Option<AnyKey>
     let der = &mut buffer[..len];
     get_base64(&pem[first..], der);
     let key = read_der(der)?;
-    let is_same = match &key {
-        AnyKey::Public(it) => is_pem(pem, KeyKind::Public, it.set(), it.bytes()),
-        AnyKey::Secret(it) => is_pem(pem, KeyKind::Secret, it.set(), it.bytes()),
-    };
-    if is_same { Some(key) } else { None }
+    if is_pem_of(pem, &key) { Some(key) } else { None }
 }

@@ -1,4 +1,4 @@
-use Rattle.std.proofs.Common.{arith, ◌≡◌, ◌∙◌, length, slice_set, length-set}
+use Rattle.std.proofs.Common.{arith, ◌≡◌, ◌∙◌, length, length-set}
 use Rattle.slh_key_files.proofs.Groups.{decode_step}
 use Rattle.slh_key_files.proofs.base64_lines.decode_groups.Goals as goal
 

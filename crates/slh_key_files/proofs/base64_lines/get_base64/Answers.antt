@@ -1,4 +1,4 @@
-use Rattle.std.proofs.Common.{◌≡◌, ℕ, List, ◌+◌, ◌-◌, ◌*◌, ◌/◌, ◌%◌, ◌++◌, arith, rules, ap, length, length-append, length-take-le, take, replicate, ◌∙◌, sym}
+use Rattle.std.proofs.Common.{◌≡◌, ℕ, List, ◌+◌, ◌-◌, ◌*◌, ◌/◌, ◌++◌, arith, rules, ap, length, length-append, length-take-le, take, replicate, ◌∙◌, sym}
 use Rattle.std.proofs.lemmas.List.{length-replicate, take_at}
 use Rattle.base64.specs.Rfc4648.{padding_len}
 use Rattle.slh_key_files.proofs.Groups.{zeros_are_bytes}

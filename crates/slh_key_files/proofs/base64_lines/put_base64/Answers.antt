@@ -1,5 +1,4 @@
-use Rattle.std.proofs.Common.{◌≡◌, ℕ, ◌+◌, ◌-◌, ◌*◌, ◌/◌, ◌++◌, arith, rules, ap, length, length-take-le, take, replicate, ◌∙◌, sym}
-use Rattle.std.proofs.lemmas.Grind.{common_steps}
+use Rattle.std.proofs.Common.{◌≡◌, ℕ, ◌+◌, ◌-◌, ◌*◌, ◌/◌, ◌++◌, arith, ap, length, length-take-le, replicate, ◌∙◌, sym}
 use Rattle.slh_key_files.proofs.Padding.{put_is}
 use Rattle.slh_key_files.proofs.base64_lines.put_base64.Goals as goal
 

@@ -1,4 +1,4 @@
-use Rattle.std.proofs.Common.{◌≡◌, ap, ◌∙◌}
+use Rattle.std.proofs.Common.{ap, ◌∙◌}
 use Rattle.slh_key_files.proofs.Characters.{value_by_sums, value_is}
 use Rattle.slh_key_files.proofs.base64_lines.value_of.Goals as goal
 
