@@ -42,13 +42,15 @@ module _ (IsForm : List ℕ → AnyKey → Type 0) (standard : (file : List ℕ)
   same key w = some_key it key ((accepted key).1 w)
 
   pub readable : (answer : ℕ) → answer ≡ read_answer (Ok it) room → (answer ≡ 0) ↔ IsReadable IsForm file room
-  readable answer e =
-      (λ h. record {
-        key = it;
-        is_file = (accepted it).0 refl;
-        fits = leb-true (length (key_of it).bytes) room (has_room (is_standard (key_of it).set) (nat_le (length (key_of it).bytes) room) (sym e ∙ h));
-      }, λ r. e ∙ both (is_standard (key_of it).set) (nat_le (length (key_of it).bytes) room) (standard file it ((accepted it).0 refl))
-      (le-leb (length (key_of it).bytes) room (subst (λ (k : AnyKey). length (key_of k).bytes ≤ room) (sym (same r.key r.is_file)) r.fits)))
+  readable answer e = (
+    λ h. record {
+      key = it;
+      is_file = (accepted it).0 refl;
+      fits = leb-true (length (key_of it).bytes) room (has_room (is_standard (key_of it).set) (nat_le (length (key_of it).bytes) room) (sym e ∙ h));
+    },
+    λ r. e ∙ both (is_standard (key_of it).set) (nat_le (length (key_of it).bytes) room) (standard file it ((accepted it).0 refl))
+        (le-leb (length (key_of it).bytes) room (subst (λ (k : AnyKey). length (key_of k).bytes ≤ room) (sym (same r.key r.is_file)) r.fits)),
+  )
 
   pub not_none : ((key : AnyKey) → IsForm file key → ⊥) → ⊥
   not_none none = none it ((accepted it).0 refl)

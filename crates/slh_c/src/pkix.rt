@@ -54,7 +54,13 @@ pub extern "C" fn slh_pem_read(pem: &[u8], set: &mut u32, kind: &mut u32, key: &
 /// not a set's or a kind's, a key of another length, no room.
 #[tactic(auto, using(crate::proofs::Standard::key_len_high, crate::proofs::Standard::numbered_standard))]
 #[unsafe(no_mangle)]
-pub extern "C" fn slh_der_write(set: u32, kind: u32, of: &[u8], written: &mut u32, der: &mut [u8]) -> u32
+pub extern "C" fn slh_der_write(
+    set: u32,
+    kind: u32,
+    of: &[u8],
+    written: &mut u32,
+    der: &mut [u8],
+) -> u32
     ensures answer { result ≡ first_refusal (der_write_rules set kind of.now der.old) }
     ensures file { result ≡ DONE → InSet set (λ s. IsSomeAnd (kind_numbered kind) (λ k.
         (written.new ≡ length (key_der k (key s of.now))) × (der.new ≡ in_room (key_der k (key s of.now)) (length der.old)))) }
@@ -83,7 +89,13 @@ pub extern "C" fn slh_der_write(set: u32, kind: u32, of: &[u8], written: &mut u3
 /// `slh_der_write`, by `pem_write_rules`.
 #[tactic(auto, using(crate::proofs::Standard::key_len_high, crate::proofs::Standard::numbered_standard))]
 #[unsafe(no_mangle)]
-pub extern "C" fn slh_pem_write(set: u32, kind: u32, of: &[u8], written: &mut u32, pem: &mut [u8]) -> u32
+pub extern "C" fn slh_pem_write(
+    set: u32,
+    kind: u32,
+    of: &[u8],
+    written: &mut u32,
+    pem: &mut [u8],
+) -> u32
     ensures answer { result ≡ first_refusal (pem_write_rules set kind of.now pem.old) }
     ensures file { result ≡ DONE → InSet set (λ s. IsSomeAnd (kind_numbered kind) (λ k.
         (written.new ≡ length (key_pem k (key s of.now))) × (pem.new ≡ in_room (key_pem k (key s of.now)) (length pem.old)))) }

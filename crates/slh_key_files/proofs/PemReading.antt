@@ -105,18 +105,26 @@ parts_whole : (kind : KeyKind) (file : Text) (key : Key) → IsWritten key_pem k
 parts_whole kind file key w =
     let len : length file ≡ pem_len kind (params key.set) = ap (λ (t : Text). length t) w.is_file ∙ length-key_pem kind key w.standard w.is_key.sized in
     let is : file ≡ first_line kind ++ (base64_lines (key_der kind key) ++ last_line kind) =
-    w.is_file ∙ append_assoc (first_line kind) (base64_lines (key_der kind key)) (last_line kind) in
-    (ap pem_form len ∙ (pem_form_is kind key.set w.standard).0, (last_line kind,
-    ap (drop (length (first_line kind))) is ∙ drop_at (first_line kind) (base64_lines (key_der kind key) ++ last_line kind) (length (first_line kind)) refl))
+    w.is_file ∙ append_assoc (first_line kind) (base64_lines (key_der kind key)) (last_line kind) in (
+      ap pem_form len ∙ (pem_form_is kind key.set w.standard).0,
+      (
+        last_line kind,
+        ap (drop (length (first_line kind))) is ∙ drop_at (first_line kind) (base64_lines (key_der kind key) ++ last_line kind) (length (first_line kind)) refl,
+      ),
+    )
 
 parts_cut : (kind : KeyKind) (file : Text) (key : Key) → IsWritten key_pem kind (line file) key → Parts kind file key
 parts_cut kind file key w =
     let f = pem_form_is kind key.set w.standard in
     let len : length (line file) ≡ pem_len kind (params key.set) = ap (λ (t : Text). length t) w.is_file ∙ length-key_pem kind key w.standard w.is_key.sized in
     let len' : length file ≡ pem_len kind (params key.set) - 1 = omega (arith, len, length-append file (10 ∷ [])) in
-    let is : file ≡ body kind key = same_line file (body kind key) (w.is_file ∙ pem_line kind key) in
-    (ap pem_form len' ∙ f.1, (end_text kind,
-    ap (drop (length (first_line kind))) is ∙ drop_at (first_line kind) (base64_lines (key_der kind key) ++ end_text kind) (length (first_line kind)) refl))
+    let is : file ≡ body kind key = same_line file (body kind key) (w.is_file ∙ pem_line kind key) in (
+      ap pem_form len' ∙ f.1,
+      (
+        end_text kind,
+        ap (drop (length (first_line kind))) is ∙ drop_at (first_line kind) (base64_lines (key_der kind key) ++ end_text kind) (length (first_line kind)) refl,
+      ),
+    )
 
 -- bytes before bytes
 bytes_append : (front rest : Text) → list_all (λ b. nat_lt b 256) front ≡ true → IsBytes rest → IsBytes (front ++ rest)

@@ -11,7 +11,9 @@ fn char_of(value: u8) -> u8
     requires { value < 64 }
     ensures { result ≡ slice_index characters value }
 {
-    b'A' + value + 6 * u8::from(value >= 26) - 75 * u8::from(value >= 52) - 15 * u8::from(value >= 62)
+    b'A' + value + 6 * u8::from(value >= 26)
+        - 75 * u8::from(value >= 52)
+        - 15 * u8::from(value >= 62)
         + 3 * u8::from(value >= 63)
 }
 
