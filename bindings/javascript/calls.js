@@ -19,9 +19,10 @@ const OPEN = [
     "slh_verify_internal", "slh_lengths", "slh_refusal_name", "slh_sign_jobs", "slh_answer_place", "slh_keygen_jobs",
 ];
 const SECRET = [
-    "slh_keygen", "slh_public", "slh_check", "slh_key_read", "slh_key_write", "slh_sign", "slh_hash_sign_digest",
-    "slh_hash_sign", "slh_sign_twice", "slh_hash_sign_digest_twice", "slh_hash_sign_twice", "slh_sign_internal",
-    "slh_sign_start", "slh_hash_sign_start", "slh_sign_job", "slh_sign_join", "slh_keygen_job", "slh_keygen_join",
+    "slh_keygen", "slh_public", "slh_check", "slh_key_read", "slh_key_write", "slh_der_read", "slh_pem_read",
+    "slh_der_write", "slh_pem_write", "slh_sign", "slh_hash_sign_digest", "slh_hash_sign", "slh_sign_twice",
+    "slh_hash_sign_digest_twice", "slh_hash_sign_twice", "slh_sign_internal", "slh_sign_start", "slh_hash_sign_start",
+    "slh_sign_job", "slh_sign_join", "slh_keygen_job", "slh_keygen_join",
 ];
 // tools/call_tables.py has written the lines up to here.
 

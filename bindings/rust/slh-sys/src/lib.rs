@@ -182,6 +182,49 @@ extern "C" {
         text: *mut c_char,
         text_len: usize,
     ) -> u32;
+    /// To read a key of another program in DER (docs/FORMATS.md, "DER and PEM"): a SubjectPublicKeyInfo, or a PKCS#8
+    /// PrivateKeyInfo that has neither attributes nor a public key.
+    #[must_use]
+    pub fn slh_der_read(
+        der: *const u8,
+        der_len: usize,
+        set: *mut u32,
+        kind: *mut u32,
+        key: *mut u8,
+        key_len: usize,
+    ) -> u32;
+    /// To read the same in PEM: base64 in lines of 64 characters between the lines of a PUBLIC KEY or a PRIVATE KEY.
+    #[must_use]
+    pub fn slh_pem_read(
+        pem: *const u8,
+        pem_len: usize,
+        set: *mut u32,
+        kind: *mut u32,
+        key: *mut u8,
+        key_len: usize,
+    ) -> u32;
+    /// To write the key `of` in DER: writes the bytes, and zeros from there to the end of der.
+    #[must_use]
+    pub fn slh_der_write(
+        set: u32,
+        kind: u32,
+        of: *const u8,
+        of_len: usize,
+        written: *mut u32,
+        der: *mut u8,
+        der_len: usize,
+    ) -> u32;
+    /// To write the same in PEM: at least one zero follows the text, which has none.
+    #[must_use]
+    pub fn slh_pem_write(
+        set: u32,
+        kind: u32,
+        of: *const u8,
+        of_len: usize,
+        written: *mut u32,
+        pem: *mut u8,
+        pem_len: usize,
+    ) -> u32;
     /// To test a set on this machine before it is used, as when a service starts: generates a known key, signs a known
     /// message, and compares PK.root and the SHA-256 of the signature with the answers of OpenSSL.
     #[must_use]
