@@ -205,9 +205,9 @@ uint32_t slh_key_write(uint32_t set, uint32_t kind, const uint8_t *key, size_t k
 #define SLH_MAX_PEM 259
 
 /*
- * To read a key of another program in DER (docs/FORMATS.md, "DER and PEM"): a SubjectPublicKeyInfo, or a PKCS#8
- * PrivateKeyInfo that has neither attributes nor a public key. der has the whole file. Writes what slh_key_read writes.
- * Call slh_check once on a secret key.
+ * To read a key of another program in DER (bindings/README.md, "Keys for other programs"): a SubjectPublicKeyInfo, or a
+ * PKCS#8 PrivateKeyInfo that has neither attributes nor a public key. der has the whole file. Writes what slh_key_read
+ * writes. Call slh_check once on a secret key from elsewhere.
  * Returns: SLH_DONE; SLH_NOT_A_KEY_FILE for any other bytes; SLH_BAD_OUTPUT_LENGTH if key has less room than the key's
  * bytes.
  */

@@ -1,4 +1,4 @@
--- Keys in DER and PEM (docs/FORMATS.md, "DER and PEM") as C reads them: ours.
+-- Keys in DER and PEM (bindings/README.md, "Keys for other programs") as C reads them: ours.
 use Rattle.std.specs.Prelude.{ℕ, ◌≤◌, List, length}
 use Rattle.slh_key_files.specs.declared.key_file.AnyKey.{AnyKey}
 use Rattle.slh_c.specs.KeyFiles.{key_of}

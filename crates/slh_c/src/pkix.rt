@@ -1,4 +1,4 @@
-//! Exports that read and write keys in DER and PEM (docs/FORMATS.md, "DER and PEM").
+//! Exports that read and write keys in DER and PEM (bindings/README.md, "Keys for other programs"): ours.
 ghost use Rattle.std.specs.Prelude.{◌≡◌, ◌≢◌, ◌↔◌, IsSomeAnd, Ok, Some, length};
 ghost use Rattle.slh_key_files.specs.Pkix.{IsDer, IsPem, key_der, key_pem};
 ghost use Rattle.slh_key_files.specs.declared.key_file.AnyKey.{AnyKey};

@@ -34,7 +34,7 @@ abbrev pub key_der : KeyKind → Key → Text
 key_der Public key = tagged 48 (algorithm key.set ++ tagged 3 (0 ∷ key.bytes))
 key_der Secret key = tagged 48 (tagged 2 (0 ∷ []) ++ algorithm key.set ++ tagged 4 key.bytes)
 
--- what stands before the key's bytes there
+-- the bytes before those of the key
 abbrev pub key_front : KeyKind → ParamSet → Text
 key_front Public set = 48 ∷ (16 + key_len Public (params set)) ∷ algorithm set ++ (3 ∷ (1 + key_len Public (params set)) ∷ 0 ∷ [])
 key_front Secret set = if nat_lt (key_len Secret (params set)) 128
@@ -69,7 +69,7 @@ abbrev pub pem_len : KeyKind → Params → ℕ
 pem_len Public p = 52 + lines_len (der_len Public p)
 pem_len Secret p = 54 + lines_len (der_len Secret p)
 
--- ---- what is read
+-- ---- the files that are read
 
 -- a file in which a key of one of the standard's sets stands as a form of keys writes it
 pub record IsWritten (form : KeyKind → Key → Text) (kind : KeyKind) (file : Text) (key : Key) : Type 0 where
@@ -120,7 +120,7 @@ key_after kind set der = if bytes_eq (take (length (key_front kind set)) der) (k
 abbrev pub der_key : Text → Option AnyKey
 der_key der = option_and_then (λ form. option_and_then (λ set. key_after form.0 set der) (set_of_arc (slice_index der form.1))) (der_form (length der))
 
--- for a length of a file in PEM, those of its first line and of its key in DER
+-- the lengths of the first line and of the key in DER, by the length of a file in PEM
 abbrev pub pem_form : ℕ → Option (ℕ × ℕ)
 pem_form len = if len == 121 || len == 122 then Some (27, 50)
     else (if len == 141 || len == 142 then Some (27, 66)

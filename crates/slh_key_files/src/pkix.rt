@@ -1,4 +1,5 @@
-//! Keys as other programs read them: SubjectPublicKeyInfo and PKCS#8, in DER and PEM (docs/FORMATS.md, "DER and PEM").
+//! Keys as other programs read them: SubjectPublicKeyInfo and PKCS#8, in DER and PEM (bindings/README.md, "Keys for other
+//! programs").
 ghost use Rattle.std.specs.Prelude.{◌≡◌, ◌↔◌, ◌+◌, ◌/◌, ◌≤◌, ◌<◌, ◌⊎◌, true, length, IsTrue, IfSome, Some};
 ghost use Rattle.slh_params.specs.ParamSet.{IsStandard, is_standard, params};
 ghost use Rattle.slh_key_files.specs.Base64Lines.{chars_len};
@@ -29,7 +30,7 @@ pub fn der_len(kind: KeyKind, set: ParamSet) -> usize
     }
 }
 
-/// What stands before the bytes of a public key.
+/// The bytes before those of a public key.
 fn public_prefix(set: ParamSet) -> &'static [u8]
     requires { is_standard set ≡ true }
     ensures { result.now ≡ key_front Public set }
@@ -49,7 +50,7 @@ fn public_prefix(set: ParamSet) -> &'static [u8]
     }
 }
 
-/// What stands before the bytes of a secret key.
+/// The bytes before those of a secret key.
 fn secret_prefix(set: ParamSet) -> &'static [u8]
     requires { is_standard set ≡ true }
     ensures { result.now ≡ key_front Secret set }
@@ -71,7 +72,7 @@ fn secret_prefix(set: ParamSet) -> &'static [u8]
     }
 }
 
-/// What stands before the bytes of a key in DER.
+/// The bytes before those of a key in DER.
 fn prefix(kind: KeyKind, set: ParamSet) -> &'static [u8]
     requires { is_standard set ≡ true }
     ensures { result.now ≡ key_front kind set }
@@ -208,7 +209,7 @@ pub fn put_pem(kind: KeyKind, set: ParamSet, key: &[u8], pem: &mut [u8])
     last.copy_from_slice(last_line(kind));
 }
 
-/// For the length of a file in PEM, those of its first line and of its key in DER.
+/// The lengths of the first line and of the key in DER, by the length of a file in PEM.
 fn parts_of(len: usize) -> Option<(usize, usize)>
     ensures form { result ≡ pem_form len }
     ensures fits { IfSome result (λ it. (it.1 ≤ 150) × (it.0 + chars_len it.1 + chars_len it.1 / 64 ≤ len)) }
