@@ -41,6 +41,8 @@ static size_t pk_len, sk_len, sig_len, n, start_len, answers_len, key_answer_len
 static uint32_t set, levels, function, functions, job, jobs, key_jobs, result;
 static uint8_t *begin, key_read_to[SLH_MAX_SECRET_KEY];
 static char key_file[SLH_MAX_KEY_FILE];
+static uint8_t der[SLH_MAX_DER], pem[SLH_MAX_PEM];
+static uint32_t der_len, pem_len;
 static size_t asked;
 
 uint32_t slh_clear(uint32_t result_, size_t depth, uint32_t vectors);
@@ -71,6 +73,26 @@ static void key_read(void) {
     uint32_t set_read, kind_read;
     result = slh_key_read((const uint8_t *)key_file, strlen(key_file), &set_read, &kind_read, key_read_to,
                           sizeof key_read_to);
+    if (result == SLH_DONE && set > SETS) result = SLH_NO_SUCH_SET;
+}
+
+static void der_write(void) {
+    result = slh_der_write(set, SLH_SECRET_KEY, sk, sk_len, &der_len, der, sizeof der);
+}
+
+static void pem_write(void) {
+    result = slh_pem_write(set, SLH_SECRET_KEY, sk, sk_len, &pem_len, pem, sizeof pem);
+}
+
+static void der_read(void) {
+    uint32_t set_read, kind_read;
+    result = slh_der_read(der, der_len, &set_read, &kind_read, key_read_to, sizeof key_read_to);
+    if (result == SLH_DONE && set > SETS) result = SLH_NO_SUCH_SET;
+}
+
+static void pem_read(void) {
+    uint32_t set_read, kind_read;
+    result = slh_pem_read(pem, pem_len, &set_read, &kind_read, key_read_to, sizeof key_read_to);
     if (result == SLH_DONE && set > SETS) result = SLH_NO_SUCH_SET;
 }
 
@@ -150,6 +172,10 @@ static const struct row {
     {"check", check, NOTHING, 1},
     {"key_write", key_write, NOTHING, 1},
     {"key_read", key_read, NOTHING, 1},
+    {"der_write", der_write, NOTHING, 1},
+    {"der_read", der_read, NOTHING, 1},
+    {"pem_write", pem_write, NOTHING, 1},
+    {"pem_read", pem_read, NOTHING, 1},
     {"sign", sign, NOTHING, 1},
     {"hash_sign_digest", hash_sign_digest, FUNCTIONS_TRIED, 0},
     {"hash_sign", hash_sign, FUNCTIONS_TRIED, 0},

@@ -458,6 +458,22 @@ static void look_at_reading(struct work *w) {
     must(set_read == w->set && memcmp(out, w->sk, w->sk_len) == 0, "another key is read");
 }
 
+/* The same of a key in DER and PEM, whose lengths a call writes. */
+static void look_at_pkix(struct work *w) {
+    static uint8_t file[SLH_MAX_PEM];
+    static uint32_t set_read, kind_read, len;
+    CALL(slh_der_write, 0, SLH_SECRET_KEY, KEY, (word)&len, OF(out, SLH_MAX_DER));
+    memcpy(file, out, len);
+    look(w, "slh_der_read", 0, (void (*)(void))slh_der_read,
+         (const word[ARGS]){OF(file, len), (word)&set_read, (word)&kind_read, OF(out, w->sk_len)});
+    must(set_read == w->set && memcmp(out, w->sk, w->sk_len) == 0, "another key is read");
+    CALL(slh_pem_write, 0, SLH_SECRET_KEY, KEY, (word)&len, OF(out, SLH_MAX_PEM));
+    memcpy(file, out, len);
+    look(w, "slh_pem_read", 0, (void (*)(void))slh_pem_read,
+         (const word[ARGS]){OF(file, len), (word)&set_read, (word)&kind_read, OF(out, w->sk_len)});
+    must(set_read == w->set && memcmp(out, w->sk, w->sk_len) == 0, "another key is read");
+}
+
 static void look_at_keys(struct work *w) {
     uint32_t ranges = 2;
     CALL(slh_keygen, 0, SEEDS, OF(out, w->sk_len));
@@ -465,6 +481,7 @@ static void look_at_keys(struct work *w) {
     CALL(slh_check, 0, KEY);
     CALL(slh_key_write, 0, SLH_SECRET_KEY, KEY, OF(out, SLH_MAX_KEY_FILE));
     look_at_reading(w);
+    look_at_pkix(w);
     for (uint32_t job = 0; job < ranges; job++)
         CALL(slh_keygen_job, job, 1, SEEDS, job, OF(w->key_answers + 2 * w->n * job, 2 * w->n));
     CALL(slh_keygen_join, 0, 1, SEEDS, OF(w->key_answers, 2 * w->n * ranges), OF(out, w->sk_len));

@@ -17,9 +17,9 @@ COUNTS = re.compile(r"(\d+) passed, (\d+) failed(?:, \d+ skipped)?")
 
 # The proved calls; the libraries, and not the modules for WebAssembly, have three more.
 CALLS = [f"slh_{it}" for it in """
-    answer_place check hash_sign hash_sign_digest hash_sign_digest_twice hash_sign_start hash_sign_twice hash_verify
-    hash_verify_digest hash_verify_digest_hardened key_read key_write keygen keygen_job keygen_jobs keygen_join lengths
-    public refusal_name self_test sign sign_internal sign_job sign_jobs sign_join sign_start sign_twice verify
+    answer_place check der_read der_write hash_sign hash_sign_digest hash_sign_digest_twice hash_sign_start
+    hash_sign_twice hash_verify hash_verify_digest hash_verify_digest_hardened key_read key_write keygen keygen_job
+    keygen_jobs keygen_join lengths pem_read pem_write public refusal_name self_test sign sign_internal sign_job sign_jobs sign_join sign_start sign_twice verify
     verify_front verify_hardened verify_hashed verify_internal verify_many version""".split()]
 LIBRARY_CALLS = sorted([*CALLS, "slh_erase", "slh_level", "slh_refusal_text"])
 VERIFY_CALLS = [f"slh_{it}" for it in

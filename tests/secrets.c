@@ -198,10 +198,25 @@ static void key_files(void) {
     must(memcmp(made, sk, sk_len) == 0, "another key");
 }
 
+/* Of a key in PEM these are verdicts: whether the text is the one that its bytes have, and whether these have a front
+   of DER, whose last two bytes share a group of characters with the key. */
+static void pkix(void) {
+    enum { VERDICTS = 4 };
+    static uint8_t file[SLH_MAX_PEM];
+    uint32_t set_read, kind_read, len;
+    TRY("slh_der_write", 0, 0, slh_der_write(set, SLH_SECRET_KEY, sk, sk_len, &len, file, sizeof file));
+    TRY("slh_der_read", 0, 0, slh_der_read(file, len, &set_read, &kind_read, made, sk_len));
+    must(memcmp(made, sk, sk_len) == 0, "another key");
+    TRY("slh_pem_write", 0, 0, slh_pem_write(set, SLH_SECRET_KEY, sk, sk_len, &len, file, sizeof file));
+    TRY_UP_TO("slh_pem_read", 1, VERDICTS, 0, slh_pem_read(file, len, &set_read, &kind_read, made, sk_len));
+    must(memcmp(made, sk, sk_len) == 0, "another key");
+}
+
 static void keys(void) {
     TRY("slh_keygen", 0, 0, slh_keygen(set, seeds, n, seeds + n, n, seeds + 2 * n, n, made, sk_len));
     TRY("slh_public", 0, 0, slh_public(set, sk, sk_len, made, pk_len));
     key_files();
+    pkix();
     TRY_UP_TO("slh_check", 1, (unsigned)n / 4 + 1, 0, slh_check(set, sk, sk_len));
 }
 

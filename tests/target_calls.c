@@ -117,6 +117,10 @@ static uint32_t run(const char *call, int count) {
     CALL(slh_check, N(0), B(1));
     CALL(slh_key_read, B(0), W(1), W(2), B(3));
     CALL(slh_key_write, N(0), N(1), B(2), (char *)B(3));
+    CALL(slh_der_read, B(0), W(1), W(2), B(3));
+    CALL(slh_pem_read, B(0), W(1), W(2), B(3));
+    CALL(slh_der_write, N(0), N(1), B(2), W(3), B(4));
+    CALL(slh_pem_write, N(0), N(1), B(2), W(3), B(4));
     CALL(slh_self_test, N(0), B(1));
     CALL(slh_sign, N(0), B(1), B(2), B(3), B(4), B(5));
     CALL(slh_hash_sign, N(0), N(1), B(2), B(3), B(4), B(5), B(6));

@@ -40,6 +40,18 @@ READS(key_read,
 SECRET(key_write,
        (uint32_t set, uint32_t kind, const uint8_t *key, size_t key_len, char *text, size_t text_len),
        (set, kind, key, key_len, text, text_len))
+READS(der_read,
+      (const uint8_t *der, size_t der_len, uint32_t *set_read, uint32_t *kind_read, uint8_t *key, size_t key_len),
+      (der, der_len, set_read, kind_read, key, key_len))
+READS(pem_read,
+      (const uint8_t *pem, size_t pem_len, uint32_t *set_read, uint32_t *kind_read, uint8_t *key, size_t key_len),
+      (pem, pem_len, set_read, kind_read, key, key_len))
+SECRET(der_write,
+       (uint32_t set, uint32_t kind, const uint8_t *of, size_t of_len, uint32_t *written, uint8_t *der, size_t der_len),
+       (set, kind, of, of_len, written, der, der_len))
+SECRET(pem_write,
+       (uint32_t set, uint32_t kind, const uint8_t *of, size_t of_len, uint32_t *written, uint8_t *pem, size_t pem_len),
+       (set, kind, of, of_len, written, pem, pem_len))
 SECRET(sign,
        (uint32_t set, const uint8_t *sk, size_t sk_len, const uint8_t *msg, size_t msg_len, const uint8_t *ctx,
         size_t ctx_len, const uint8_t *random, size_t random_len, uint8_t *sig, size_t sig_len),

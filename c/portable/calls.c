@@ -48,6 +48,40 @@ uint32_t slh_key_write(uint32_t set, uint32_t kind, const uint8_t *key, size_t k
     return result;
 }
 
+uint32_t slh_der_read(const uint8_t *der, size_t der_len, uint32_t *set, uint32_t *kind, uint8_t *key, size_t key_len) {
+    uint8_t numbers[2][8];
+    struct part parts[] = {READ(der), WORD(0), WORD(1), WRITE(key)};
+    RUN(der_read, B(0), P(1), P(2), B(3));
+    if (result == SLH_DONE) *set = get32(numbers[0]), *kind = get32(numbers[1]);
+    return result;
+}
+
+uint32_t slh_pem_read(const uint8_t *pem, size_t pem_len, uint32_t *set, uint32_t *kind, uint8_t *key, size_t key_len) {
+    uint8_t numbers[2][8];
+    struct part parts[] = {READ(pem), WORD(0), WORD(1), WRITE(key)};
+    RUN(pem_read, B(0), P(1), P(2), B(3));
+    if (result == SLH_DONE) *set = get32(numbers[0]), *kind = get32(numbers[1]);
+    return result;
+}
+
+uint32_t slh_der_write(uint32_t set, uint32_t kind, const uint8_t *of, size_t of_len, uint32_t *written, uint8_t *der,
+                       size_t der_len) {
+    uint8_t numbers[1][8];
+    struct part parts[] = {READ(of), WORD(0), WRITE(der)};
+    RUN(der_write, set, kind, B(0), P(1), B(2));
+    if (result == SLH_DONE) *written = get32(numbers[0]);
+    return result;
+}
+
+uint32_t slh_pem_write(uint32_t set, uint32_t kind, const uint8_t *of, size_t of_len, uint32_t *written, uint8_t *pem,
+                       size_t pem_len) {
+    uint8_t numbers[1][8];
+    struct part parts[] = {READ(of), WORD(0), WRITE(pem)};
+    RUN(pem_write, set, kind, B(0), P(1), B(2));
+    if (result == SLH_DONE) *written = get32(numbers[0]);
+    return result;
+}
+
 uint32_t slh_self_test(uint32_t set, uint8_t *scratch, size_t scratch_len) {
     struct part parts[] = {WRITE(scratch)};
     RUN(self_test, set, B(0));

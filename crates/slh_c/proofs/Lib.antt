@@ -5,3 +5,4 @@ mod VerdictsOfMany
 mod Numbered
 mod Standard
 mod Readable
+mod PkixReadable

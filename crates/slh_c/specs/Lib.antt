@@ -4,5 +4,6 @@ pub mod Cuttings
 pub mod Rules
 pub mod Keys
 pub mod KeyFiles
+pub mod Pkix
 pub mod Many
 pub mod SelfTest

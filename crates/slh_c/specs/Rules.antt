@@ -12,6 +12,7 @@ use Rattle.slh_jobs.specs.KeyJobs.{key_jobs}
 use Rattle.slh_jobs.specs.Tags.{start_len}
 use Rattle.slh_jobs.specs.declared.levels.Levels.{Levels}
 use Rattle.slh_key_files.specs.KeyFile.{key_len}
+use Rattle.slh_key_files.specs.Pkix.{der_len, pem_len}
 use Rattle.slh_c.specs.Cuttings.{levels_of}
 use Rattle.slh_c.specs.KeyFiles.{kind_numbered}
 use Rattle.slh_c.specs.Numbers.{set_numbered, function_numbered}
@@ -133,6 +134,16 @@ abbrev pub key_write_rules : ℕ → ℕ → List ℕ → List ℕ → List Rule
 key_write_rules set kind key out = in_set set (λ s. numbered (kind_numbered kind) NoSuchKind (λ k.
     has_len key (key_len k (params s)) BadLength
     ∷ record { is_met = nat_lt (36 + 2 * key_len k (params s)) (length out); refusal = BadOutputLength } ∷ []))
+
+abbrev pub der_write_rules : ℕ → ℕ → List ℕ → List ℕ → List Rule
+der_write_rules set kind key out = in_set set (λ s. numbered (kind_numbered kind) NoSuchKind (λ k.
+    has_len key (key_len k (params s)) BadLength
+    ∷ record { is_met = nat_le (der_len k (params s)) (length out); refusal = BadOutputLength } ∷ []))
+
+abbrev pub pem_write_rules : ℕ → ℕ → List ℕ → List ℕ → List Rule
+pem_write_rules set kind key out = in_set set (λ s. numbered (kind_numbered kind) NoSuchKind (λ k.
+    has_len key (key_len k (params s)) BadLength
+    ∷ record { is_met = nat_lt (pem_len k (params s)) (length out); refusal = BadOutputLength } ∷ []))
 
 abbrev pub self_test_rules : ℕ → List ℕ → List Rule
 self_test_rules set scratch = in_set set (λ s. output (sig_len (params s)) scratch ∷ [])

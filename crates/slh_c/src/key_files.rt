@@ -54,7 +54,7 @@ fn put(bytes: &[u8], out: &mut [u8])
 }
 
 /// What `read_key` gave, as `slh_key_read` writes it.
-fn put_key(it: &AnyKey, set: &mut u32, kind: &mut u32, key: &mut [u8]) -> u32
+pub(crate) fn put_key(it: &AnyKey, set: &mut u32, kind: &mut u32, key: &mut [u8]) -> u32
     ensures answer { result ≡ read_answer (Ok it.now) (length key.old) }
     ensures set { result ≡ DONE → set_numbered set.new ≡ Some (key_of it.now).set }
     ensures kind { result ≡ DONE → kind_numbered kind.new ≡ Some (kind_of it.now) }
@@ -97,7 +97,7 @@ pub extern "C" fn slh_key_read(file: &[u8], set: &mut u32, kind: &mut u32, key: 
 }
 
 /// The kind of a number.
-fn kind_of(number: u32) -> Option<KeyKind>
+pub(crate) fn kind_of(number: u32) -> Option<KeyKind>
     ensures { result ≡ kind_numbered number }
 {
     match number {

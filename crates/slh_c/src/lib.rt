@@ -20,6 +20,7 @@ mod keys;
 mod many;
 mod names;
 mod numbers;
+mod pkix;
 mod pre_hash_form;
 mod pure_form;
 mod randomizer;

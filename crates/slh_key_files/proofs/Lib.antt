@@ -2,3 +2,10 @@ pub mod LineFeeds
 pub mod Decoding
 pub mod Front
 pub mod Reading
+pub mod Forms
+pub mod Characters
+pub mod Groups
+pub mod Cutting
+pub mod Padding
+pub mod DerReading
+pub mod PemReading
