@@ -6,6 +6,7 @@ crates, which cargo builds without the kit. The sources are tested, whatever rel
 - `cargo clippy` warns of nothing with each feature alone and with all, `cargo doc` with all. `cargo package` makes a
   small package.
 - The module of vectors gives what arrays give, at each level of x86-64 that this processor has.
+- A debug build signs in threads, also by the lines of the page.
 - The package, compiled for the oldest processor, passes its tests. Code for AVX2 runs if the processor has it. Nothing
   that was erased is in the memory of a program.
 
@@ -556,6 +557,23 @@ def lanes(crates):
 def test_vectors_are_arrays(lanes, level):
     need_level(level)
     assert count_tests(run(lanes(level)), OF_CARGO) == 18
+
+
+# ---- debug builds
+
+# The lines of the page that have the crate optimised in debug builds.
+OF_PAGE = re.search(r"^```toml\n(.*?)^```$", (HERE / "bindings/rust/slh/README.md").read_text(), re.M | re.S)[1]
+
+
+@pytest.mark.slow
+@pytest.mark.parametrize("lines", ["", OF_PAGE], ids=["as it is", "by the lines of the page"])
+def test_debug_build_signs_in_threads(pytestconfig, crates, tmp_path, letter, lines):
+    """A thread has a stack of 2 MB."""
+    with_all(pytestconfig)
+    (tmp_path / "lines.toml").write_text(lines)
+    done = crates.cargo("run", "-p", "slh", "--example", "sign_threads", "--config", tmp_path / "lines.toml",
+                        "--target-dir", tmp_path / "target", "2", letter)
+    assert (done.status, done.output) == (0, b"valid\n"), done.errors.decode()[-4000:]
 
 
 # ---- the package, for the oldest processor
