@@ -6,7 +6,7 @@ crates, which cargo builds without the kit. The sources are tested, whatever rel
 - `cargo clippy` warns of nothing with each feature alone and with all, `cargo doc` with all. `cargo package` makes a
   small package.
 - The module of vectors gives what arrays give, at each level of x86-64 that this processor has.
-- A debug build signs in threads, also by the lines of the page.
+- A debug build signs in threads by the lines of the page.
 - The package, compiled for the oldest processor, passes its tests. Code for AVX2 runs if the processor has it. Nothing
   that was erased is in the memory of a program.
 
@@ -561,18 +561,15 @@ def test_vectors_are_arrays(lanes, level):
 
 # ---- debug builds
 
-# The lines of the page that have the crate optimised in debug builds.
-OF_PAGE = re.search(r"^```toml\n(.*?)^```$", (HERE / "bindings/rust/slh/README.md").read_text(), re.M | re.S)[1]
-
 
 @pytest.mark.slow
-@pytest.mark.parametrize("lines", ["", OF_PAGE], ids=["as it is", "by the lines of the page"])
-def test_debug_build_signs_in_threads(pytestconfig, crates, tmp_path, letter, lines):
-    """A thread has a stack of 2 MB."""
+def test_debug_build_signs_in_threads_by_lines_of_the_page(pytestconfig, crates, tmp_path, letter):
+    """They are of a file that cargo reads. Without them the stack of a thread overflows."""
     with_all(pytestconfig)
-    (tmp_path / "lines.toml").write_text(lines)
-    done = crates.cargo("run", "-p", "slh", "--example", "sign_threads", "--config", tmp_path / "lines.toml",
-                        "--target-dir", tmp_path / "target", "2", letter)
+    page, words = (HERE / "bindings/rust/slh/README.md").read_text(), ["run", "-p", "slh", "--example", "sign_threads"]
+    (tmp_path / "lines.toml").write_text(re.search(r"^```toml\n(.*?)^```$", page, re.M | re.S)[1])
+    assert b"has overflowed its stack" in crates.cargo(*words, "2", letter).errors
+    done = crates.cargo(*words, "--config", tmp_path / "lines.toml", "2", letter)
     assert (done.status, done.output) == (0, b"valid\n"), done.errors.decode()[-4000:]
 
 

@@ -35,15 +35,8 @@ macro_rules! need_register {
     };
 }
 
-/// Whether this is a debug build. Its frames have room for each value of what is inlined into a function: 3 MB for the
-/// steps of chains in eight lanes, where the stack of a thread has 2 MB. So it hashes one message at a time.
-const DEBUG: bool = cfg!(debug_assertions);
-
 /// How many words of 32 bits are hashed side by side.
 pub(crate) fn short() -> Width {
-    if DEBUG {
-        return Width::One;
-    }
     #[cfg(all(target_arch = "x86_64", feature = "std", not(target_feature = "avx2")))]
     if std::is_x86_feature_detected!("avx2") {
         return Width::Eight;
@@ -58,9 +51,6 @@ pub(crate) fn short() -> Width {
 
 /// How many words of 64 bits are hashed side by side. Four fill two registers of 16 bytes.
 pub(crate) fn long() -> Width {
-    if DEBUG {
-        return Width::One;
-    }
     match vectors::REGISTER {
         64 => Width::Eight,
         16 | 32 => Width::Four,
