@@ -55,26 +55,13 @@ fn at_step<W: ShortLanes>(adrs: &[W; 6], numbers: W) -> [W; 6]
         → slice_index (lane_column W.lane j result) k ≡ slice_index (lane_column W.lane j adrs.now) k }
 {
     tell_all(adrs);
-    [
-        adrs[0],
-        adrs[1],
-        adrs[2],
-        adrs[3],
-        adrs[4],
-        numbers.low(),
-    ]
+    [adrs[0], adrs[1], adrs[2], adrs[3], adrs[4], numbers.low()]
 }
 
 /// The next values in the lanes that have a step left, whose number in `counts` is above `step`. The others keep their
 /// values. All lanes have `all` steps, so up to there nothing is chosen.
 #[inline(always)]
-fn take_step<W: ShortLanes>(
-    step: u32,
-    all: u32,
-    counts: W,
-    next: &[W; 8],
-    x: &[W; 8],
-) -> [W; 8]
+fn take_step<W: ShortLanes>(step: u32, all: u32, counts: W, next: &[W; 8], x: &[W; 8]) -> [W; 8]
     requires { (j : ℕ) → j < W.LANES → all ≤ W.lane counts j }
     ensures taken { (j : ℕ) → j < W.LANES → step < W.lane counts j
         → lane_column W.lane j result ≡ lane_column W.lane j next.now }

@@ -1,4 +1,4 @@
-use Rattle.std.proofs.Common.{◌≡◌, ℕ, ◌*◌, ◌/◌, ◌%◌, ◌^◌, ◌<◌, List, length, slice_index, arith, sym, ap, ◌∙◌}
+use Rattle.std.proofs.Common.{◌≡◌, ℕ, ◌/◌, ◌%◌, ◌^◌, ◌<◌, List, length, slice_index, arith, sym, ◌∙◌}
 use Rattle.slh_lanes.specs.Block.{halves}
 use Rattle.slh_lanes.specs.Columns.{lane_column}
 use Rattle.slh_lanes.proofs.Addresses.{hash_set}

@@ -1,6 +1,4 @@
-use Rattle.std.proofs.Common.{◌≡◌, ℕ, List, refl, take, arith}
-use Rattle.sha2.specs.Sha256.{digest_bytes}
-use Rattle.slh_lanes.specs.Columns.{lane_column}
+use Rattle.std.proofs.Common.{◌≡◌, refl, arith}
 use Rattle.slh_lanes.specs.Steps.{steps}
 use Rattle.slh_lanes.proofs.chains.run.Goals as goal
 

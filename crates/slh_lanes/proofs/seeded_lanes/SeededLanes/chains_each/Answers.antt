@@ -14,11 +14,22 @@ run-ends-requires over c =
     let two : over.row.G ≡ 2 = c.is_joined.ensures c.if-is_joined.true in
     let fits : (g j : ℕ) → g < 2 → j < 8 → slice_index c.join_words.result (8 * g + j) + slice_index c.join_words-then-is_joined.result (8 * g + j) ≤ 2 ^ 16 = λ g j low lane.
     let in_batch : g < over.row.G = omega (arith, two, low) in
-    omega (arith, c.join_words.ensures g j in_batch lane, c.join_words-then-is_joined.ensures g j in_batch lane, c.requires.steps g j in_batch lane) in
-    (omega arith, (omega arith, (omega arith, (rw c.n.ensures (n_cases c.args.self.now.set), λ i lane. elim (cases_lt i 8) [
-      | inl low ↦ let at : 8 * 0 + i ≡ i = omega arith in rw at at (fits 0 i (omega arith) low)
-      | inr ge ↦ let at : 8 * 1 + (i - 8) ≡ i = omega (arith, ge) in rw at at (fits 1 (i - 8) (omega arith) (omega (arith, lane, ge)))
-    ]))))
+    omega (arith, c.join_words.ensures g j in_batch lane, c.join_words-then-is_joined.ensures g j in_batch lane, c.requires.steps g j in_batch lane) in (
+      omega arith,
+      (
+        omega arith,
+        (
+          omega arith,
+          (
+            rw c.n.ensures (n_cases c.args.self.now.set),
+            λ i lane. elim (cases_lt i 8) [
+              | inl low ↦ let at : 8 * 0 + i ≡ i = omega arith in rw at at (fits 0 i (omega arith) low)
+              | inr ge ↦ let at : 8 * 1 + (i - 8) ≡ i = omega (arith, ge) in rw at at (fits 1 (i - 8) (omega arith) (omega (arith, lane, ge)))
+            ],
+          ),
+        ),
+      ),
+    )
 
 pub groups-init : goal.groups-init
 groups-init over c = (refl, λ i lt. absurd (omega (arith, lt)), λ i ge. refl)
