@@ -421,7 +421,7 @@ KERNELS = [("rounds::compress(", "compress("), ("run::<Words,Rounds>", "run"), (
            ("compress_part::<LongWords,u64x4,Rounds>", "compress_four")]
 # The other calls by `Rounds`, which are of the build's level.
 OF_BUILD = ["run_singles::<Rounds>", "compress_singles::<Rounds>", "compress_long_singles::<Rounds>",
-            "run_part::<u32x4,Rounds>", "compress_running::<u32x4,Rounds>"]
+            "run_part::<u32x4,Rounds>", "compress_part::<Words,u32x4,Rounds>"]
 # The words of an import from the module of rounds.
 OF_ROUNDS = {"use", "crate", "slh_lanes", "rounds", "self", "Compression", "ChainCompression", "Rounds", "round"}
 

@@ -1,8 +1,9 @@
 -- Batches whose groups are changed one after another: ours.
-use Rattle.std.proofs.Common.{◌≡◌, ◌≢◌, ℕ, ◌+◌, ◌<◌, ◌≤◌, List, [], length, set, inl, inr, arith, ◌∙◌}
+use Rattle.std.proofs.Common.{◌≡◌, ◌≢◌, ℕ, ◌+◌, ◌<◌, ◌≤◌, List, [], ◌∷◌, length, replicate, set, slice_index, inl, inr, arith, ap, ◌∙◌}
 use Rattle.std.proofs.lemmas.Bool.{cases_lt}
-use Rattle.std.proofs.lemmas.List.{get_or-set_same, get_or-set_other, length-set}
+use Rattle.std.proofs.lemmas.List.{get_or-replicate, get_or-set_same, get_or-set_other, length-set}
 use Rattle.slh_lanes.specs.Lanes.{group}
+use Rattle.slh_lanes.proofs.Columns.{splat_lane}
 
 -- the groups before g are as they shall be, and the others as they were
 abbrev pub Done : {A : Type 0} → (ℕ → List A → Type 0) → ℕ → List (List A) → List (List A) → Type 0
@@ -21,3 +22,8 @@ done_next P g old new y within here done =
       ],
       λ i above. other i (λ e. omega (arith, e, above)) ∙ done.2 i (omega (arith, above)),
     )
+
+-- a batch with one word in all lanes of all groups
+pub splat_group : (n k g j : ℕ) → g < n → j < 8 → slice_index (group (replicate n (k ∷ k ∷ k ∷ k ∷ k ∷ k ∷ k ∷ k ∷ [])) g) j ≡ k
+splat_group n k g j in_batch lane =
+    ap (λ (v : List ℕ). slice_index v j) (get_or-replicate n g (k ∷ k ∷ k ∷ k ∷ k ∷ k ∷ k ∷ k ∷ []) [] in_batch) ∙ splat_lane k j lane

@@ -14,7 +14,7 @@ use crate::part::{Part, part_of_eight, part_of_sixteen, with_eight};
 use crate::rounds::{self, Compression, Rounds};
 use crate::short_lanes::tell_all;
 use crate::single_block::Instructions;
-use crate::words::{GROUP, Words, is_above};
+use crate::words::{GROUP, Words};
 use slh_width::{Width, build_widths};
 use std::simd::prelude::*;
 
@@ -27,60 +27,32 @@ pub fn compress(state: &mut [Words; 8], block: &[Words; 16])
         → column j state.new ≡ compress (column j state.old) (digest_bytes (column j block.now) 16) }
 {
     tell_all(block);
-    compress_each(state, block, 0, Words::splat(1));
+    compress_eight(state, block);
 }
 
-/// The same in the lanes that have a step left, whose number in `counts` is above `step`. Of other lanes nothing is
-/// said.
-pub(crate) fn compress_each(state: &mut [Words; 8], block: &[Words; 16], step: u32, counts: Words)
-    ensures { (j : ℕ) → j < GROUP → step < slice_index counts j → (b : List ℕ) → HasWords b (column j block.now)
+/// The same for blocks of any words.
+fn compress_eight(state: &mut [Words; 8], block: &[Words; 16])
+    ensures { (j : ℕ) → j < GROUP → (b : List ℕ) → HasWords b (column j block.now)
         → column j state.new ≡ compress (column j state.old) b }
 {
     match build_widths().short {
-        Width::One => compress_singles::<Rounds>(state, block, step, counts),
-        Width::Instructions => compress_singles::<Instructions>(state, block, step, counts),
+        Width::One => compress_singles::<Rounds>(state, block),
+        Width::Instructions => compress_singles::<Instructions>(state, block),
         Width::Four => {
-            compress_running::<u32x4, Rounds>(state, block, 0, 4, step, counts);
-            compress_running::<u32x4, Rounds>(state, block, 4, 4, step, counts);
+            compress_part::<Words, u32x4, Rounds>(state, block, 0);
+            compress_part::<Words, u32x4, Rounds>(state, block, 4);
         }
         Width::Eight | Width::Sixteen => rounds::compress(state, block),
     }
 }
 
-/// The compressions in each of eight lanes that has a step left, one after another.
-fn compress_singles<C: Compression<Word>>(
-    state: &mut [Words; 8],
-    block: &[Words; 16],
-    step: u32,
-    counts: Words,
-)
-    ensures { (j : ℕ) → j < GROUP → step < slice_index counts j → (b : List ℕ) → HasWords b (column j block.now)
+/// Eight compressions of SHA-256, one after another.
+fn compress_singles<C: Compression<Word>>(state: &mut [Words; 8], block: &[Words; 16])
+    ensures { (j : ℕ) → j < GROUP → (b : List ℕ) → HasWords b (column j block.now)
         → column j state.new ≡ compress (column j state.old) b }
 {
     'lanes: for lane in 0..GROUP {
-        compress_running::<Word, C>(state, block, lane, 1, step, counts);
-    }
-}
-
-/// The compressions in `len` lanes from `first` on, unless none of them has a step left.
-fn compress_running<W: Part<Words>, C: Compression<W>>(
-    state: &mut [Words; 8],
-    block: &[Words; 16],
-    first: usize,
-    len: usize,
-    step: u32,
-    counts: Words,
-)
-    requires room { HasRoom W.row }
-    requires len { len ≡ W.LANES }
-    requires lanes { first + W.LANES ≤ GROUP }
-    ensures words { (j : ℕ) → j < W.LANES → step < slice_index counts (first + j) → (b : List ℕ)
-        → ((k : ℕ) → k < 16 → W.word b k ≡ slice_index (column (first + j) block.now) k)
-        → column (first + j) state.new ≡ W.compress (column (first + j) state.old) b }
-    ensures others { (i : ℕ) → (i < first) ⊎ (first + W.LANES ≤ i) → column i state.new ≡ column i state.old }
-{
-    if is_above(counts, first, len, step) {
-        compress_part::<Words, W, C>(state, block, first);
+        compress_part::<Words, Word, C>(state, block, lane);
     }
 }
 

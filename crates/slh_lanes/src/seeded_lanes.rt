@@ -16,17 +16,17 @@ ghost use Rattle.slh_lanes.specs.Steps.{steps};
 use crate::block::{BLOCK_LEN, hash_after, second_block, splat_all};
 use crate::bytes::load_all_long;
 use crate::chains::{run, run_part, run_singles};
-use crate::eight_blocks::{compress, compress_each, compress_long};
-use crate::joined::{TwoWords, join_adrs, join_nodes, split_nodes};
-use crate::lane_adrs::{LaneAdrs, set_hashes};
-use crate::lane_nodes::{LaneNodes, node_lanes, pick_nodes, two_short};
+use crate::eight_blocks::{compress, compress_long};
+use crate::joined::{TwoWords, join_adrs, join_nodes, join_words, split_nodes};
+use crate::lane_adrs::LaneAdrs;
+use crate::lane_nodes::{LaneNodes, node_lanes, two_short};
 use crate::long_block::{
     first_lane, initial, second_block as second_long_block, splat_all as splat_all_long, truncated,
 };
 use crate::long_words::LongWords;
 use crate::rounds::{self, Rounds};
 use crate::single_block::Instructions;
-use crate::words::{GROUP, Words, add, most};
+use crate::words::{GROUP, Words};
 use slh_params::ParamSet;
 use slh_width::{Width, build_widths};
 use std::simd::prelude::*;
@@ -136,42 +136,28 @@ impl<'a> SeededLanes<'a> {
             → let p = params self.now.set in value_at (group x.new g) j p.n
             ≡ steps p self.now.pk_seed.now a (value_at (group x.old g) j p.n) from count }
     {
-        if is_joined(G) {
-            let joined = join_adrs(adrs);
-            let nodes = join_nodes(x);
-            let ends = run::<TwoWords, Rounds>(
-                &self.short,
-                self.set.n(),
-                &joined,
-                &nodes,
-                from,
-                count,
-            );
-            split_nodes(&ends, x);
-        } else {
-            'groups: for g in 0..G {
-                x[g] = self.eight_chains(&adrs[g], &x[g], from, count);
-            }
-        }
+        let from = [Words::splat(from); G];
+        let counts = [Words::splat(count); G];
+        self.chains_each(adrs, x, &from, &counts);
     }
 
-    /// Runs eight chains on from their values after `from` steps, each by `count` steps.
-    fn eight_chains(&self, adrs: &LaneAdrs, x: &LaneNodes, from: u32, count: u32) -> LaneNodes
-        requires { from + count ≤ 2 ^ 16 }
+    /// Runs eight chains on, each from its first step by its number of steps.
+    fn eight_chains(&self, adrs: &LaneAdrs, x: &LaneNodes, from: Words, counts: Words) -> LaneNodes
+        requires { (j : ℕ) → j < GROUP → slice_index from j + slice_index counts j ≤ 2 ^ 16 }
         ensures { (j : ℕ) → j < GROUP → (a : Address) → HasAddress adrs.now j a
-            → let p = params self.now.set in
-            value_at result j p.n ≡ steps p self.now.pk_seed.now a (value_at x.now j p.n) from count }
+            → let p = params self.now.set in value_at result j p.n
+            ≡ steps p self.now.pk_seed.now a (value_at x.now j p.n) (slice_index from j) (slice_index counts j) }
     {
         let n = self.set.n();
         let short = &self.short;
         match build_widths().short {
-            Width::One => run_singles::<Rounds>(short, n, adrs, x, from, count),
-            Width::Instructions => run_singles::<Instructions>(short, n, adrs, x, from, count),
+            Width::One => run_singles::<Rounds>(short, n, adrs, x, from, counts),
+            Width::Instructions => run_singles::<Instructions>(short, n, adrs, x, from, counts),
             Width::Four => {
-                let low = run_part::<u32x4, Rounds>(short, n, adrs, x, 0, from, count);
-                run_part::<u32x4, Rounds>(short, n, adrs, &low, 4, from, count)
+                let low = run_part::<u32x4, Rounds>(short, n, adrs, x, 0, from, counts);
+                run_part::<u32x4, Rounds>(short, n, adrs, &low, 4, from, counts)
             }
-            Width::Eight | Width::Sixteen => run::<Words, Rounds>(short, n, adrs, x, from, count),
+            Width::Eight | Width::Sixteen => run::<Words, Rounds>(short, n, adrs, x, from, counts),
         }
     }
 
@@ -186,56 +172,29 @@ impl<'a> SeededLanes<'a> {
     )
         requires few { G ≤ 2 }
         requires steps { (g j : ℕ) → g < G → j < GROUP
-            → slice_index (group from.now g) j + slice_index (group counts.now g) j ≤ 2 ^ 32 }
+            → slice_index (group from.now g) j + slice_index (group counts.now g) j ≤ 2 ^ 16 }
         ensures { (g j : ℕ) → g < G → j < GROUP → (a : Address) → HasAddress (group adrs.now g) j a
             → let p = params self.now.set in value_at (group x.new g) j p.n
             ≡ steps p self.now.pk_seed.now a (value_at (group x.old g) j p.n)
             (slice_index (group from.now g) j) (slice_index (group counts.now g) j) }
     {
-        for step in 0..most_of_all(counts) {
-            let mut next = *x;
-            self.f_each(&adrs_at_step(adrs, from, step), &mut next, step, counts);
-            take_step(x, &next, step, counts);
-        }
-    }
-
-    /// F in each lane that has a step left, whose number in `counts` is above `step`. Of other lanes nothing is said.
-    fn f_each<const G: usize>(
-        &self,
-        adrs: &[LaneAdrs; G],
-        x: &mut [LaneNodes; G],
-        step: u32,
-        counts: &[Words; G],
-    )
-        requires few { G ≤ 2 }
-        ensures { (g j : ℕ) → g < G → j < GROUP → step < slice_index (group counts.now g) j → (a : Address)
-            → HasAddress (group adrs.now g) j a
-            → let p = params self.now.set in value_at (group x.new g) j p.n
-            ≡ F p self.now.pk_seed.now a (value_at (group x.old g) j p.n) }
-    {
         if is_joined(G) {
-            self.digests_of_two(adrs, x, self.set.n());
+            let joined = join_adrs(adrs);
+            let nodes = join_nodes(x);
+            let ends = run::<TwoWords, Rounds>(
+                &self.short,
+                self.set.n(),
+                &joined,
+                &nodes,
+                join_words(from),
+                join_words(counts),
+            );
+            split_nodes(&ends, x);
         } else {
             'groups: for g in 0..G {
-                x[g] = self.f_of_group(&adrs[g], &x[g], step, counts[g]);
+                x[g] = self.eight_chains(&adrs[g], &x[g], from[g], counts[g]);
             }
         }
-    }
-
-    /// F in each lane of one group that has a step left.
-    fn f_of_group(&self, adrs: &LaneAdrs, x: &LaneNodes, step: u32, counts: Words) -> LaneNodes
-        ensures { (j : ℕ) → j < GROUP → step < slice_index counts j → (a : Address) → HasAddress adrs.now j a
-            → let p = params self.now.set in
-            value_at result j p.n ≡ F p self.now.pk_seed.now a (value_at x.now j p.n) }
-    {
-        let mut state = splat_all(&self.short);
-        compress_each(
-            &mut state,
-            &second_block(self.set.n(), adrs, x),
-            step,
-            counts,
-        );
-        state
     }
 
     /// In each lane of a batch the first n bytes of the digest of PK.seed, zeros, the address and the value of `len`
@@ -283,46 +242,6 @@ fn is_joined(groups: usize) -> bool
     ensures { result ≡ true → groups ≡ 2 }
 {
     groups == 2 && matches!(build_widths().short, Width::Sixteen)
-}
-
-/// The largest word of all lanes of a batch.
-fn most_of_all<const G: usize>(counts: &[Words; G]) -> u32
-    ensures { (g j : ℕ) → g < G → j < GROUP → slice_index (group counts.now g) j ≤ result }
-{
-    let mut most_of_all = 0;
-    for g in 0..G {
-        most_of_all = most_of_all.max(most(counts[g]));
-    }
-    most_of_all
-}
-
-/// The addresses of a batch, so many steps after the first ones.
-fn adrs_at_step<const G: usize>(adrs: &[LaneAdrs; G], from: &[Words; G], step: u32) -> [LaneAdrs; G]
-    ensures { (g j : ℕ) → g < G → j < GROUP → (a : Address) → HasAddress (group adrs.now g) j a
-        → HasAddress (group result g) j (record a { hash = add32 (slice_index (group from.now g) j) step }) }
-{
-    let mut here = *adrs;
-    for g in 0..G {
-        set_hashes(&mut here[g], add(from[g], Words::splat(step)));
-    }
-    here
-}
-
-/// Takes the next value in each lane that has a step left. The others keep their values.
-fn take_step<const G: usize>(
-    x: &mut [LaneNodes; G],
-    next: &[LaneNodes; G],
-    step: u32,
-    counts: &[Words; G],
-)
-    ensures taken { (g j n : ℕ) → g < G → j < GROUP → step < slice_index (group counts.now g) j
-        → value_at (group x.new g) j n ≡ value_at (group next.now g) j n }
-    ensures kept { (g j n : ℕ) → g < G → j < GROUP → slice_index (group counts.now g) j ≤ step
-        → value_at (group x.new g) j n ≡ value_at (group x.old g) j n }
-{
-    for g in 0..G {
-        x[g] = pick_nodes(Words::splat(step), counts[g], &next[g], &x[g]);
-    }
 }
 
 /// SHA-256's hash value after its first block, which PK.seed of n bytes and zeros fill.

@@ -1,5 +1,5 @@
 //! Vectors of eight words of 32 bits, one in each lane (ours).
-ghost use Rattle.std.specs.Prelude.{◌≡◌, ◌≢◌, ℕ, ◌+◌, ◌*◌, ◌/◌, ◌%◌, ◌^◌, ◌<◌, ◌≤◌, length, slice_index, true};
+ghost use Rattle.std.specs.Prelude.{◌≡◌, ◌≢◌, ℕ, ◌+◌, ◌*◌, ◌/◌, ◌%◌, ◌^◌, ◌<◌, ◌≤◌, length, slice_index};
 ghost use Rattle.sha2.specs.Sha256.{add32};
 ghost use Rattle.slh_lanes.specs.Columns.{column};
 
@@ -107,28 +107,4 @@ pub(crate) fn pick(a: Words, b: Words, x: Words, y: Words) -> Words
     ensures others { (j : ℕ) → j < GROUP → slice_index b j ≤ slice_index a j → slice_index result j ≡ slice_index y j }
 {
     a.simd_lt(b).select(x, y)
-}
-
-// The largest word of all lanes.
-pub(crate) fn most(words: Words) -> u32
-    ensures { (j : ℕ) → j < GROUP → slice_index words j ≤ result }
-{
-    let mut most = 0;
-    for word in words.to_array() {
-        most = most.max(word);
-    }
-    most
-}
-
-/// Whether one of `len` words from `first` on is above a number.
-pub(crate) fn is_above(words: Words, first: usize, len: usize, number: u32) -> bool
-    requires { first + len ≤ GROUP }
-    ensures { (j : ℕ) → j < len → number < slice_index words (first + j) → result ≡ true }
-{
-    let each = words.to_array();
-    let mut above = false;
-    'lanes: for j in 0..len {
-        above = above || number < each[first + j];
-    }
-    above
 }

@@ -1,5 +1,5 @@
 //! Eight hypertree signatures under one set, verified side by side: one in each lane (FIPS 205, section 7.2).
-ghost use Rattle.std.specs.Prelude.{[], ◌≡◌, ℕ, ◌+◌, ◌*◌, ◌/◌, ◌%◌, ◌<◌, List, IsTrue, length, drop, slice_index, slice_index_or, take};
+ghost use Rattle.std.specs.Prelude.{[], ◌≡◌, ℕ, ◌+◌, ◌*◌, ◌/◌, ◌%◌, ◌<◌, ◌≤◌, List, IsTrue, length, drop, slice_index, slice_index_or, take};
 ghost use Rattle.slh_params.specs.Address.{Address, WOTS_PK};
 ghost use Rattle.slh_params.specs.AdrsType.{type_number};
 ghost use Rattle.slh_params.specs.Params.{len};
@@ -14,21 +14,25 @@ ghost use Rattle.slh_few.specs.Hypertree.{place_above};
 ghost use Rattle.slh_few.specs.Wots.{finished_chain, wots_address};
 ghost use Rattle.slh_few.specs.Xmss.{place, wots_sig_len, xmss_pk_from_sig, xmss_sig_len, xmss_tree};
 ghost use Rattle.slh_few.specs.declared.hypertree.HtSignature.{HtSignature};
-ghost use Rattle.slh_few.specs.declared.wots.TheConstants.{MOST_WOTS_SIG_LEN};
+ghost use Rattle.slh_few.specs.declared.lanes.hypertrees.TheConstants.{MOST_ENDS_LEN};
 
 use crate::hypertree::{HtSignature, place_above, xmss_sig_len};
 use crate::lanes::fors_climbs::has_lanes;
 use crate::nodes::chunk_at;
 use crate::place::Place;
-use crate::wots::{MOST_WOTS_SIG_LEN, put_ends, wots_adrs, wots_sig_len};
+use crate::wots::{put_ends, wots_adrs, wots_sig_len};
 use slh_lanes::{
     GROUP, LaneAdrs, LaneNodes, LaneSeeds, LaneStream, Words, half, lane_node, node_lanes, parity,
     pick_nodes, set_adrs, set_chains, set_hashes, set_lane, set_pairs,
 };
 use slh_params::{AdrsType, Node, ParamSet};
 
+/// The most bytes of a key's ends in lanes. The sets of FIPS 205 have no more. A longer buffer would lie on the stack of
+/// each caller.
+const MOST_ENDS_LEN: usize = 67 * 32;
+
 /// The ends of the chains of eight keys.
-type Ends = [[u8; MOST_WOTS_SIG_LEN]; GROUP];
+type Ends = [[u8; MOST_ENDS_LEN]; GROUP];
 
 /// Puts the PK.seeds into one lane each. False if the build has one lane, or a PK.seed does not have n bytes.
 fn put_seeds(set: ParamSet, signed: &[HtSignature; GROUP], seeds: &mut LaneSeeds) -> bool
@@ -121,11 +125,12 @@ fn put_ends_of(
     at: Place,
     layer: usize,
     msg: &Node,
-    out: &mut [u8; MOST_WOTS_SIG_LEN],
+    out: &mut [u8; MOST_ENDS_LEN],
 ) -> bool
     requires signature { IsUnder set signature.now }
     requires layer { layer < (params set).d }
     requires msg { length msg.now.items ≡ (params set).n }
+    requires few { wots_sig_len (params set) ≤ MOST_ENDS_LEN }
     ensures { IsTrue result → let p = params set in let x = signature.now in
         take (wots_sig_len p) out.new ≡ end_to_end (finished_chain p (pk_seed_of x) at msg.now.items
         (take (wots_sig_len p) (chunk (xmss_sig_len p) x.sig.now layer))) (len p) }
@@ -151,6 +156,7 @@ fn put_all_ends(
 ) -> bool
     requires signed { AreUnder set signed.now }
     requires layer { layer < (params set).d }
+    requires few { wots_sig_len (params set) ≤ MOST_ENDS_LEN }
     ensures { IsTrue result → (j : ℕ) (x : HtSignature) (at : Place) (e : List ℕ) → j < GROUP
         → let p = params set in let x = slice_index_or signed.now j x in
         take (wots_sig_len p) (slice_index_or ends.new j e) ≡ end_to_end (finished_chain p (pk_seed_of x)
@@ -169,7 +175,8 @@ fn put_all_ends(
 
 /// Node `c` of the ends of each key.
 fn ends_at(set: ParamSet, ends: &Ends, c: usize) -> LaneNodes
-    requires { c < len (params set) }
+    requires c { c < len (params set) }
+    requires few { wots_sig_len (params set) ≤ MOST_ENDS_LEN }
     ensures { (j : ℕ) (e : List ℕ) → j < GROUP
         → value_at result j (params set).n ≡ chunk (params set).n (slice_index_or ends.now j e) c }
 {
@@ -183,7 +190,8 @@ fn ends_at(set: ParamSet, ends: &Ends, c: usize) -> LaneNodes
 
 /// T over the ends of each key at these places.
 fn compressed(set: ParamSet, seeds: &LaneSeeds, places: &[Place; GROUP], ends: &Ends) -> LaneNodes
-    requires { params seeds.now.set ≡ params set }
+    requires set { params seeds.now.set ≡ params set }
+    requires few { wots_sig_len (params set) ≤ MOST_ENDS_LEN }
     ensures { (j : ℕ) (pk_seed : List ℕ) (at : Place) (e : List ℕ) → j < GROUP → HasSeedAt seeds.now j pk_seed
         → let p = params set in value_at result j p.n
         ≡ T p pk_seed (wots_address (slice_index_or places.now j at) WOTS_PK 0 0)
@@ -297,6 +305,7 @@ fn put_layer_roots(
     requires signed { AreUnder set signed.now }
     requires seeds { AreSeedsOf set signed.now seeds.now }
     requires layer { layer < (params set).d }
+    requires few { wots_sig_len (params set) ≤ MOST_ENDS_LEN }
     ensures { IsTrue result → (j : ℕ) (x : HtSignature) (at : Place) → j < GROUP → let p = params set in
         let x = slice_index_or signed.now j x in value_at nodes.new j p.n
         ≡ xmss_pk_from_sig p (pk_seed_of x) (slice_index_or places.now j at) (value_at nodes.old j p.n)
@@ -320,9 +329,10 @@ fn put_top_roots(
 ) -> bool
     requires signed { AreUnder set signed.now }
     requires seeds { AreSeedsOf set signed.now seeds.now }
+    requires few { wots_sig_len (params set) ≤ MOST_ENDS_LEN }
     ensures { IsTrue result → AreRootsUnder set signed.now (params set).d nodes.new }
 {
-    let mut ends = [[0; MOST_WOTS_SIG_LEN]; GROUP];
+    let mut ends = [[0; MOST_ENDS_LEN]; GROUP];
     let mut places = first_places(set, signed);
     *nodes = messages_of(set, signed);
     for layer in 0..set.d() as u8 {
@@ -335,8 +345,8 @@ fn put_top_roots(
     true
 }
 
-/// Puts into each lane the root of the top tree that its signature gives. False if the build has no lanes for F and H,
-/// or a PK.seed does not have n bytes.
+/// Puts into each lane the root of the top tree that its signature gives. False if the build has no lanes for F and H, a
+/// PK.seed does not have n bytes, or the ends of a key are too long.
 pub(crate) fn put_roots_in_lanes(
     set: ParamSet,
     signed: &[HtSignature; GROUP],
@@ -350,6 +360,7 @@ pub(crate) fn put_roots_in_lanes(
     };
     let mut seeds = LaneSeeds::splat(first);
     has_lanes(set)
+        && wots_sig_len(set) <= MOST_ENDS_LEN
         && put_seeds(set, signed, &mut seeds)
         && put_top_roots(set, signed, &seeds, nodes)
 }

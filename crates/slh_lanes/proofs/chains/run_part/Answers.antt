@@ -10,4 +10,4 @@ returns-clause-run g c = λ p pk j a n whole lane short held.
     let bytes = λ (l : List ℕ). take p.n (digest_bytes l 8) in
     ap bytes (c.with_eight.ensures.part j lane)
     ∙ c.run-ends.ensures p pk j a n whole lane short (ap (λ (l : List ℕ). take 22 (digest_bytes l 6)) (c.part_of_six-own_adrs.ensures j lane) ∙ held)
-    ∙ ap (λ (l : List ℕ). steps p pk a (bytes l) c.args.from c.args.count) (c.part_of_eight-own.ensures j lane)
+    ∙ (λ i. steps p pk a (bytes (c.part_of_eight-own.ensures j lane i)) (c.part-from.ensures j lane i) (c.part-counts.ensures j lane i))

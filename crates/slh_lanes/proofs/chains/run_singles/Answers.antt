@@ -1,4 +1,4 @@
-use Rattle.std.proofs.Common.{◌≡◌, ℕ, ◌+◌, List, take, inl, inr, arith, ap, ◌∙◌}
+use Rattle.std.proofs.Common.{◌≡◌, ℕ, ◌+◌, List, slice_index, take, inl, inr, arith, ap, ◌∙◌}
 use Rattle.std.proofs.lemmas.Bool.{cases_lt}
 use Rattle.sha2.specs.Sha256.{digest_bytes}
 use Rattle.slh_lanes.specs.Lanes.{HasAddress, value_at}
@@ -16,7 +16,7 @@ lanes-preserved g c =
             | inr ge ↦
                 let here : at + 0 ≡ i = omega arith in
                 rw here at (c.run_part-nodes.ensures.run p pk 0 a n whole (omega arith) short) held
-                ∙ ap (λ (l : List ℕ). steps p pk a (value l) c.args.from c.args.count) (c.lanes.invariant.1 i ge)
+                ∙ ap (λ (l : List ℕ). steps p pk a (value l) (slice_index c.args.from i) (slice_index c.args.counts i)) (c.lanes.invariant.1 i ge)
           ],
       λ i ge. c.run_part-nodes.ensures.others i (inr ge) ∙ c.lanes.invariant.1 i (omega (arith, ge)),
     )

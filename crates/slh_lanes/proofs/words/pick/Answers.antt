@@ -3,6 +3,6 @@ use Rattle.slh_lanes.proofs.words.pick.Goals as goal
 
 pub returns : goal.returns
 returns c = record {
-  below = picked_below c.args.a c.args.b c.args.x c.args.y c.fits-a.0 c.fits-b.0 c.fits-x.0 c.fits-y.0;
-  others = picked_others c.args.a c.args.b c.args.x c.args.y c.fits-a.0 c.fits-b.0 c.fits-x.0 c.fits-y.0;
+  below = picked_below 8 c.args.a c.args.b c.args.x c.args.y c.fits-a.0 c.fits-b.0 c.fits-x.0 c.fits-y.0;
+  others = picked_others 8 c.args.a c.args.b c.args.x c.args.y c.fits-a.0 c.fits-b.0 c.fits-x.0 c.fits-y.0;
 }

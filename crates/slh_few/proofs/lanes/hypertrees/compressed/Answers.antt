@@ -16,7 +16,7 @@ use Rattle.slh_few.proofs.lanes.hypertrees.compressed.Goals as goal
 pub loop-c-init : goal.loop-c-init
 loop-c-init c = λ j pk at e lane seed.
     let none : 0 * (params c.args.set).n ≡ 0 = omega arith in
-    rw none (rw c.requires at (c.under-stream.ensures j pk _ lane seed (c.place_adrs.ensures j at lane)))
+    rw none (rw c.requires.set at (c.under-stream.ensures j pk _ lane seed (c.place_adrs.ensures j at lane)))
 
 pub loop-c-preserved : goal.loop-c-preserved
 loop-c-preserved c = λ j pk at e lane seed.

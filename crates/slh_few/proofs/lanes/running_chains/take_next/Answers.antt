@@ -1,7 +1,7 @@
 -- The ended chain's group is changed alone.
 use Rattle.std.proofs.Common.{ℕ, List, [], slice_index, ap, subst, sym, ◌∙◌, arith}
 use Rattle.std.proofs.lemmas.List.{get_or-set_same, get_or-set_other}
-use Rattle.slh_lanes.specs.Lanes.{group, value_at}
+use Rattle.slh_lanes.specs.Lanes.{value_at}
 use Rattle.slh_few.specs.RunningChains.{IsSameChain, running_at}
 use Rattle.slh_few.specs.declared.lanes.running_chains.RunningChains.{RunningChains}
 use Rattle.slh_few.proofs.RunningChains.{put_same, put_other}

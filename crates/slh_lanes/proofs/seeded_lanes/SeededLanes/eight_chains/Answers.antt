@@ -1,4 +1,4 @@
-use Rattle.std.proofs.Common.{◌≡◌, ℕ, ◌+◌, ◌-◌, List, take, inl, inr, arith, sym, ap, ◌∙◌}
+use Rattle.std.proofs.Common.{◌≡◌, ℕ, ◌+◌, ◌-◌, List, slice_index, take, inl, inr, arith, sym, ap, ◌∙◌}
 use Rattle.std.proofs.lemmas.Bool.{cases_lt}
 use Rattle.sha2.specs.Sha256.{digest_bytes}
 use Rattle.slh_params.specs.ParamSet.{params}
@@ -37,7 +37,7 @@ returns-in-Four c j lane a held =
       | inr ge ↦
           let at : 4 + (j - 4) ≡ j = omega arith in
           rw at at (c.run_part.ensures.run p pk (j - 4) a (sym c.n-n.ensures) lanes.len (omega arith) lanes.short_state) held
-          ∙ ap (λ (l : List ℕ). steps p pk a (value l) c.args.from c.args.count) (c.run_part-low.ensures.others j (inr ge))
+          ∙ ap (λ (l : List ℕ). steps p pk a (value l) (slice_index c.args.from j) (slice_index c.args.counts j)) (c.run_part-low.ensures.others j (inr ge))
     ]
 
 pub returns-in-Eight : goal.returns-in-Eight
