@@ -42,19 +42,34 @@ def test_depths(pytestconfig, compiled, include, lib, tmp_path, archive, how):
     machines.check_depths(pytestconfig, f"x86-64-v{level}", how, program, machines.SHIFTS[level])
 
 
-# Processors that hash all or single messages by SHA instructions, in an emulator, and whose depths are theirs.
-WITH_SHA = {"Denverton": ("x86-64-v2-sha", 2), "EPYC-Rome": ("x86-64-v3", 3)}
+# Archives that hash all or single messages by SHA instructions on a processor in an emulator, and whose depths are theirs.
+WITH_SHA = {("Denverton", "libslh.a"): ("x86-64-v2-sha", 2), ("Denverton", "libslh-v2.a"): ("x86-64-v2", 2),
+            ("EPYC-Rome", "libslh.a"): ("x86-64-v3", 3)}
 EMULATED = [pytest.mark.slow, pytest.mark.emulator]
+# No emulator has x86-64-v4: the program is told of the instructions, and emulates them.
+AT_V4 = "PROCESSOR", "skylake with SHA instructions"
+BY_SIGNALS = [str(TESTS / it) for it in ("forced_level.c", "sha_by_signals.c")]
 
 
-@pytest.mark.parametrize("processor", [pytest.param(it, marks=EMULATED) for it in WITH_SHA])
-def test_depths_by_sha_instructions(pytestconfig, compiled, include, lib, tmp_path, processor):
-    target, level = WITH_SHA[processor]
+@pytest.mark.parametrize("processor, archive", [pytest.param(*it, marks=EMULATED) for it in WITH_SHA])
+def test_depths_by_sha_instructions(pytestconfig, compiled, include, lib, tmp_path, processor, archive):
+    target, level = WITH_SHA[processor, archive]
     if pytestconfig.option.write and not target.endswith("-sha"):
         pytest.skip("with --write the archive of each level is measured")
-    program = machines.depths_program(compiled, MACHINE, include, lib / "libslh.a", tmp_path)
+    program = machines.depths_program(compiled, MACHINE, include, lib / archive, tmp_path)
     machines.check_depths(pytestconfig, target, machines.how_deep(pytestconfig),
                           *machines.qemu_with_sha(processor), program, machines.SHIFTS[level])
+
+
+@pytest.mark.slow
+def test_depths_by_sha_instructions_at_the_highest_level(pytestconfig, compiled, include, lib, tmp_path, monkeypatch):
+    need_level(4)
+    if pytestconfig.option.write:
+        pytest.skip("with --write the archive of each level is measured")
+    monkeypatch.setenv(*AT_V4)
+    machine = MACHINE._replace(words=BY_SIGNALS)
+    program = machines.depths_program(compiled, machine, include, lib / "libslh.a", tmp_path, "slh_ask_processor")
+    machines.check_depths(pytestconfig, "x86-64-v4", "few", program, machines.SHIFTS[4])
 
 
 def test_caller_erases_its_buffer(compiled, include, lib):
@@ -98,12 +113,21 @@ def test_calls_leave_no_secret_under_all_sets(search, library):
     search(library)
 
 
-@pytest.mark.parametrize("processor, of_set", [
-    pytest.param(processor, name, marks=[*EMULATED, pytest.mark.drawn(f"the set of {processor}", "of_set")])
-    for processor in WITH_SHA for name in SETS])
-def test_calls_by_sha_instructions_leave_no_secret(compiled, include, lib, processor, of_set):
-    program = machines.search_program(compiled, MACHINE, include, lib / "libslh.a")
+@pytest.mark.parametrize("processor, archive, of_set", [
+    pytest.param(*it, name, marks=[*EMULATED, pytest.mark.drawn(f"the set of {it[1]} on {it[0]}", "of_set")])
+    for it in WITH_SHA for name in SETS])
+def test_calls_by_sha_instructions_leave_no_secret(compiled, include, lib, processor, archive, of_set):
+    program = machines.search_program(compiled, MACHINE, include, lib / archive)
     counted(*machines.qemu_with_sha(processor), program, SETS[of_set])
+
+
+@pytest.mark.parametrize("of_set", [
+    pytest.param(it, marks=drawn("the set of x86-64-v4 by SHA instructions", "of_set")) for it in SETS])
+def test_calls_by_sha_instructions_at_the_highest_level_leave_no_secret(compiled, include, lib, tmp_path, of_set):
+    need_level(4)
+    machines.with_weak(MACHINE, lib / "libslh.a", tmp_path / "weak.a", "slh_ask_processor")
+    program = machines.search_program(compiled, MACHINE, include, *BY_SIGNALS, tmp_path / "weak.a")
+    counted(program, SETS[of_set], env=dict([*os.environ.items(), AT_V4]))
 
 
 @pytest.mark.slow

@@ -43,7 +43,7 @@ mapfile -t crates < <(lines | sed 's/[: ].*//')
     {
         find HANDLES VERSION c/{exports,include,portable} c/starter.c \
             tools/{clang.sh,for_128.sed,for_hook.sed,for_machine.sed,for_size.sed,kit.py,lay_out.py} \
-            tools/for_{pads_arm,pads_x86,sha256_arm,sha256_x86,sha512_arm,single_x86}.sed \
+            tools/for_{pads_arm,pads_x86,sha256_arm,sha256_x86,sha512_arm,single_arm,single_long_arm,single_x86}.sed \
             tools/{portable.py,program.sh,symbols.sh,targets.py} -type f -print0
         find "${crates[@]/#/crates/}" -path '*/out' -prune -o -path '*/tests/*' -o -name 'tests.*' \
             -o \( -path '*/src/*' -o -path '*/specs/*' -o -path '*/proofs/*' \) -type f -print0
