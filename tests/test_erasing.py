@@ -42,34 +42,36 @@ def test_depths(pytestconfig, compiled, include, lib, tmp_path, archive, how):
     machines.check_depths(pytestconfig, f"x86-64-v{level}", how, program, machines.SHIFTS[level])
 
 
-# Archives that hash all or single messages by SHA instructions on a processor in an emulator, and whose depths are theirs.
-WITH_SHA = {("Denverton", "libslh.a"): ("x86-64-v2-sha", 2), ("Denverton", "libslh-v2.a"): ("x86-64-v2", 2),
-            ("EPYC-Rome", "libslh.a"): ("x86-64-v3", 3)}
+# Processors that hash all or single messages by SHA instructions, in an emulator, and whose depths are theirs.
+WITH_SHA = {"Denverton": ("x86-64-v2-sha", 2), "EPYC-Rome": ("x86-64-v3", 3)}
 EMULATED = [pytest.mark.slow, pytest.mark.emulator]
-# No emulator has x86-64-v4: the program is told of the instructions, and emulates them.
-AT_V4 = "PROCESSOR", "skylake with SHA instructions"
+# Archives whose program emulates the instructions: no emulator has x86-64-v4. C's library uses this processor's vectors, so
+# the one that the program names has them all.
+OF_SIGNALS = {"libslh.a": ("x86-64-v4", 4), "libslh-v2.a": ("x86-64-v2", 2)}
+AS_PROCESSOR = "PROCESSOR", "skylake with SHA instructions"
 BY_SIGNALS = [str(TESTS / it) for it in ("forced_level.c", "sha_by_signals.c")]
 
 
-@pytest.mark.parametrize("processor, archive", [pytest.param(*it, marks=EMULATED) for it in WITH_SHA])
-def test_depths_by_sha_instructions(pytestconfig, compiled, include, lib, tmp_path, processor, archive):
-    target, level = WITH_SHA[processor, archive]
+@pytest.mark.parametrize("processor", [pytest.param(it, marks=EMULATED) for it in WITH_SHA])
+def test_depths_by_sha_instructions(pytestconfig, compiled, include, lib, tmp_path, processor):
+    target, level = WITH_SHA[processor]
     if pytestconfig.option.write and not target.endswith("-sha"):
         pytest.skip("with --write the archive of each level is measured")
-    program = machines.depths_program(compiled, MACHINE, include, lib / archive, tmp_path)
+    program = machines.depths_program(compiled, MACHINE, include, lib / "libslh.a", tmp_path)
     machines.check_depths(pytestconfig, target, machines.how_deep(pytestconfig),
                           *machines.qemu_with_sha(processor), program, machines.SHIFTS[level])
 
 
-@pytest.mark.slow
-def test_depths_by_sha_instructions_at_the_highest_level(pytestconfig, compiled, include, lib, tmp_path, monkeypatch):
+@pytest.mark.parametrize("archive", [pytest.param(it, marks=drawn("depths by signals", "archive")) for it in OF_SIGNALS])
+def test_depths_by_emulated_instructions(pytestconfig, compiled, include, lib, tmp_path, archive, monkeypatch):
+    target, level = OF_SIGNALS[archive]
     need_level(4)
     if pytestconfig.option.write:
         pytest.skip("with --write the archive of each level is measured")
-    monkeypatch.setenv(*AT_V4)
+    monkeypatch.setenv(*AS_PROCESSOR)
     machine = MACHINE._replace(words=BY_SIGNALS)
-    program = machines.depths_program(compiled, machine, include, lib / "libslh.a", tmp_path, "slh_ask_processor")
-    machines.check_depths(pytestconfig, "x86-64-v4", "few", program, machines.SHIFTS[4])
+    program = machines.depths_program(compiled, machine, include, lib / archive, tmp_path, "slh_ask_processor")
+    machines.check_depths(pytestconfig, target, "few", program, machines.SHIFTS[level])
 
 
 def test_caller_erases_its_buffer(compiled, include, lib):
@@ -113,21 +115,23 @@ def test_calls_leave_no_secret_under_all_sets(search, library):
     search(library)
 
 
-@pytest.mark.parametrize("processor, archive, of_set", [
-    pytest.param(*it, name, marks=[*EMULATED, pytest.mark.drawn(f"the set of {it[1]} on {it[0]}", "of_set")])
-    for it in WITH_SHA for name in SETS])
-def test_calls_by_sha_instructions_leave_no_secret(compiled, include, lib, processor, archive, of_set):
-    program = machines.search_program(compiled, MACHINE, include, lib / archive)
+@pytest.mark.parametrize("processor, of_set", [
+    pytest.param(processor, name, marks=[*EMULATED, pytest.mark.drawn(f"the set of {processor}", "of_set")])
+    for processor in WITH_SHA for name in SETS])
+def test_calls_by_sha_instructions_leave_no_secret(compiled, include, lib, processor, of_set):
+    program = machines.search_program(compiled, MACHINE, include, lib / "libslh.a")
     counted(*machines.qemu_with_sha(processor), program, SETS[of_set])
 
 
-@pytest.mark.parametrize("of_set", [
-    pytest.param(it, marks=drawn("the set of x86-64-v4 by SHA instructions", "of_set")) for it in SETS])
-def test_calls_by_sha_instructions_at_the_highest_level_leave_no_secret(compiled, include, lib, tmp_path, of_set):
+@pytest.mark.parametrize("archive, of_set", [
+    pytest.param(archive, name, marks=drawn(f"the set of {archive} by signals", "of_set"))
+    for archive in OF_SIGNALS for name in SETS])
+def test_calls_by_emulated_instructions_leave_no_secret(compiled, include, lib, tmp_path, archive, of_set, monkeypatch):
     need_level(4)
-    machines.with_weak(MACHINE, lib / "libslh.a", tmp_path / "weak.a", "slh_ask_processor")
+    monkeypatch.setenv(*AS_PROCESSOR)
+    machines.with_weak(MACHINE, lib / archive, tmp_path / "weak.a", "slh_ask_processor")
     program = machines.search_program(compiled, MACHINE, include, *BY_SIGNALS, tmp_path / "weak.a")
-    counted(program, SETS[of_set], env=dict([*os.environ.items(), AT_V4]))
+    counted(program, SETS[of_set])
 
 
 @pytest.mark.slow
