@@ -30,7 +30,8 @@ ALSO_OF_C = ["memcmp", "bcmp"]
 OF_RUNTIME = re.compile("_ITM_|__cxa_finalize|__gmon_start__")
 
 # The names of its own that an archive of several objects defines.
-OF_ARCHIVE = re.compile(r"slh_(\w+_(v[234]|proved)|clear|choice|choose|has_sha|ask_processor|sha256|sha512|probe|mem(cpy|move|set))")
+OF_ARCHIVE = re.compile(
+    r"slh_(\w+_(v[234]|proved)|clear|choice|choose|has_sha|ask_processor|sha(256|512)|probe|mem(cpy|move|set))")
 
 # The targets of which SLH_SEED draws one. The test commands of a release and of a few tests run all, as --all does.
 OTHERS = [] if os.environ.get("SLH_MODE") in ("release", "few") else [pytest.mark.drawn("the other target", "target")]

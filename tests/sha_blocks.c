@@ -1,7 +1,7 @@
 /*
- * Compares a block by the proved functions of the kit's `sha2` (model_compress, long_model_compress) with the same by SHA
- * instructions: SHA-256 of x86-64 (c/exports/sha256_x86.c), SHA-256 and SHA-512 of ARM (c/exports/sha2_arm.c). It does
- * so on random bytes, on words such as 0 and the highest bit, on single bits, on a mixture, and on each input that
+ * Compares a block by the proved functions of the kit's `sha2` (model_compress, long_model_compress) with the same by
+ * SHA instructions: SHA-256 of x86-64 (c/exports/sha256_x86.c), SHA-256 and SHA-512 of ARM (c/exports/sha2_arm.c). It
+ * does so on random bytes, on words such as 0 and the highest bit, on single bits, on a mixture, and on each input that
  * differs in one bit from zeros or from ones. Blocks begin at any address. Usage: sha_blocks TRIES SEED.
  */
 #include "drawn_words.h"

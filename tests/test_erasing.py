@@ -45,8 +45,8 @@ def test_depths(pytestconfig, compiled, include, lib, tmp_path, archive, how):
 # Processors that hash all or single messages by SHA instructions, in an emulator, and whose depths are theirs.
 WITH_SHA = {"Denverton": ("x86-64-v2-sha", 2), "EPYC-Rome": ("x86-64-v3", 3)}
 EMULATED = [pytest.mark.slow, pytest.mark.emulator]
-# Archives whose program emulates the instructions: no emulator has x86-64-v4. C's library uses this processor's vectors, so
-# the one that the program names has them all.
+# Archives whose program emulates the instructions: no emulator has x86-64-v4. C's library uses this processor's vectors,
+# so the one that the program names has them all.
 OF_SIGNALS = {"libslh.a": ("x86-64-v4", 4), "libslh-v2.a": ("x86-64-v2", 2)}
 AS_PROCESSOR = "PROCESSOR", "skylake with SHA instructions"
 BY_SIGNALS = [str(TESTS / it) for it in ("forced_level.c", "sha_by_signals.c")]

@@ -144,7 +144,8 @@ def test_vectors_on_a_lesser_processor(pytestconfig, emulated, prefix, archive, 
 @pytest.mark.slow
 @pytest.mark.parametrize("processor", [
     pytest.param(it, marks=pytest.mark.drawn("the processor with SHA instructions", "processor")) for it in WITH_SHA])
-def test_vectors_by_sha_instructions(pytestconfig, emulated, prefix, archive, compiled, tmp_path, processor, monkeypatch):
+def test_vectors_by_sha_instructions(pytestconfig, emulated, prefix, archive, compiled, tmp_path, processor,
+                                     monkeypatch):
     """Of single messages. On a processor without them the program emulates them."""
     need_level(WITH_SHA[processor])
     monkeypatch.setenv("PROCESSOR", processor)

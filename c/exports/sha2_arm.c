@@ -104,7 +104,8 @@ struct long_state {
 
 WITH("sha3") struct long_state two_rounds(struct long_state it, pair sums) {
     pair sum = it.gh + __builtin_shufflevector(sums, sums, 1, 0);
-    pair half = (pair)__builtin_neon_vsha512hq_u64((bytes)sum, (bytes)between(it.ef, it.gh), (bytes)between(it.cd, it.ef), U64X2);
+    pair fg = between(it.ef, it.gh), de = between(it.cd, it.ef);
+    pair half = (pair)__builtin_neon_vsha512hq_u64((bytes)sum, (bytes)fg, (bytes)de, U64X2);
     pair ab = (pair)__builtin_neon_vsha512h2q_u64((bytes)half, (bytes)it.cd, (bytes)it.ab, U64X2);
     return (struct long_state){ab, it.ab, it.cd + half, it.ef};
 }
