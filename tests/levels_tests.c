@@ -4,7 +4,10 @@
  * be refused. It is linked with a libslh.a whose slh_ask_processor and slh_choice are to be seen, the first of them weak
  * (tests/machines.py makes it so).
  *
- * usage: levels_tests LEVEL      LEVEL is the best that this processor runs: 2, 3 or 4
+ * usage: levels_tests LEVEL [PROCESSOR..]      LEVEL is the best that this processor runs: 2, 3 or 4
+ *
+ * With names of processors.h the threads alone are tried, as if it were these: for such with SHA instructions, which an
+ * emulator or tests/sha_by_signals.c runs.
  *
  * The last line is 'N passed, M failed', and the status is 0 where nothing failed.
  */
@@ -20,7 +23,7 @@
 #include <string.h>
 #include <time.h>
 
-enum { THREADS = 64, ROUNDS = 40 };
+enum { THREADS = 64, ROUNDS = 40, ROUNDS_EMULATED = 2 };
 enum { SET = SLH_DSA_SHA2_128F, KEY = SLH_DSA_SHA2_128F_SECRET_KEY, N = SLH_DSA_SHA2_128F_N };
 enum { BATCHES = 200, CALLS = 10000, MOST_NANOSECONDS = 20 };
 
@@ -194,6 +197,11 @@ static void *call_at_once(void *to) {
     return NULL;
 }
 
+/* The SHA instructions of the row are chosen, and none otherwise. */
+static int is_chosen(const struct processor *row) {
+    return ((slh_choice & 0xff) == V2_SHA) == (row->by_sha == ALL) && slh_choice >> 16 == (row->by_sha != NOTHING);
+}
+
 static int is_whole(const struct processor *row, const uint8_t *sk) {
     static struct seen seen[THREADS];
     pthread_t threads[THREADS];
@@ -210,19 +218,23 @@ static int is_whole(const struct processor *row, const uint8_t *sk) {
         is_right &= seen[i].result == SLH_DONE && memcmp(seen[i].sk, sk, KEY) == 0;
         is_right &= seen[i].first == (i % 2 ? row->level : 0) && seen[i].then == row->level;
     }
-    return is_right;
+    return is_right && is_chosen(row);
 }
 
-static void test_threads(uint32_t best) {
+static void test_threads(const struct processor *row, int rounds) {
     uint8_t sk[KEY];
+    int is_right = 1;
     level_for(processors[NEHALEM].it);
     if (slh_keygen(SET, seeds, N, seeds + N, N, seeds + 2 * N, N, sk, KEY) != SLH_DONE) exit(2);
     if (pthread_barrier_init(&barrier, NULL, THREADS)) exit(2);
-    for (int i = NEHALEM; i <= SKYLAKE && processors[i].level <= best; i++) {
-        int is_right = 1;
-        for (int round = 0; round < ROUNDS; round++) is_right &= is_whole(&processors[i], sk);
-        tell("first calls at once", is_right);
-    }
+    for (int round = 0; round < rounds; round++) is_right &= is_whole(row, sk);
+    tell("first calls at once", is_right);
+}
+
+static const struct processor *named(const char *name) {
+    for (int i = 0; i < PROCESSORS; i++)
+        if (strcmp(processors[i].name, name) == 0) return &processors[i];
+    exit(2);
 }
 
 /* The choice is made once: after it nobody asks again. */
@@ -258,14 +270,17 @@ static void test_time(void) {
 }
 
 int main(int argc, char **argv) {
-    uint32_t best = argc == 2 ? (uint32_t)atoi(argv[1]) : 0;
+    uint32_t best = argc > 1 ? (uint32_t)atoi(argv[1]) : 0;
     if (best < 2 || best > 4) return 2;
-    test_processors();
-    test_lacking();
-    test_below_v2();
-    test_once();
-    test_threads(best);
-    test_time();
+    for (int i = 2; i < argc; i++) test_threads(named(argv[i]), ROUNDS_EMULATED);
+    if (argc == 2) {
+        test_processors();
+        test_lacking();
+        test_below_v2();
+        test_once();
+        for (int i = NEHALEM; i <= SKYLAKE && processors[i].level <= best; i++) test_threads(&processors[i], ROUNDS);
+        test_time();
+    }
     printf("%u passed, %u failed\n", passed, failed);
     return failed != 0;
 }

@@ -30,7 +30,8 @@ ALSO_OF_C = ["memcmp", "bcmp"]
 OF_RUNTIME = re.compile("_ITM_|__cxa_finalize|__gmon_start__")
 
 # The names of its own that an archive of several objects defines.
-OF_ARCHIVE = re.compile(r"slh_(\w+_(v[234]|proved)|clear|choice|choose|has_sha|ask_processor|sha256|probe|mem(cpy|move|set))")
+OF_ARCHIVE = re.compile(
+    r"slh_(\w+_(v[234]|proved)|clear|choice|choose|has_sha|ask_processor|sha(256|512)|probe|mem(cpy|move|set))")
 
 # The targets of which SLH_SEED draws one. The test commands of a release and of a few tests run all, as --all does.
 OTHERS = [] if os.environ.get("SLH_MODE") in ("release", "few") else [pytest.mark.drawn("the other target", "target")]
@@ -306,14 +307,34 @@ uint32_t slh_clear(uint32_t result, size_t depth, uint32_t vectors) {
 """
 
 
+# Makes a key of the set in the first word. The bytes of SK.seed and SK.prf are the second word, and PK.seed is zero. A
+# loop runs as often as the secret's bits in the mask of the third word say.
+KEYGEN = """\
+#include <slh.h>
+#include <stdlib.h>
+
+int main(int count, char **words) {
+    static uint8_t seeds[2 * SLH_MAX_N], public_seed[SLH_MAX_N], sk[SLH_MAX_SECRET_KEY];
+    uint32_t set = (uint32_t)atoi(words[1]);
+    size_t pk_len, sk_len, sig_len, n;
+    volatile int turns = 0;
+    if (count != 4 || slh_lengths(set, &pk_len, &sk_len, &sig_len, &n) != SLH_DONE) return 2;
+    for (size_t i = 0; i < sizeof seeds; i++) seeds[i] = (uint8_t)atoi(words[2]);
+    for (int i = 0; i < (seeds[0] & atoi(words[3])); i++) turns++;
+    return slh_keygen(set, seeds, n, seeds + n, n, public_seed, n, sk, sk_len) != SLH_DONE;
+}
+"""
+
+
 # From how many places a call is measured, by level: code that aligns its stack to 32 or 64 bytes takes more from some.
 SHIFTS = {2: "1", 3: "2", 4: "4"}
 HEAD_OF_DEPTHS = "/* How deep each call goes, in bytes: for a number of no set, and for each set. By pytest --write. */\n"
 
 
-def depths_program(compiled, machine, include, archive, folder):
-    """The program that measures how deep calls go, over an archive whose slh_clear is its own."""
-    with_weak(machine, archive, folder / "weak.a", "slh_clear")
+def depths_program(compiled, machine, include, archive, folder, *names):
+    """The program that measures how deep calls go, over an archive whose slh_clear is its own, and whose NAMES those of
+    files among the machine's words."""
+    with_weak(machine, archive, folder / "weak.a", "slh_clear", *names)
     return compiled("depths.exe", "-std=c11", *STRICT, "-O1", "-static", *machine.words, "-I", include,
                     TESTS / "library_depths.c", folder / "weak.a", cc=machine.cc)
 

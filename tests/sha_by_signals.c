@@ -1,14 +1,18 @@
 /*
  * Emulates the SHA instructions of x86-64 (Intel's manual, volume 2) for a program that is linked with it: on a processor
- * that lacks them they end in SIGILL. The handler has a stack apart. So code for x86-64-v4, which qemu does not emulate,
- * runs with them. It knows them with registers alone.
+ * that lacks them they end in SIGILL, or in an exception of Windows. So code for x86-64-v4, which qemu does not emulate,
+ * runs with them, and code for Windows. It knows them with registers alone. On Linux the handler has a stack apart.
  */
 #define _GNU_SOURCE
-#include <signal.h>
 #include <stdint.h>
 #include <stdlib.h>
 #include <string.h>
+#ifdef _WIN32
+#include <windows.h>
+#else
+#include <signal.h>
 #include <ucontext.h>
+#endif
 
 enum { RNDS2 = 0xcb, MSG1 = 0xcc, MSG2 = 0xcd, WORDS = 4, REX = 0x40, REGISTERS = 0xc0 };
 
@@ -40,18 +44,33 @@ static void rnds2(uint32_t *cdgh, const uint32_t *abef, const uint32_t *sums) {
     memcpy(cdgh, after, sizeof after);
 }
 
+/* What comes after the instruction at an address, which is emulated with the registers from xmm0 on. */
+static const uint8_t *emulated(const uint8_t *code, uint32_t *first) {
+    int rex = (*code & 0xf0) == REX ? *code++ : 0;
+    if (code[0] != 0x0f || code[1] != 0x38 || code[2] < RNDS2 || code[2] > MSG2 || code[3] < REGISTERS) abort();
+    uint32_t *a = first + WORDS * ((code[3] >> 3 & 7) + (rex & 4 ? 8 : 0));
+    uint32_t *b = first + WORDS * ((code[3] & 7) + (rex & 1 ? 8 : 0));
+    code[2] == RNDS2 ? rnds2(a, b, first) : code[2] == MSG1 ? msg1(a, b) : msg2(a, b);
+    return code + 4;
+}
+
+#ifdef _WIN32
+static LONG CALLBACK emulate(EXCEPTION_POINTERS *it) {
+    CONTEXT *machine = it->ContextRecord;
+    if (it->ExceptionRecord->ExceptionCode != EXCEPTION_ILLEGAL_INSTRUCTION) return EXCEPTION_CONTINUE_SEARCH;
+    machine->Rip = (DWORD64)emulated((const uint8_t *)machine->Rip, (uint32_t *)&machine->Xmm0);
+    return EXCEPTION_CONTINUE_EXECUTION;
+}
+
+__attribute__((constructor)) static void begin(void) {
+    if (!AddVectoredExceptionHandler(1, emulate)) abort();
+}
+#else
 static void emulate(int signal, siginfo_t *info, void *context) {
     (void)signal, (void)info;
     mcontext_t *machine = &((ucontext_t *)context)->uc_mcontext;
     greg_t *next = &machine->gregs[REG_RIP];
-    const uint8_t *code = (const uint8_t *)*next;
-    int rex = (*code & 0xf0) == REX ? *code++ : 0;
-    if (code[0] != 0x0f || code[1] != 0x38 || code[2] < RNDS2 || code[2] > MSG2 || code[3] < REGISTERS) abort();
-    uint32_t *first = machine->fpregs->_xmm[0].element;
-    uint32_t *a = first + WORDS * ((code[3] >> 3 & 7) + (rex & 4 ? 8 : 0));
-    uint32_t *b = first + WORDS * ((code[3] & 7) + (rex & 1 ? 8 : 0));
-    code[2] == RNDS2 ? rnds2(a, b, first) : code[2] == MSG1 ? msg1(a, b) : msg2(a, b);
-    *next = (greg_t)(code + 4);
+    *next = (greg_t)emulated((const uint8_t *)*next, machine->fpregs->_xmm[0].element);
 }
 
 __attribute__((constructor)) static void begin(void) {
@@ -60,3 +79,4 @@ __attribute__((constructor)) static void begin(void) {
     struct sigaction action = {.sa_sigaction = emulate, .sa_flags = SA_SIGINFO | SA_ONSTACK};
     if (sigaltstack(&stack, NULL) || sigaction(SIGILL, &action, NULL)) abort();
 }
+#endif

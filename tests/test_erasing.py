@@ -45,6 +45,11 @@ def test_depths(pytestconfig, compiled, include, lib, tmp_path, archive, how):
 # Processors that hash all or single messages by SHA instructions, in an emulator, and whose depths are theirs.
 WITH_SHA = {"Denverton": ("x86-64-v2-sha", 2), "EPYC-Rome": ("x86-64-v3", 3)}
 EMULATED = [pytest.mark.slow, pytest.mark.emulator]
+# Archives whose program emulates the instructions: no emulator has x86-64-v4. C's library uses this processor's vectors,
+# so the one that the program names has them all.
+OF_SIGNALS = {"libslh.a": ("x86-64-v4", 4), "libslh-v2.a": ("x86-64-v2", 2)}
+AS_PROCESSOR = "PROCESSOR", "skylake with SHA instructions"
+BY_SIGNALS = [str(TESTS / it) for it in ("forced_level.c", "sha_by_signals.c")]
 
 
 @pytest.mark.parametrize("processor", [pytest.param(it, marks=EMULATED) for it in WITH_SHA])
@@ -55,6 +60,18 @@ def test_depths_by_sha_instructions(pytestconfig, compiled, include, lib, tmp_pa
     program = machines.depths_program(compiled, MACHINE, include, lib / "libslh.a", tmp_path)
     machines.check_depths(pytestconfig, target, machines.how_deep(pytestconfig),
                           *machines.qemu_with_sha(processor), program, machines.SHIFTS[level])
+
+
+@pytest.mark.parametrize("archive", [pytest.param(it, marks=drawn("depths by signals", "archive")) for it in OF_SIGNALS])
+def test_depths_by_emulated_instructions(pytestconfig, compiled, include, lib, tmp_path, archive, monkeypatch):
+    target, level = OF_SIGNALS[archive]
+    need_level(4)
+    if pytestconfig.option.write:
+        pytest.skip("with --write the archive of each level is measured")
+    monkeypatch.setenv(*AS_PROCESSOR)
+    machine = MACHINE._replace(words=BY_SIGNALS)
+    program = machines.depths_program(compiled, machine, include, lib / archive, tmp_path, "slh_ask_processor")
+    machines.check_depths(pytestconfig, target, "few", program, machines.SHIFTS[level])
 
 
 def test_caller_erases_its_buffer(compiled, include, lib):
@@ -104,6 +121,17 @@ def test_calls_leave_no_secret_under_all_sets(search, library):
 def test_calls_by_sha_instructions_leave_no_secret(compiled, include, lib, processor, of_set):
     program = machines.search_program(compiled, MACHINE, include, lib / "libslh.a")
     counted(*machines.qemu_with_sha(processor), program, SETS[of_set])
+
+
+@pytest.mark.parametrize("archive, of_set", [
+    pytest.param(archive, name, marks=drawn(f"the set of {archive} by signals", "of_set"))
+    for archive in OF_SIGNALS for name in SETS])
+def test_calls_by_emulated_instructions_leave_no_secret(compiled, include, lib, tmp_path, archive, of_set, monkeypatch):
+    need_level(4)
+    monkeypatch.setenv(*AS_PROCESSOR)
+    machines.with_weak(MACHINE, lib / archive, tmp_path / "weak.a", "slh_ask_processor")
+    program = machines.search_program(compiled, MACHINE, include, *BY_SIGNALS, tmp_path / "weak.a")
+    counted(program, SETS[of_set])
 
 
 @pytest.mark.slow

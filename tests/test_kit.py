@@ -60,7 +60,7 @@ def test_unknown_words_are_refused(of_kit, words):
                      "rules": "for_single_x86.sed for_pads_x86.sed"}),
     (["wasm64", "1", "small"], {"lanes": "0 0", "word": "-msimd128", "size": "small"}),
     (["aarch64-sha256"], {"lanes": "4 0", "word": "-march=armv8-a+sha2",
-                          "rules": "for_sha256_arm.sed for_pads_arm.sed"}),
+                          "rules": "for_sha256_arm.sed for_single_arm.sed for_pads_arm.sed"}),
     (["windows-x86-64-v2"], {"rules": "for_single_x86.sed"}),
     (["x86-64-v2-sha"], {"lanes": "4 1", "word": "-msha"}),
     (["aarch64", "8", "module"], {"lanes": "2 2", "word": "module", "size": "fast", "rules": "for_pads_arm.sed"})], ids=lambda it: " ".join(it))

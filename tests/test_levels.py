@@ -99,12 +99,29 @@ def test_shared_object_chooses_the_best_level(lib):
     assert ctypes.CDLL(str(lib / "libslh.so.0")).slh_level() == best_level()
 
 
+@pytest.fixture(scope="module")
+def levels(compiled, installed, weak):
+    """Compiles the program that tries the choice: levels(NAME, WORD..)."""
+    return lambda name, *words: compiled(name, "-std=c11", *STRICT, "-O1", "-I", installed / "include",
+                                         TESTS / "levels_tests.c", weak, "-pthread", *words)
+
+
 @pytest.mark.slow
-def test_choice_for_each_processor(compiled, installed, weak):
+def test_choice_for_each_processor(levels):
     """And for 64 threads whose first calls come at once."""
-    program = compiled("levels", "-std=c11", *STRICT, "-O1", "-I", installed / "include", TESTS / "levels_tests.c",
-                       weak, "-pthread")
-    counted(program, str(best_level()))
+    counted(levels("levels"), str(best_level()))
+
+
+@pytest.mark.parametrize("name", [pytest.param(it, marks=[pytest.mark.slow, pytest.mark.emulator]) for it in WITH_SHA])
+def test_first_calls_at_once_by_sha_instructions(levels, name):
+    emulates, _, level = WITH_SHA[name]
+    counted(*machines.qemu_with_sha(emulates), levels("levels", "-static"), str(level), name)
+
+
+@pytest.mark.slow
+def test_first_calls_at_once_by_sha_instructions_at_the_highest_level(levels):
+    need_level(4)
+    counted(levels("by_signals", TESTS / "sha_by_signals.c"), "4", "skylake with SHA instructions")
 
 
 @pytest.mark.parametrize("processor", [
@@ -203,6 +220,31 @@ def test_sha_instructions_run_if_chosen(emulated_with_sha, linked, weak, letter,
     assert outcome(without, without.lower()).output == VALID.output
     assert outcome(without, name).status == ILLEGAL
     assert outcome(emulates, without.lower()).output == outcome(emulates, name).output == VALID.output
+
+
+@pytest.fixture
+def blocks_of(linked, lib, tmp_path):
+    """The blocks of code that an emulated processor takes, one after another, to make a key: blocks_of(NAME, SET, BYTE,
+    MASK) is a hash of their addresses."""
+    (tmp_path / "keygen.c").write_text(machines.KEYGEN)
+    program = linked("-std=c11", *STRICT, "-O1", tmp_path / "keygen.c", lib / "libslh.a")
+
+    def blocks_of(name, *words):
+        succeed(*machines.qemu_with_sha(name), "-d", "exec,nochain", "-D", tmp_path / "blocks", program, *map(str, words))
+        found = re.findall(rb"^Trace 0: \S+ \[\w+/(\w+)/", (tmp_path / "blocks").read_bytes(), re.M)
+        assert len(found) > 10_000
+        return hash(tuple(found))
+
+    return blocks_of
+
+
+@pytest.mark.parametrize("name", [pytest.param(it, marks=EMULATED) for it in WITH_SHA])
+def test_each_secret_takes_the_same_way_by_sha_instructions(blocks_of, name):
+    """memcheck, which marks secrets, does not know them. One turn of a loop that depends on a secret is another way."""
+    emulates = WITH_SHA[name][0]
+    for of_set in 2, 4, 6:
+        assert len({blocks_of(emulates, of_set, byte, 0) for byte in (100, 155, 254)}) == 1
+    assert blocks_of(emulates, 2, 100, 1) != blocks_of(emulates, 2, 155, 1)
 
 
 @pytest.mark.parametrize("archive", ["libslh.a", *(f"libslh-v{it}.a" for it in LEVELS)])

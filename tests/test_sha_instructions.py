@@ -1,5 +1,5 @@
-"""The functions that rules of tools/ exchange for SHA instructions, those of slh_lanes for ARM, and for x86-64 the
-compression of the kit's `sha2`: what stands in their place computes what the proved ones do, a wrong one is found, and
+"""The functions that rules of tools/ exchange for SHA instructions, those of slh_lanes and the compressions of the kit's
+`sha2`: what stands in their place computes what the proved ones do, a wrong one is found, and
 tools/clang.sh refuses a module that a rule does not know. All is compiled by the kit's clang, and run by qemu. SLH_SEED
 draws the words that they get.
 """
@@ -20,7 +20,8 @@ import targets
 pytestmark = [pytest.mark.slow, pytest.mark.emulator]
 RULES = {"aarch64": [HERE / "tools" / it for it in ("for_sha256_arm.sed", "for_sha512_arm.sed")],
          "x86-64": [HERE / "tools/for_sha256_x86.sed"]}
-OF_X86, SINGLE = HERE / "c/exports/sha256_x86.c", "sha2::block256::compress"
+SINGLE, LONG_SINGLE = "sha2::block256::compress", "sha2::block512::compress"
+OF_X86 = HERE / "c/exports/sha256_x86.c"
 OWN = "slh_lanes::instructions::"
 TRIES = 1_000_000
 ROUNDS, WORDS = "ptr %to, ptr %state, ptr %sums", "ptr %to, ptr %a, ptr %b, ptr %c, ptr %d"
@@ -53,8 +54,28 @@ WRONG = {"aarch64": [
     ("sha256msg2(<4 x i32> %most, <4 x i32> %w3)", "sha256msg2(<4 x i32> %most, <4 x i32> %w2)"),
 ]}
 
-# The same of c/exports/sha256_x86.c.
-WRONG_X86 = [
+# The same of the files that hash single messages.
+SINGLES = {"aarch64": HERE / "c/exports/sha2_arm.c", "x86-64": OF_X86}
+WRONG_SINGLES = {"aarch64": [
+    ("3, 2, 1, 0, 7, 6, 5, 4,", "0, 1, 2, 3, 7, 6, 5, 4,"),
+    ("(bytes)w0, (bytes)w4, U32X4", "(bytes)w4, (bytes)w0, U32X4"),
+    ("(bytes)w8, (bytes)w12, U32X4", "(bytes)w12, (bytes)w8, U32X4"),
+    ("(bytes)it.abcd, (bytes)it.efgh, (bytes)sums", "(bytes)it.efgh, (bytes)it.abcd, (bytes)sums"),
+    ("(bytes)it.efgh, (bytes)it.abcd, (bytes)sums", "(bytes)it.abcd, (bytes)it.efgh, (bytes)sums"),
+    ("to[1] += it.efgh", "to[1] = it.efgh"),
+    ("0xc67178f2,", "0xc67178f3,"),
+    ("(k + 4 * i)", "(k + 4 * i + !i)"),
+    ("7, 6, 5, 4, 3, 2, 1, 0, 15,", "6, 7, 5, 4, 3, 2, 1, 0, 15,"),
+    ("(x, y, 1, 2)", "(x, y, 0, 3)"),
+    ("(bytes)w0, (bytes)w2, U64X2", "(bytes)w2, (bytes)w0, U64X2"),
+    ("between(w8, w10)", "between(w10, w8)"),
+    ("(sums, sums, 1, 0)", "(sums, sums, 0, 1)"),
+    ("(bytes)fg, (bytes)de", "(bytes)de, (bytes)fg"),
+    ("(bytes)it.cd, (bytes)it.ab", "(bytes)it.ab, (bytes)it.cd"),
+    ("it.cd + half, it.ef}", "half, it.ef}"),
+    ("to[3] += it.gh", "to[3] = it.gh"),
+    ("0x6c44198c4a475817,", "0x6c44198c4a475816,"),
+], "x86-64": [
     ("at[1], 5, 4, 1, 0)", "at[1], 4, 5, 1, 0)"),
     ("at[1], 7, 6, 3, 2)", "at[1], 7, 6, 2, 3)"),
     ("it.cdgh, 3, 2, 7, 6)", "it.cdgh, 3, 2, 6, 7)"),
@@ -67,7 +88,7 @@ WRONG_X86 = [
     ("(sums, sums, 2, 3, 2, 3)", "(sums, sums, 3, 2, 3, 2)"),
     ("0xc67178f2", "0xc67178f3"),
     ("(k + 4 * i)", "(k + 4 * i + !i)"),
-]
+]}
 
 
 @pytest.fixture(scope="module")
@@ -159,41 +180,46 @@ def test_wrong_rule_is_found(compare, tmp_path, processor, before, after):
 
 @pytest.fixture(scope="module")
 def compare_blocks(module, tmp_path_factory):
-    """Compiles the program that compares a block by the proved function with one by C: compare_blocks(FILE)."""
+    """Compiles the program that compares blocks by the proved functions with the same by C: compare_blocks(PROCESSOR,
+    FILE) is the command."""
     folder, clang = tmp_path_factory.mktemp("blocks"), clang_of_kit()
-    (folder / "model.ll").write_text(extract(module, "model", {SINGLE: "ptr %to, ptr %block, i64 %len"}))
-    succeed(clang, "--target=x86_64-unknown-linux-gnu", "-O2", "-Wno-override-module", "-c", "-x", "ir",
-            folder / "model.ll", "-o", folder / "model.o")
+    for prefix, name in (("model", SINGLE), ("long_model", LONG_SINGLE)):
+        (folder / f"{prefix}.ll").write_text(extract(module, prefix, {name: "ptr %to, ptr %block, i64 %len"}))
 
-    def compares(file):
-        succeed(clang, "--target=x86_64-unknown-linux-gnu", *targets.AS_EXPORTS, "-fPIC", "-I", ".", "-c", file, "-o",
-                folder / "sha256_x86.o", cwd=HERE / "c/exports")
-        succeed(tool_of("cc"), "-std=c11", *STRICT, "-O1", "-static", TESTS / "sha256_x86.c", folder / "model.o",
-                folder / "sha256_x86.o", "-o", folder / "program")
-        return folder / "program"
+    def compares(processor, file):
+        cc, emulator, target, prefixes = {
+            "aarch64": lambda: (machines.cross_compiler("aarch64", "aarch64-linux-gnu"), [machines.qemu("aarch64")],
+                                "aarch64-unknown-linux-gnu", ["model", "long_model"]),
+            "x86-64": lambda: (tool_of("cc"), machines.qemu_with_sha("EPYC"), "x86_64-unknown-linux-gnu", ["model"]),
+        }[processor]()
+        need(cc)
+        models = [folder / f"{it}.{processor}.o" for it in prefixes]
+        for prefix, model in zip(prefixes, models):
+            if not model.exists():
+                succeed(clang, f"--target={target}", "-O2", "-Wno-override-module", "-c", "-x", "ir",
+                        folder / f"{prefix}.ll", "-o", model)
+        succeed(clang, f"--target={target}", *targets.AS_EXPORTS, "-fPIC", "-I", ".", "-c", file, "-o",
+                folder / "single.o", cwd=HERE / "c/exports")
+        succeed(cc, "-std=c11", *STRICT, "-O1", "-static", TESTS / "sha_blocks.c", *models, folder / "single.o",
+                "-o", folder / "program")
+        return [*emulator, folder / "program"]
 
     return compares
 
 
-def test_block_of_x86_is_what_is_proved(compare_blocks):
-    counted(*machines.qemu_with_sha("EPYC"), compare_blocks(OF_X86), str(TRIES), seed())
+@pytest.mark.parametrize("processor", SINGLES)
+def test_block_by_c_is_what_is_proved(compare_blocks, processor):
+    counted(*compare_blocks(processor, SINGLES[processor]), str(TRIES), seed())
 
 
-@pytest.mark.parametrize("before, after", WRONG_X86)
-def test_wrong_block_of_x86_is_found(compare_blocks, tmp_path, before, after):
-    text = OF_X86.read_text()
+@pytest.mark.parametrize("processor, before, after",
+                         [(name, *it) for name, found in WRONG_SINGLES.items() for it in found])
+def test_wrong_block_by_c_is_found(compare_blocks, tmp_path, processor, before, after):
+    text = SINGLES[processor].read_text()
     assert text.count(before) == 1
     (tmp_path / "wrong.c").write_text(text.replace(before, after))
-    done = run(*machines.qemu_with_sha("EPYC"), compare_blocks(tmp_path / "wrong.c"), "1000", "1")
+    done = run(*compare_blocks(processor, tmp_path / "wrong.c"), "1000", "1")
     assert done.status == 1 and not done.output.endswith(b" 0 failed\n")
-
-
-def test_block_of_x86_takes_as_much_stack_as_is_cleared_for_it_on_windows(compare_blocks, tmp_path):
-    """No test runs it there: so 256 bytes more are cleared than the proved function takes, which has over 128."""
-    succeed(clang_of_kit(), "--target=x86_64-pc-windows-gnu", *targets.AS_EXPORTS, "-fstack-usage", "-c", OF_X86.name,
-            "-o", tmp_path / "sha256_x86.o", cwd=OF_X86.parent)
-    name, bytes_of_stack, kind = (tmp_path / "sha256_x86.su").read_text().split()
-    assert name.endswith(":slh_sha256") and kind == "static" and int(bytes_of_stack) < 256 + 128
 
 
 def with_another_name(module, name):
@@ -206,7 +232,7 @@ def with_other_parameters(module, name):
 
 @pytest.mark.parametrize("name, target", [
     *((it, "aarch64-sha512") for it in FUNCTIONS), *((it, "x86-64-v2-sha") for it in [*FUNCTIONS][::2]),
-    (SINGLE, "x86-64-v3")])
+    (SINGLE, "x86-64-v3"), (SINGLE, "aarch64-sha256"), (LONG_SINGLE, "aarch64-sha512")])
 @pytest.mark.parametrize("change", [with_another_name, with_other_parameters])
 def test_module_that_a_rule_does_not_know_is_refused(module, tmp_path, name, target, change):
     """tools/clang.sh compiles nothing then."""

@@ -29,7 +29,7 @@ LINUX |= {it: LINUX["aarch64"] for it in LOWER}
 MACOS = {"macos-arm64": "ARM64", "macos-x86-64": "X86_64"}
 # For libslh.a of macOS: calls of a Mac's C library that are not in the C standard, and its own names, which are hidden.
 OF_MACOS = ["bzero", "__bzero"]
-OWN = r"_slh_\w+_(v[23]|proved)|_slh_clear"
+OWN = r"_slh_\w+_(v[23]|proved)|_slh_(clear|sha256|sha512)"
 
 
 def params(names, always=()):
@@ -295,31 +295,13 @@ def test_objcopy_that_changes_nothing_is_noticed(machine, archive, tmp_path):
 
 # ---- instructions
 
-# Makes a key of the set in the first word. The bytes of SK.seed and SK.prf are the second word, and PK.seed is zero. A
-# loop runs as often as the secret's bits in the mask of the third word say.
-KEYGEN = """\
-#include <slh.h>
-#include <stdlib.h>
-
-int main(int count, char **words) {
-    static uint8_t seeds[2 * SLH_MAX_N], public_seed[SLH_MAX_N], sk[SLH_MAX_SECRET_KEY];
-    uint32_t set = (uint32_t)atoi(words[1]);
-    size_t pk_len, sk_len, sig_len, n;
-    volatile int turns = 0;
-    if (count != 4 || slh_lengths(set, &pk_len, &sk_len, &sig_len, &n) != SLH_DONE) return 2;
-    for (size_t i = 0; i < sizeof seeds; i++) seeds[i] = (uint8_t)atoi(words[2]);
-    for (int i = 0; i < (seeds[0] & atoi(words[3])); i++) turns++;
-    return slh_keygen(set, seeds, n, seeds + n, n, public_seed, n, sk, sk_len) != SLH_DONE;
-}
-"""
-
 
 @pytest.fixture
 def instructions(emulated, prefix, archive, compiled, tmp_path):
-    """Counts the instructions of KEYGEN: instructions(WORD..)."""
+    """Counts the instructions of a key generation: instructions(SET, BYTE, MASK)."""
     if b"-plugin" not in run(emulated.runs[0], "-h").output:
         pytest.skip(f"{emulated.runs[0]} takes no plug-ins: that of Debian 12 does")
-    (tmp_path / "keygen.c").write_text(KEYGEN)
+    (tmp_path / "keygen.c").write_text(machines.KEYGEN)
     plugin = compiled("count.so", "-shared", "-fPIC", TESTS / "benches/count_instructions.c")
     program = compiled("keygen", "-std=c11", *STRICT, "-O1", *emulated.words, "-I", prefix / "include",
                        tmp_path / "keygen.c", archive, cc=emulated.cc)
@@ -339,6 +321,16 @@ def test_each_secret_takes_as_many_instructions(instructions):
     for of_set in 2, 4, 6:
         assert len({instructions(of_set, byte, 0) for byte in (100, 155, 254)}) == 1
     assert instructions(2, 100, 1) != instructions(2, 155, 1)
+
+
+@ON_AARCH64
+def test_single_messages_by_sha_instructions_take_no_branch(machine, archive):
+    said = succeed(machine.tool("objdump"), "-d", "--no-show-raw-insn", archive).decode()
+    code = dict(re.findall(r"<(slh_sha256|slh_sha512)>:\n((?: .*\n)+)", said))
+    for name, instruction in (("slh_sha256", "sha256su1"), ("slh_sha512", "sha512su1")):
+        names = re.findall(r"^ +[0-9a-f]+:\t(\S+)", code[name], re.M)
+        assert instruction in names
+        assert [it for it in names if re.fullmatch(r"bl?|b\..*|blr.*|br.*|[ct]bn?z|ret.*", it)] == ["ret"]
 
 
 # ---- packages

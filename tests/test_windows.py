@@ -5,6 +5,7 @@ by MinGW's linker and by LLVM's, and runs under wine.
 Of keys and of signing some tests are run, and with --all all: tests/library_vectors.py says which.
 """
 import os
+import re
 import shutil
 
 import pytest
@@ -12,7 +13,7 @@ import pytest
 import machines
 from machines import LIBRARY_CALLS, OTHERS, counted, text_of
 from packages import GO_MODULE
-from support import HERE, TESTS, best_level, need, need_level, run, succeed
+from support import HERE, TESTS, VECTORS, best_level, need, need_level, run, succeed
 
 pytestmark = [pytest.mark.parametrize("target", [pytest.param("windows-x86-64", marks=OTHERS)])]
 
@@ -20,6 +21,7 @@ pytestmark = [pytest.mark.parametrize("target", [pytest.param("windows-x86-64", 
 GCC = machines.Machine("windows-x86-64", "x86_64-w64-mingw32-gcc", ("-static", "-D__USE_MINGW_ANSI_STDIO=1"))
 # A processor of tests/processors.h for each level.
 PROCESSORS = {"nehalem": 2, "haswell": 3, "skylake": 4}
+WITH_SHA = {"denverton": 2, "epyc-rome": 3, "skylake with SHA instructions": 4}
 LEVEL = '#include <slh.h>\n#include <stdio.h>\nint main(void) { return printf("%u", (unsigned)slh_level()) < 0; }\n'
 GO = f"""\
 package main
@@ -140,6 +142,20 @@ def test_vectors_on_a_lesser_processor(pytestconfig, emulated, prefix, archive, 
 
 
 @pytest.mark.slow
+@pytest.mark.parametrize("processor", [
+    pytest.param(it, marks=pytest.mark.drawn("the processor with SHA instructions", "processor")) for it in WITH_SHA])
+def test_vectors_by_sha_instructions(pytestconfig, emulated, prefix, archive, compiled, tmp_path, processor,
+                                     monkeypatch):
+    """Of single messages. On a processor without them the program emulates them."""
+    need_level(WITH_SHA[processor])
+    monkeypatch.setenv("PROCESSOR", processor)
+    program = machines.calls_program(compiled, emulated, prefix / "include", TESTS / "forced_level.c",
+                                     TESTS / "sha_by_signals.c", archive)
+    shutil.copy(VECTORS / "smoke-128f.json", tmp_path)
+    machines.vectors_through(pytestconfig, *emulated.runs, program, few=True, vectors=tmp_path)
+
+
+@pytest.mark.slow
 def test_vectors_by_the_dll(pytestconfig, emulated, dll_program):
     machines.vectors_through(pytestconfig, *emulated.runs, dll_program, few=True)
 
@@ -158,6 +174,18 @@ def test_depths(pytestconfig, emulated, prefix, archive, compiled, tmp_path, pro
     program = machines.depths_program(compiled, machine, prefix / "include", archive, tmp_path)
     machines.check_depths(pytestconfig, f"windows-x86-64-v{level}", machines.how_deep(pytestconfig), *machine.runs,
                           program, machines.SHIFTS[level])
+
+
+def test_sha_instructions_take_no_more_stack_than_is_cleared_for_them(archive):
+    """slh_sha256 is jumped to in the place of the proved function, which c/exports/depths/ knows: 256 bytes more are
+    cleared (SLH_MORE_DEPTH)."""
+    said = succeed(GCC.tool("objdump"), "-d", "--no-show-raw-insn", archive).decode()
+    frames = {}
+    for name, code in re.findall(r"<(slh_sha256|sha2::block256::compress)>:\n((?: .*\n)+)", said):
+        begin = re.match(r"((?:.*\tpush .*\n)*).*\tsub +\$(0x[0-9a-f]+),%rsp\n", code)
+        assert begin and re.findall(r"\t(?:push|sub) .*%rsp$|\tpush ", code[begin.end():]) == []
+        frames.setdefault(name, set()).add(8 * begin[1].count("\n") + int(begin[2], 16))
+    assert len(frames) == 2 and max(frames["slh_sha256"]) <= min(frames["sha2::block256::compress"]) + 256
 
 
 @pytest.mark.slow

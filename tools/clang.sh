@@ -17,6 +17,7 @@
 #           or fast
 #   rules   for_sha256_arm.sed, for_sha512_arm.sed, for_sha256_x86.sed: functions of slh_lanes::instructions get bodies of
 #           the processor's SHA instructions. for_single_x86.sed: single messages ask for those of x86-64.
+#           for_single_arm.sed, for_single_long_arm.sed: single messages of SHA-256 and of SHA-512 take ARM's.
 #           for_pads_x86.sed, for_pads_arm.sed: functions begin with a pad for indirect branches
 #           or nothing
 #

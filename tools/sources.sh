@@ -44,7 +44,7 @@ crates=("${lines[@]%%[: ]*}")
     {
         find HANDLES VERSION c/{exports,include,portable} c/starter.c \
             tools/{clang.sh,for_128.sed,for_hook.sed,for_machine.sed,for_size.sed,kit.py,lay_out.py} \
-            tools/for_{pads_arm,pads_x86,sha256_arm,sha256_x86,sha512_arm,single_x86}.sed \
+            tools/for_{pads_arm,pads_x86,sha256_arm,sha256_x86,sha512_arm,single_arm,single_long_arm,single_x86}.sed \
             tools/{portable.py,program.sh,symbols.sh,targets.py} -type f -print0
         find "${crates[@]/#/crates/}" -type d \( -name out -o -name tests -o -name wrong -o -name must-fail \) -prune \
             -o -type f \( -path '*/src/*' -o -path '*/specs/*' -o -path '*/proofs/*' \) ! -name 'tests.*' -print0

@@ -127,7 +127,7 @@ LEVEL = Target("Four", "Four", rattle=("--cpu", "x86-64-v2"), verify="slh_c_veri
 # By the model of tests/benches SHA-512 takes more cycles in NEON's lanes than one message at a time.
 ARM = Target("Four", "One", "aarch64-unknown-linux-gnu", pads="for_pads_arm.sed",
              words=("-fPIC", "-fno-plt", "-mbranch-protection=pac-ret+bti"))
-RULES_ARM = ("for_sha256_arm.sed", "for_sha512_arm.sed")
+RULES_ARM = ("for_sha256_arm.sed", "for_single_arm.sed", "for_sha512_arm.sed", "for_single_long_arm.sed")
 PADS = ("for_pads_x86.sed", "for_pads_arm.sed")
 BOARD = Target(bits=32, of="x86-64", makes="board", round=("board.c",), words=("-fno-pic",))
 MODULE = Target("Four", "Four", WASM, form="wasm", makes="module", round=())
@@ -145,9 +145,10 @@ TARGETS = {
     "x86-64-v4": LEVEL._replace(level=4, short="Sixteen", long="Eight", rattle=("--cpu", "x86-64-v3"),
                                 word="-march=x86-64-v4", verify="slh_c"),
     "aarch64": ARM._replace(levels=("aarch64-neon", "aarch64-sha256", "aarch64-sha512"), verify="slh_c_verify",
-                            shared=SHARED, round=("exports.c", "chosen_aarch64.c", "clear_aarch64.S")),
+                            shared=SHARED, round=("exports.c", "chosen_aarch64.c", "sha2_arm.c", "clear_aarch64.S")),
     "aarch64-neon": ARM._replace(makes="", level=2),
-    "aarch64-sha256": ARM._replace(short="Instructions", word="-march=armv8-a+sha2", rules=RULES_ARM[:1], makes="", level=3),
+    "aarch64-sha256": ARM._replace(short="Instructions", word="-march=armv8-a+sha2", rules=RULES_ARM[:2], makes="",
+                                   level=3),
     "aarch64-sha512": ARM._replace(short="Instructions", long="Instructions", word="-march=armv8-a+sha2+sha3",
                                    rules=RULES_ARM, makes="", level=4),
     "riscv64": Target(triple="riscv64-unknown-linux-gnu", of="x86-64", attributes=INLINE_PROBES,
@@ -197,7 +198,7 @@ on_another("macos", LEVELS[:2], dict(
     triple="x86_64-apple-macos11", round=CHOSEN, **MAC), dict())
 TARGETS["macos-arm64"] = Target("Instructions", "Instructions", "arm64-apple-macos11", of="x86-64", rules=RULES_ARM,
                                 compiler=("-mcpu=apple-m1", "-O3"), depths="aarch64-sha512",
-                                round=("exports.c", "clear_aarch64.S"), **MAC)
+                                round=("exports.c", "sha2_arm.c", "clear_aarch64.S"), **MAC)
 # Several targets by one name: those of a release, but for the portable C; a level comes with the library that chooses.
 BOARDS = tuple(name for name, it in TARGETS.items() if it.makes == "board")
 CHOSEN_LEVELS = {level for it in TARGETS.values() for level in it.levels}
@@ -210,7 +211,7 @@ WIDTHS = ["One", "Four", "Eight", "Sixteen", "Instructions"]
 ALL_KINDS = "[A-Z]+"
 SECRET_KINDS = "SECRET|READS"
 # What the files SINGLE share with the proved code and with each other.
-OF_SINGLE = ["choice", "choose", "has_sha", "ask_processor", "sha256"]
+OF_SINGLE = ["choice", "choose", "has_sha", "ask_processor", "sha256", "sha512"]
 VERIFY_CALLS = ["slh_verify", "slh_hash_verify", "slh_hash_verify_digest", "slh_verify_hardened",
                 "slh_hash_verify_digest_hardened", "slh_version"]
 # What rattle tells the kit's clang of a module that it compiles (tools/clang.sh sees it), but for the level.

@@ -40,6 +40,11 @@ HIDDEN struct slh_processor slh_ask_processor(void);
 HIDDEN uint32_t slh_has_sha(void);
 HIDDEN void slh_sha256(uint32_t *state, const uint8_t *block, size_t block_len);
 #endif
+#ifdef __aarch64__
+/* They add a block to a hash value by SHA instructions, on a processor that has them. */
+HIDDEN void slh_sha256(uint32_t *state, const uint8_t *block, size_t block_len);
+HIDDEN void slh_sha512(uint64_t *state, const uint8_t *block, size_t block_len);
+#endif
 
 #if defined(__x86_64__) || defined(SLH_ALL_LEVELS)
 /*
