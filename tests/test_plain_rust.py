@@ -6,6 +6,7 @@ crates, which cargo builds without the kit. The sources are tested, whatever rel
 - `cargo clippy` warns of nothing with each feature alone and with all, `cargo doc` with all. `cargo package` makes a
   small package.
 - The module of vectors gives what arrays give, at each level of x86-64 that this processor has.
+- A debug build signs in threads by the lines of the page.
 - The package, compiled for the oldest processor, passes its tests. Code for AVX2 runs if the processor has it. Nothing
   that was erased is in the memory of a program.
 
@@ -556,6 +557,20 @@ def lanes(crates):
 def test_vectors_are_arrays(lanes, level):
     need_level(level)
     assert count_tests(run(lanes(level)), OF_CARGO) == 18
+
+
+# ---- debug builds
+
+
+@pytest.mark.slow
+def test_debug_build_signs_in_threads_by_lines_of_the_page(pytestconfig, crates, tmp_path, letter):
+    """They are of a file that cargo reads. Without them the stack of a thread overflows."""
+    with_all(pytestconfig)
+    page, words = (HERE / "bindings/rust/slh/README.md").read_text(), ["run", "-p", "slh", "--example", "sign_threads"]
+    (tmp_path / "lines.toml").write_text(re.search(r"^```toml\n(.*?)^```$", page, re.M | re.S)[1])
+    assert b"has overflowed its stack" in crates.cargo(*words, "2", letter).errors
+    done = crates.cargo(*words, "--config", tmp_path / "lines.toml", "2", letter)
+    assert (done.status, done.output) == (0, b"valid\n"), done.errors.decode()[-4000:]
 
 
 # ---- the package, for the oldest processor
