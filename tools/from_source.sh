@@ -89,12 +89,15 @@ calls() { (cd "$here/c/include" && sed -nE 's/^(uint32_t |void |const char \*)(s
 # Joins the objects of an archive that the calls of these headers need, and hides all other names: NAME HEADER..
 # The bitcode of Rust's own library is removed, since it can't be read after objects are joined. Names that nothing
 # refers to are removed, too: a program could not be linked with a shared object that asks for calls of a later glibc.
+# On RISC-V the table for unwinding is removed: ld -r joins it wrongly, and a static program would crash at its start.
+# A panic aborts with the table and without it.
 join() {
-    local name=$1 archive=$work/target/$triple/release/$1.a
+    local name=$1 archive=$work/target/$triple/release/$1.a unread=(.llvmbc .llvmcmd)
+    if [[ $("$cc" -dumpmachine) = riscv* ]]; then unread+=(.eh_frame); fi
     calls "${@:2}" >"$work/calls"
     "$("$cc" -print-prog-name=ld)" -r --gc-sections --force-group-allocation $(sed 's/^/-u /' "$work/calls") \
         -o "$work/$name.o" "$archive"
-    "$("$cc" -print-prog-name=objcopy)" --strip-unneeded --remove-section=.llvmbc --remove-section=.llvmcmd \
+    "$("$cc" -print-prog-name=objcopy)" --strip-unneeded "${unread[@]/#/--remove-section=}" \
         --keep-global-symbols="$work/calls" "$work/$name.o"
 }
 

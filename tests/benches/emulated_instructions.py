@@ -1,14 +1,16 @@
 #!/usr/bin/env python3
-"""Counts the instructions of key generation, signing and verifying on emulated 64-bit ARM. They are no times: an
-instruction for SHA takes several cycles, and a vector's more than one number's.
+"""Counts the instructions of key generation, signing and verifying on emulated 64-bit ARM or RISC-V. They are no times:
+an instruction for SHA takes several cycles, and a vector's more than one number's.
 
 Usage: tests/benches/emulated_instructions.py LIBSLH.A INCLUDE [HWCAP]     for a libslh, as dist/aarch64/libslh.a
+       tests/benches/emulated_instructions.py --riscv64 LIBSLH.A INCLUDE   for one of RISC-V
        tests/benches/emulated_instructions.py --openssl ROOT               for OpenSSL of a Debian 13 in a folder
 
 HWCAP is what the system answers of the processor: 0 has NEON alone, 0x40 SHA-256's instructions, 0x220040 SHA-512's, too.
 ROOT has the packages libssl3t64, libssl-dev, libc6, libzstd1 and zlib1g of Debian 13 for arm64, unpacked by `dpkg-deb
 -x`, and a link `lib` to usr/lib.
-It needs qemu-aarch64 7.2 or later, and aarch64-linux-gnu-gcc. The columns are the instructions of a call, in millions.
+It needs the machine's qemu 7.2 or later, and gcc, as aarch64-linux-gnu-gcc. The columns are the instructions of a call,
+in millions.
 """
 import pathlib
 import subprocess
@@ -17,7 +19,8 @@ import tempfile
 
 HERE = pathlib.Path(__file__).resolve().parent
 SETS = ["128s", "128f", "192s", "192f", "256s", "256f"]
-COMPILER = ["aarch64-linux-gnu-gcc", "-std=c11", "-O1"]
+MACHINE = "riscv64" if "--riscv64" in sys.argv else "aarch64"
+COMPILER = [f"{MACHINE}-linux-gnu-gcc", "-std=c11", "-O1"]
 
 
 def run(*words):
@@ -27,11 +30,13 @@ def run(*words):
 
 def counted(*words):
     """The instructions of a program, by the plug-in."""
-    said = run("qemu-aarch64", *words)
+    said = run(f"qemu-{MACHINE}", *words)
     return int(said.split()[0])
 
 
 def main():
+    if MACHINE == "riscv64":
+        sys.argv.remove("--riscv64")
     if len(sys.argv) not in (3, 4):
         sys.exit(__doc__.split("\n\n")[1])
     with tempfile.TemporaryDirectory() as folder:
