@@ -33,7 +33,7 @@ final class Library {
 
     private Library() {}
 
-    /** The version of this package, as 0.15.0. */
+    /** The version of this package, as 0.16.0. */
     static String version() {
         try (InputStream in = Library.class.getResourceAsStream("VERSION")) {
             return new String(in.readAllBytes(), StandardCharsets.US_ASCII).strip();
