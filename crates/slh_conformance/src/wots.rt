@@ -1,5 +1,6 @@
 //! Rows about WOTS+ (FIPS 205, section 5).
-ghost use Rattle.std.specs.Prelude.{◌≡◌};
+ghost use Rattle.std.specs.Prelude.{◌≡◌, length};
+ghost use Rattle.slh_params.specs.ParamSet.{params};
 
 use crate::row::Row;
 use slh_few::{
@@ -9,6 +10,8 @@ use slh_params::{Node, ParamSet, base_2b};
 
 /// The seeds of a key.
 pub fn seeds_of<'a>(set: ParamSet, sk_seed: &'a Node, pk_seed: &'a Node) -> Seeds<'a>
+    requires sk_seed { length sk_seed.now.items ≡ (params set).n }
+    requires pk_seed { length pk_seed.now.items ≡ (params set).n }
     ensures { result.set ≡ set }
 {
     Seeds {
@@ -20,6 +23,7 @@ pub fn seeds_of<'a>(set: ParamSet, sk_seed: &'a Node, pk_seed: &'a Node) -> Seed
 
 /// The seed that verifying needs.
 pub fn public_of<'a>(set: ParamSet, pk_seed: &'a Node) -> Public<'a>
+    requires { length pk_seed.now.items ≡ (params set).n }
     ensures { result.set ≡ set }
 {
     Public {

@@ -25,16 +25,32 @@ pub struct HashContext<'a> {
     lanes: Option<SeededLanes<'a>>,
     ghost leaf_state: { ∥ IsSeeded seeded (params set) pk_seed.now ∥₁ },
     ghost join_state: { ∥ IsSeededTree joins (params set) pk_seed.now ∥₁ },
-    ghost lane_state: { ∥ IfSome lanes (LanesUnder (params set) pk_seed.now) ∥₁ },
+    ghost lane_state: { ∥ IfSome lanes (LanesUnder set pk_seed.now) ∥₁ },
 }
 
 impl<'a> HashContext<'a> {
     /// The midstates of this PK.seed of n bytes.
     pub fn new(set: ParamSet, pk_seed: &'a [u8]) -> Self
+        requires { length pk_seed.now ≡ (params set).n }
         ensures set { result.set ≡ set }
         ensures pk_seed { result.pk_seed.now ≡ pk_seed.now }
     {
-        let lanes = lanes_under(set, pk_seed);
+        let lanes = match build_widths().short {
+            Width::One => None,
+            Width::Four | Width::Eight | Width::Sixteen | Width::Instructions => {
+                Some(lanes_under(set, pk_seed))
+            }
+        };
+        HashContext::with_lanes(set, pk_seed, lanes)
+    }
+
+    /// The midstates of this PK.seed, of which these are in SIMD lanes.
+    fn with_lanes(set: ParamSet, pk_seed: &'a [u8], lanes: Option<SeededLanes<'a>>) -> Self
+        requires { IfSome lanes (LanesUnder set pk_seed.now) }
+        ensures set { result.set ≡ set }
+        ensures pk_seed { result.pk_seed.now ≡ pk_seed.now }
+        ensures lanes { result.lanes ≡ lanes.entry }
+    {
         HashContext {
             set,
             pk_seed,
@@ -82,9 +98,9 @@ impl<'a> HashContext<'a> {
         stream.finish()
     }
 
-    /// The midstates in SIMD lanes. `None` if PK.seed does not have n bytes or the build has one lane.
+    /// The midstates in SIMD lanes. `None` if the build has one lane.
     pub(crate) fn lanes(&self) -> Option<&SeededLanes<'a>>
-        ensures { IfSome result (λ lanes. LanesUnder (params self.now.set) self.now.pk_seed.now lanes.now) }
+        ensures { IfSome result (λ lanes. LanesUnder self.now.set self.now.pk_seed.now lanes.now) }
     {
         match build_widths().short {
             Width::One => None,
@@ -95,16 +111,15 @@ impl<'a> HashContext<'a> {
     }
 }
 
-/// The midstates in SIMD lanes. `None` if PK.seed does not have n bytes or the build has one lane.
-fn lanes_under(set: ParamSet, pk_seed: &[u8]) -> Option<SeededLanes>
-    ensures { IfSome result (λ lanes. LanesUnder (params set) pk_seed.now lanes) }
+/// The midstates of this PK.seed of n bytes in SIMD lanes.
+fn lanes_under(set: ParamSet, pk_seed: &[u8]) -> SeededLanes
+    requires { length pk_seed.now ≡ (params set).n }
+    ensures { LanesUnder set pk_seed.now result }
 {
-    match build_widths().short {
-        Width::One => None,
-        Width::Four | Width::Eight | Width::Sixteen | Width::Instructions => {
-            SeededLanes::new(set, pk_seed)
-        }
-    }
+    let Some(lanes) = SeededLanes::new(set, pk_seed) else {
+        unreachable!()
+    };
+    lanes
 }
 
 /// A key's SK.seed with the midstates of its PK.seed, for signing.
@@ -114,23 +129,21 @@ fn lanes_under(set: ParamSet, pk_seed: &[u8]) -> Option<SeededLanes>
 pub struct SigningContext<'a> {
     pub public: HashContext<'a>,
     pub sk_seed: &'a [u8],
-    lanes: Option<SeededLanes<'a>>,
-    ghost lane_state: { ∥ IfSome lanes (LanesUnder (params public.set) public.pk_seed.now) ∥₁ },
-    ghost whole: { IsSome lanes → length sk_seed.now ≡ (params public.set).n },
+    ghost in_lanes: { IsSome public.lanes },
+    pub ghost sk_seed_len: { length sk_seed.now ≡ (params public.set).n },
 }
 
 impl<'a> SigningContext<'a> {
-    /// The midstates of these seeds, of n bytes each.
+    /// The midstates of these seeds.
     pub fn new(seeds: &Seeds<'a>) -> Self
         ensures set { result.public.set ≡ seeds.now.set }
         ensures sk_seed { result.sk_seed.now ≡ seeds.now.sk_seed.now }
         ensures pk_seed { result.public.pk_seed.now ≡ seeds.now.pk_seed.now }
     {
-        let lanes = signing_lanes(seeds);
+        let lanes = lanes_under(seeds.set, seeds.pk_seed);
         SigningContext {
-            public: HashContext::new(seeds.set, seeds.pk_seed),
+            public: HashContext::with_lanes(seeds.set, seeds.pk_seed, Some(lanes)),
             sk_seed: seeds.sk_seed,
-            lanes,
         }
     }
 
@@ -143,23 +156,14 @@ impl<'a> SigningContext<'a> {
         self.public.seeded.prf(self.sk_seed, adrs)
     }
 
-    /// The midstates in SIMD lanes. `None` if a seed does not have n bytes.
-    pub(crate) fn lanes(&self) -> Option<&SeededLanes<'a>>
-        ensures under { let p = params self.now.public.set in
-            IfSome result (λ lanes. LanesUnder p self.now.public.pk_seed.now lanes.now) }
-        ensures whole { IsSome result → length self.now.sk_seed.now ≡ (params self.now.public.set).n }
+    /// The midstates in SIMD lanes, which signing has in each build.
+    pub(crate) fn lanes(&self) -> &SeededLanes<'a>
+        ensures set { result.now.set ≡ self.now.public.set }
+        ensures pk_seed { result.now.pk_seed.now ≡ self.now.public.pk_seed.now }
     {
-        self.lanes.as_ref()
+        let Some(lanes) = &self.public.lanes else {
+            unreachable!()
+        };
+        lanes
     }
-}
-
-/// The midstates of PK.seed in SIMD lanes. `None` if a seed does not have n bytes.
-fn signing_lanes<'a>(seeds: &Seeds<'a>) -> Option<SeededLanes<'a>>
-    ensures under { IfSome result (λ lanes. LanesUnder (params seeds.now.set) seeds.now.pk_seed.now lanes) }
-    ensures whole { IsSome result → length seeds.now.sk_seed.now ≡ (params seeds.now.set).n }
-{
-    if seeds.sk_seed.len() != seeds.set.n() {
-        return None;
-    }
-    SeededLanes::new(seeds.set, seeds.pk_seed)
 }

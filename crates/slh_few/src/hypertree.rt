@@ -12,7 +12,7 @@ ghost use Rattle.slh_few.specs.HtSignatures.{AreUnder, top_root};
 ghost use Rattle.slh_few.specs.declared.hypertree.TheConstants.{MOST_XMSS_SIG_LEN};
 
 use crate::context::{HashContext, SigningContext};
-use crate::lanes::put_roots_in_lanes;
+use crate::lanes::{put_roots_in_lanes, sign_giving_leaf};
 use crate::nodes::first_nodes;
 use crate::place::{Place, Public, Seeds};
 use crate::wots::MOST_WOTS_SIG_LEN;
@@ -120,7 +120,7 @@ impl<'a> SigningContext<'a> {
         let set = self.public.set;
         let end = start + xmss_sig_len(set);
         let sig = &mut out[start..end];
-        let leaf = self.sign_tree(at, msg, sig);
+        let leaf = sign_giving_leaf(self, at, msg, sig);
         let (_wots, auth) = sig.split_at(set.len() * set.n());
         let tree = self.xmss_nodes(at.layer, at.tree);
         climb(&tree, at.pair, &leaf, auth)

@@ -8,10 +8,10 @@ ghost use Rattle.slh_few.specs.KeyCheckpoints.{spacing as spacing_of, checkpoint
 ghost use Rattle.slh_few.specs.declared.key_checkpoints.TheConstants.{MOST_CHAIN_CHECKPOINTS_LEN, MOST_KEY_CHECKPOINTS_LEN};
 
 use crate::context::{HashContext, SigningContext};
-use crate::lanes::{MOST_DIGITS, run_with_checkpoints};
+use crate::lanes::run_with_checkpoints;
 use crate::nodes::{chunk_at, node_at, put_chunk};
 use crate::place::Place;
-use crate::wots::{MOST_WOTS_SIG_LEN, compressed_ends, run_chain, run_secrets, wots_sig_len};
+use crate::wots::{MOST_WOTS_SIG_LEN, compressed_ends, run_chain, wots_sig_len};
 use crate::wots_digits::{MOST_CHAINS, digits_of};
 use slh_params::{Node, ParamSet, put_node};
 
@@ -79,40 +79,7 @@ pub(crate) fn put_checkpoint(
     put_chunk(&mut checkpoints[start..start + size], set.n(), j, value);
 }
 
-/// Writes checkpoint `j` of all chains, which are end to end in `values`.
-fn put_checkpoint_of_each(set: ParamSet, checkpoints: &mut [u8], j: usize, values: &[u8])
-    requires checkpoints { length checkpoints.old ≡ chains_len (params set) }
-    requires number { j < checkpoint_count_of (params set) }
-    requires values { length values.now ≡ len (params set) * (params set).n }
-    ensures set { (c : ℕ) → c < len (params set)
-        → chunk (params set).n (chunk (chain_len (params set)) checkpoints.new c) j
-        ≡ chunk (params set).n values.now c }
-    ensures others { (c i : ℕ) → i ≢ j → chunk (params set).n (chunk (chain_len (params set)) checkpoints.new c) i
-        ≡ chunk (params set).n (chunk (chain_len (params set)) checkpoints.old c) i }
-{
-    let n = set.n();
-    for c in 0..set.len() {
-        put_checkpoint(set, checkpoints, c, j, &node_at(values, n, c));
-    }
-}
-
 impl<'a> SigningContext<'a> {
-    /// Writes the checkpoints of a key's chains. Each is computed from its secret, one chain after another: no key has
-    /// seeds of this kind.
-    fn put_checkpoints_alone(&self, at: Place, checkpoints: &mut [u8])
-        requires { length checkpoints.old ≡ chains_len (params self.now.public.set) }
-        ensures { let p = params self.now.public.set in let pk_seed = self.now.public.pk_seed.now in
-            checkpoints.new ≡ key_checkpoints p self.now.sk_seed.now pk_seed at }
-    {
-        let set = self.public.set;
-        let mut buffer = [0; MOST_WOTS_SIG_LEN];
-        let values = &mut buffer[..wots_sig_len(set)];
-        for j in 0..checkpoint_count(set) {
-            run_secrets(self, at, &[j * spacing(set); MOST_DIGITS], values);
-            put_checkpoint_of_each(set, checkpoints, j as usize, values);
-        }
-    }
-
     /// The public key at a place, n bytes (Algorithm 6). Into `checkpoints` it writes checkpoints of the key's chains,
     /// `key_checkpoints_len` bytes, from which `wots_sign_from_checkpoints` signs.
     #[tactic(auto, using(crate::proofs::Checksum::chain_bounds))]
@@ -124,13 +91,9 @@ impl<'a> SigningContext<'a> {
         ensures checkpoints { let p = params self.now.public.set in let pk_seed = self.now.public.pk_seed.now in
             checkpoints.new ≡ key_checkpoints p self.now.sk_seed.now pk_seed at }
     {
-        let Some(lanes) = self.lanes() else {
-            self.put_checkpoints_alone(at, checkpoints);
-            return self.wots_pk(at);
-        };
         let mut buffer = [0; MOST_WOTS_SIG_LEN];
         let ends = &mut buffer[..wots_sig_len(self.public.set)];
-        run_with_checkpoints(lanes, self.sk_seed, at, checkpoints, ends);
+        run_with_checkpoints(self.lanes(), self.sk_seed, at, checkpoints, ends);
         compressed_ends(&self.public, at, ends)
     }
 }

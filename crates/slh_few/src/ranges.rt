@@ -61,13 +61,11 @@ impl<'a> SigningContext<'a> {
         ensures checkpoints { let p = params self.now.public.set in let pk_seed = self.now.public.pk_seed.now in
             checkpoints.new ≡ key_checkpoints p self.now.sk_seed.now pk_seed at }
     {
-        if has_eight_in_range(at, lo, hi)
-            && let Some(lanes) = self.lanes()
-        {
+        if has_eight_in_range(at, lo, hi) {
             let first = first_of_eight(at);
             let lane = lane_among_eight(at);
             let group = eight_keys(
-                lanes,
+                self.lanes(),
                 self.sk_seed,
                 first,
                 &LaneCheckpoints { lane },

@@ -6,13 +6,13 @@ ghost use Rattle.slh_params.specs.Params.{Params, len, w};
 ghost use Rattle.slh_params.specs.ParamSet.{params};
 ghost use Rattle.slh_hash.specs.Hash.{T};
 ghost use Rattle.slh_few.specs.Chunks.{end_to_end, chunk};
-ghost use Rattle.slh_few.specs.Wots.{wots_address, chain as chain_of, compressed_ends, finished_chain, secret, whole_chain, wots_pk, wots_sig, wots_pk_from_sig};
+ghost use Rattle.slh_few.specs.Wots.{wots_address, chain as chain_of, compressed_ends, finished_chain, whole_chain, wots_pk, wots_sig, wots_pk_from_sig};
 ghost use Rattle.slh_few.specs.Xmss.{wots_sig_len};
 ghost use Rattle.slh_few.specs.declared.wots.TheConstants.{MOST_WOTS_SIG_LEN};
 
 use crate::context::{HashContext, SigningContext};
 use crate::lanes::{ChainNumbers, MOST_DIGITS, run_secrets_in_lanes, run_values};
-use crate::nodes::{node_at, put_chunk};
+use crate::nodes::node_at;
 use crate::place::{Place, Public, Seeds};
 use crate::wots_digits::{MOST_CHAINS, digits_of};
 use slh_lanes::SeededLanes;
@@ -88,49 +88,6 @@ pub(crate) fn compressed_ends(context: &HashContext, at: Place, ends: &[u8]) -> 
     context.t(&adrs, ends, context.set.len())
 }
 
-/// The secret of chain `c` of the key at a place, n bytes.
-fn wots_secret(signer: &SigningContext, at: Place, c: u32) -> Node
-    ensures value { let p = params signer.now.public.set in let pk_seed = signer.now.public.pk_seed.now in
-        result.items ≡ secret p signer.now.sk_seed.now pk_seed at c }
-    ensures len { length result.items ≡ (params signer.now.public.set).n }
-{
-    signer.prf(&wots_adrs(at, AdrsType::WotsPrf, c, 0))
-}
-
-/// Writes the value of each chain of a key after its number of steps from its secret, one chain after another.
-fn run_secrets_alone(signer: &SigningContext, at: Place, counts: &ChainNumbers, out: &mut [u8])
-    requires steps { (c : ℕ) → slice_index counts.now c ≤ MOST_STEPS }
-    requires out { length out.old ≡ len (params signer.now.public.set) * (params signer.now.public.set).n }
-    ensures { let p = params signer.now.public.set in let sk_seed = signer.now.sk_seed.now in
-        let pk_seed = signer.now.public.pk_seed.now in
-        out.new ≡ end_to_end
-        (λ c. chain_of p pk_seed at c (secret p sk_seed pk_seed at c) 0 (slice_index counts.now c)) (len p) }
-{
-    let set = signer.public.set;
-    let n = set.n();
-    for c in 0..set.len() {
-        let secret = wots_secret(signer, at, c as u32);
-        let value = run_chain(&signer.public, at, c as u32, secret, 0, counts[c]);
-        put_chunk(out, n, c, &value);
-    }
-}
-
-/// Writes the value of each chain of a key after its number of steps from its secret. If a seed does not have n bytes,
-/// one chain is run after another.
-pub(crate) fn run_secrets(signer: &SigningContext, at: Place, counts: &ChainNumbers, out: &mut [u8])
-    requires steps { (c : ℕ) → slice_index counts.now c ≤ MOST_STEPS }
-    requires out { length out.old ≡ len (params signer.now.public.set) * (params signer.now.public.set).n }
-    ensures { let p = params signer.now.public.set in let sk_seed = signer.now.sk_seed.now in
-        let pk_seed = signer.now.public.pk_seed.now in
-        out.new ≡ end_to_end
-        (λ c. chain_of p pk_seed at c (secret p sk_seed pk_seed at c) 0 (slice_index counts.now c)) (len p) }
-{
-    match signer.lanes() {
-        None => run_secrets_alone(signer, at, counts, out),
-        Some(lanes) => run_secrets_in_lanes(lanes, signer.sk_seed, at, counts, out),
-    }
-}
-
 impl<'a> SigningContext<'a> {
     /// The public key at a place: n bytes (Algorithm 6).
     #[tactic(auto, using(crate::proofs::Checksum::chain_bounds))]
@@ -143,7 +100,7 @@ impl<'a> SigningContext<'a> {
         let mut buffer = [0; MOST_WOTS_SIG_LEN];
         let ends = &mut buffer[..wots_sig_len(set)];
         let last = [set.w() - 1; MOST_DIGITS];
-        run_secrets(self, at, &last, ends);
+        run_secrets_in_lanes(self.lanes(), self.sk_seed, at, &last, ends);
         compressed_ends(&self.public, at, ends)
     }
 
@@ -159,7 +116,7 @@ impl<'a> SigningContext<'a> {
             wots_pk_from_sig p pk_seed at msg.now.items out.new ≡ wots_pk p self.now.sk_seed.now pk_seed at }
     {
         let digits = digits_of(self.public.set, msg);
-        run_secrets(self, at, &digits, out);
+        run_secrets_in_lanes(self.lanes(), self.sk_seed, at, &digits, out);
     }
 }
 

@@ -3,7 +3,6 @@ ghost use Rattle.std.specs.Prelude.{◌≡◌, ◌+◌, ◌*◌, ◌^◌, ◌≤
 ghost use Rattle.slh_params.specs.ParamSet.{params};
 ghost use Rattle.slh_tree.specs.Cover.{past_leaf};
 ghost use Rattle.slh_tree.specs.Tree.{node, root as root_of};
-ghost use Rattle.slh_few.specs.Wots.{wots_pk};
 ghost use Rattle.slh_few.specs.Xmss.{xmss_tree, xmss_sig, xmss_pk_from_sig, xmss_sig_len};
 
 use crate::context::{HashContext, SigningContext};
@@ -11,7 +10,7 @@ use crate::lanes::sign_giving_leaf;
 use crate::place::{Place, Public, Seeds};
 use crate::xmss_tree::XmssJoins;
 use slh_params::Node;
-use slh_tree::{climb, node, path};
+use slh_tree::{climb, node};
 
 impl<'a> SigningContext<'a> {
     /// xmss_node (Algorithm 9): the node of height `z` at index `i` of tree `tree` of layer `layer`, n bytes, from the
@@ -26,42 +25,6 @@ impl<'a> SigningContext<'a> {
         node(&self.xmss_nodes(layer, tree), z, i)
     }
 
-    /// Writes the signature as `xmss_sign` does. The leaf that signs is not made. It is for trees of fewer than eight
-    /// leaves, and for seeds that do not have n bytes.
-    fn sign_alone(&self, at: Place, msg: &Node, out: &mut [u8])
-        requires pair { at.pair < 2 ^ (params self.now.public.set).hp }
-        requires msg { length msg.now.items ≡ (params self.now.public.set).n }
-        requires out { length out.old ≡ xmss_sig_len (params self.now.public.set) }
-        ensures { let p = params self.now.public.set in let pk_seed = self.now.public.pk_seed.now in
-            out.new ≡ xmss_sig p self.now.sk_seed.now pk_seed at msg.now.items }
-    {
-        let set = self.public.set;
-        let (wots, auth) = out.split_at_mut(set.len() * set.n());
-        self.wots_sign(at, msg, wots);
-        path(&self.xmss_nodes(at.layer, at.tree), at.pair, auth);
-    }
-
-    /// Writes the signature as `xmss_sign` does, and gives the leaf that signs. None of its chains is computed twice.
-    pub(crate) fn sign_tree(&self, at: Place, msg: &Node, out: &mut [u8]) -> Node
-        requires pair { at.pair < 2 ^ (params self.now.public.set).hp }
-        requires msg { length msg.now.items ≡ (params self.now.public.set).n }
-        requires out { length out.old ≡ xmss_sig_len (params self.now.public.set) }
-        ensures signature { let p = params self.now.public.set in let pk_seed = self.now.public.pk_seed.now in
-            out.new ≡ xmss_sig p self.now.sk_seed.now pk_seed at msg.now.items }
-        ensures leaf { let p = params self.now.public.set in let pk_seed = self.now.public.pk_seed.now in
-            result.items ≡ wots_pk p self.now.sk_seed.now pk_seed at }
-    {
-        let set = self.public.set;
-        if EIGHT_LEAVES <= set.hp()
-            && let Some(lanes) = self.lanes()
-        {
-            return sign_giving_leaf(self, lanes, at, msg, out);
-        }
-        self.sign_alone(at, msg, out);
-        let (wots, _auth) = out.split_at(set.len() * set.n());
-        self.public.wots_pk_from_sig(at, msg, wots)
-    }
-
     /// Writes the signature of a message of n bytes: that of the leaf's WOTS+ key, then the leaf's path,
     /// (len + h') * n bytes (Algorithm 10). The root that the signature gives is the tree's.
     pub fn xmss_sign(&self, at: Place, msg: &Node, out: &mut [u8])
@@ -74,18 +37,9 @@ impl<'a> SigningContext<'a> {
             xmss_pk_from_sig p pk_seed at msg.now.items out.new
             ≡ root_of (xmss_tree p self.now.sk_seed.now pk_seed at.layer at.tree) }
     {
-        if EIGHT_LEAVES <= self.public.set.hp()
-            && let Some(lanes) = self.lanes()
-        {
-            sign_giving_leaf(self, lanes, at, msg, out);
-        } else {
-            self.sign_alone(at, msg, out);
-        }
+        sign_giving_leaf(self, at, msg, out);
     }
 }
-
-/// The height of a tree of eight leaves: from it on, the leaf that signs is made together with seven others.
-const EIGHT_LEAVES: u32 = 3;
 
 impl<'a> HashContext<'a> {
     /// The root that a signature of a message of n bytes gives: n bytes (Algorithm 11).

@@ -49,7 +49,9 @@ pub fn key_answer_len(set: ParamSet) -> usize
 
 /// The node of a range of the tree.
 fn key_node(levels: &Levels, sk_seed: &[u8], pk_seed: &[u8], range: u32) -> Node
-    requires { range < key_jobs levels.now }
+    requires sk_seed { length sk_seed.now ≡ (params levels.now.set).n }
+    requires pk_seed { length pk_seed.now ≡ (params levels.now.set).n }
+    requires range { range < key_jobs levels.now }
     ensures value { result.items
         ≡ node (key_tree levels.now sk_seed.now pk_seed.now) (below (key_shape levels.now)) range }
     ensures len { length result.items ≡ (params levels.now.set).n }

@@ -248,17 +248,17 @@ const EIGHT_NODES: u32 = 3;
 
 impl<'c, 'a> ForsNodes<'c, 'a> {
     /// fors_node (Algorithm 15): the node of height `z` at index `i` of this tree, from the leaves below it. From
-    /// height 3 on it is made in lanes if the seeds have n bytes.
+    /// height 3 on it is made in lanes.
     #[tactic(auto, unfolding(crate::specs::Trees::fors_nodes_of))]
     pub(crate) fn node(&self, z: u32, i: u32) -> Node
         requires height { z ≤ (params self.now.signer.now.public.set).a }
         requires within { past_leaf z i ≤ 2 ^ (params self.now.signer.now.public.set).a }
         ensures { result.items ≡ node (fors_nodes_of self.now) z i }
     {
-        if EIGHT_NODES <= z
-            && let Some(lanes) = self.signer.lanes()
-        {
-            self.at.node_from_lanes(lanes, self.signer.sk_seed, z, i)
+        if EIGHT_NODES <= z {
+            let signer = self.signer;
+            self.at
+                .node_from_lanes(signer.lanes(), signer.sk_seed, z, i)
         } else {
             node(self, z, i)
         }

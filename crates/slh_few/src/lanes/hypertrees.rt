@@ -30,7 +30,7 @@ use slh_params::{AdrsType, Node, ParamSet};
 /// The ends of the chains of eight keys.
 type Ends = [[u8; MOST_WOTS_SIG_LEN]; GROUP];
 
-/// Puts the PK.seeds into one lane each. False if the build has one lane, or a PK.seed does not have n bytes.
+/// Puts the PK.seeds into one lane each. False if the build has one lane.
 fn put_seeds(set: ParamSet, signed: &[HtSignature; GROUP], seeds: &mut LaneSeeds) -> bool
     requires signed { AreUnder set signed.now }
     requires set { params seeds.old.set ≡ params set }
@@ -113,8 +113,7 @@ fn messages_of(set: ParamSet, signed: &[HtSignature; GROUP]) -> LaneNodes
     nodes
 }
 
-/// Writes the ends of the chains of the key at a place, which signs a node on a layer. False if the build has one lane,
-/// or PK.seed does not have n bytes.
+/// Writes the ends of the chains of the key at a place, which signs a node on a layer. False if the build has one lane.
 fn put_ends_of(
     set: ParamSet,
     signature: &HtSignature,
@@ -140,7 +139,7 @@ fn put_ends_of(
 }
 
 /// Writes the ends of the chains of each key of a layer, which signs the node in its lane. False if the build has one
-/// lane, or a PK.seed does not have n bytes.
+/// lane.
 fn put_all_ends(
     set: ParamSet,
     signed: &[HtSignature; GROUP],
@@ -284,7 +283,7 @@ fn climbed(
 }
 
 /// Puts into each lane the root of the layer's tree that the signature of the node in the lane gives. False if the
-/// build has one lane, or a PK.seed does not have n bytes.
+/// build has one lane.
 fn put_layer_roots(
     set: ParamSet,
     signed: &[HtSignature; GROUP],
@@ -310,8 +309,7 @@ fn put_layer_roots(
     true
 }
 
-/// Puts into each lane the root of the top tree that its signature gives. False if the build has one lane, or a PK.seed
-/// does not have n bytes.
+/// Puts into each lane the root of the top tree that its signature gives. False if the build has one lane.
 fn put_top_roots(
     set: ParamSet,
     signed: &[HtSignature; GROUP],
@@ -335,8 +333,7 @@ fn put_top_roots(
     true
 }
 
-/// Puts into each lane the root of the top tree that its signature gives. False if the build has no lanes for F and H,
-/// or a PK.seed does not have n bytes.
+/// Puts into each lane the root of the top tree that its signature gives. False if the build has no lanes for F and H.
 pub(crate) fn put_roots_in_lanes(
     set: ParamSet,
     signed: &[HtSignature; GROUP],

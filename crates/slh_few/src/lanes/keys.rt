@@ -4,7 +4,6 @@ ghost use Rattle.slh_params.specs.AdrsType.{type_number};
 ghost use Rattle.slh_params.specs.Params.{len};
 ghost use Rattle.slh_params.specs.ParamSet.{params};
 ghost use Rattle.slh_lanes.specs.Lanes.{HasAddress, group};
-ghost use Rattle.slh_few.specs.HashContext.{LanesUnder};
 ghost use Rattle.slh_few.specs.Chunks.{end_to_end};
 ghost use Rattle.slh_few.specs.Wots.{wots_address, wots_pk, wots_sig};
 ghost use Rattle.slh_few.specs.Xmss.{AreKeysFrom, place, xmss_sig, xmss_sig_len};
@@ -126,17 +125,14 @@ fn sign_among_eight(
 }
 
 /// Writes the signature as `xmss_sign` does, and gives the leaf that signs. That leaf is made together with the seven
-/// others below its node of height 3, and the path's nodes of heights 0 to 2 are made from those. It is for trees of
-/// eight leaves or more.
+/// others below its node of height 3, and the path's nodes of heights 0 to 2 are made from those. If the tree has fewer
+/// than eight leaves, the keys after its last leaf are not read.
 pub(crate) fn sign_giving_leaf(
     signer: &SigningContext,
-    lanes: &SeededLanes,
     at: Place,
     msg: &Node,
     out: &mut [u8],
 ) -> Node
-    requires lanes { LanesUnder (params signer.now.public.set) signer.now.public.pk_seed.now lanes.now }
-    requires sk_seed { length signer.now.sk_seed.now ≡ (params signer.now.public.set).n }
     requires pair { at.pair < 2 ^ (params signer.now.public.set).hp }
     requires msg { length msg.now.items ≡ (params signer.now.public.set).n }
     requires out { length out.old ≡ xmss_sig_len (params signer.now.public.set) }
@@ -148,7 +144,7 @@ pub(crate) fn sign_giving_leaf(
         result.items ≡ wots_pk p sk_seed pk_seed at }
 {
     let (wots, auth) = out.split_at_mut(signer.public.set.len() * signer.public.set.n());
-    let group = sign_among_eight(lanes, signer.sk_seed, at, msg, wots);
+    let group = sign_among_eight(signer.lanes(), signer.sk_seed, at, msg, wots);
     let tree = signer.xmss_nodes_knowing(first_of_eight(at), group);
     path(&tree, at.pair, auth);
     tree.leaf(at.pair)

@@ -14,7 +14,7 @@ returns-clause-signature c =
     let p = params c.args.self.now.public.set in
     let sk = c.args.self.now.sk_seed.now in
     let pk = c.args.self.now.public.pk_seed.now in
-    c.run_secrets.ensures
+    rw (c.lanes.ensures.set, c.lanes.ensures.pk_seed) at c.run_secrets_in_lanes.ensures
     ∙ end_to_end-same _ (signed_chain p sk pk c.args.at c.args.msg.now.items) (len p) (λ i low.
     ap (λ s. chain p pk c.args.at i (secret p sk pk c.args.at i) 0 s) (c.digits_of-digits.ensures.digits i low))
 

@@ -1,5 +1,5 @@
 -- Where eight leaves are made at once, the key at the place is in its lane.
-use Rattle.std.proofs.Common.{◌≡◌, ℕ, ◌+◌, List, [], ◌∷◌, ◌++◌, length, slice_index_or, ap, subst, ◌∙◌, rules, arith}
+use Rattle.std.proofs.Common.{◌≡◌, ℕ, ◌+◌, List, [], ◌∷◌, ◌++◌, length, slice_index_or, ap, subst, ◌∙◌, arith}
 use Rattle.arrayvec.specs.ArrayVec.{ArrayVec}
 use Rattle.slh_params.specs.Params.{len}
 use Rattle.slh_params.specs.ParamSet.{params}
@@ -12,17 +12,8 @@ use Rattle.slh_few.specs.declared.place.Place.{Place}
 use Rattle.slh_few.proofs.EightKeys.{among_eight}
 use Rattle.slh_few.proofs.context.SigningContext.xmss_nodes_with_checkpoints.Goals as goal
 
-pub eight_keys-group-requires-clause-sk_seed : goal.eight_keys-group-requires-clause-sk_seed
-eight_keys-group-requires-clause-sk_seed c =
-    let under = rw c.in-Some.is at c.lanes.ensures.under in
-    let whole = rw c.in-Some.is at c.lanes.ensures.whole in
-    rw under.0 (search rules)
-
-pub eight_keys-group-requires-clause-out : goal.eight_keys-group-requires-clause-out
-eight_keys-group-requires-clause-out c = let under = rw c.in-Some.is at c.lanes.ensures.under in rw under.0 c.requires
-
 pub xmss_nodes_knowing-requires : goal.xmss_nodes_knowing-requires
-xmss_nodes_knowing-requires c = let under = rw c.in-Some.is at c.lanes.ensures.under in rw (under.0, under.1) at c.eight_keys-group.ensures.keys
+xmss_nodes_knowing-requires c = rw (c.lanes.ensures.set, c.lanes.ensures.pk_seed) at c.eight_keys-group.ensures.keys
 
 -- the only leaf that is known is that of the key
 pub xmss_nodes_knowing-requires-else-has_eight_in_range : goal.xmss_nodes_knowing-requires-else-has_eight_in_range
@@ -41,17 +32,16 @@ xmss_nodes_knowing-requires-else-has_eight_in_range c = λ j d lt.
     (ap (λ (xs : List (ArrayVec ℕ)). (slice_index_or xs 0 d).items) one ∙ c.wots_pk_with_checkpoints.ensures.value
     ∙ ap (λ (k : ℕ). wots_pk p sk pk (place at.layer at.tree k)) here)
 
-pub returns-in-Some-clause-tree : goal.returns-in-Some-clause-tree
-returns-in-Some-clause-tree c =
+pub returns-then-has_eight_in_range-clause-tree : goal.returns-then-has_eight_in_range-clause-tree
+returns-then-has_eight_in_range-clause-tree c =
     c.xmss_nodes_knowing.ensures
     ∙ ap (λ (a : Place). xmss_tree (params c.args.self.now.public.set) c.args.self.now.sk_seed.now c.args.self.now.public.pk_seed.now a.layer a.tree) c.first_of_eight-first.ensures
 
-pub returns-in-Some-clause-checkpoints : goal.returns-in-Some-clause-checkpoints
+pub returns-then-has_eight_in_range-clause-checkpoints : goal.returns-then-has_eight_in_range-clause-checkpoints
 unfolding key_checkpoints
-returns-in-Some-clause-checkpoints c =
+returns-then-has_eight_in_range-clause-checkpoints c =
     let p = params c.args.self.now.public.set in
-    let under = rw c.in-Some.is at c.lanes.ensures.under in
     let first = c.first_of_eight-first.result in
     let key = ap (key_at first) c.lane_among_eight-lane.ensures ∙ among_eight c.args.at first c.first_of_eight-first.ensures in
-    (rw (under.0, under.1) at c.eight_keys-group.ensures.stored)
+    (rw (c.lanes.ensures.set, c.lanes.ensures.pk_seed) at c.eight_keys-group.ensures.stored)
     ∙ ap (λ (a : Place). end_to_end (chain_checkpoints p c.args.self.now.sk_seed.now c.args.self.now.public.pk_seed.now a) (len p)) key

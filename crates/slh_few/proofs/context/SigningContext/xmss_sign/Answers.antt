@@ -12,8 +12,5 @@ root_from : (s : ParamSet) (sk pk : List ℕ) (at : Place) (m sig : List ℕ) �
     → xmss_pk_from_sig (params s) pk at m sig ≡ root (xmss_tree (params s) sk pk at.layer at.tree)
 root_from s sk pk at m sig low e = ap (xmss_pk_from_sig (params s) pk at m) e ∙ xmss_pk_from_sig-xmss_sig s sk pk at m low
 
-pub returns-in-Some-clause-key : goal.returns-in-Some-clause-key
-returns-in-Some-clause-key c = root_from _ _ _ _ _ _ c.requires.pair c.sign_giving_leaf.ensures.signature
-
-pub returns-else-hp-ge-EIGHT_LEAVES-clause-key : goal.returns-else-hp-ge-EIGHT_LEAVES-clause-key
-returns-else-hp-ge-EIGHT_LEAVES-clause-key c = root_from _ _ _ _ _ _ c.requires.pair c.sign_alone.ensures
+pub returns-clause-key : goal.returns-clause-key
+returns-clause-key c = root_from _ _ _ _ _ _ c.requires.pair c.sign_giving_leaf.ensures.signature

@@ -1,4 +1,4 @@
-use Rattle.std.proofs.Common.{◌≡◌, ℕ, ◌+◌, ◌-◌, ◌*◌, ◌^◌, ◌<◌, ◌≤◌, inl, inr, arith, sym, ◌∙◌, rules}
+use Rattle.std.proofs.Common.{◌≡◌, ℕ, ◌+◌, ◌-◌, ◌*◌, ◌^◌, ◌<◌, ◌≤◌, inl, inr, arith, sym, ◌∙◌}
 use Rattle.std.proofs.Math.Nat.{mul-le-mul_right}
 use Rattle.std.proofs.lemmas.Bool.{cases_lt}
 use Rattle.std.proofs.lemmas.Nat.{pow-add, pow_pos}
@@ -18,21 +18,11 @@ is_below a z i high within = elim (cases_lt i (2 ^ (a - z))) [
       absurd (omega (arith, within, all, up, pow_pos z))
 ]
 
-pub node_from_lanes-requires-clause-sk_seed : goal.node_from_lanes-requires-clause-sk_seed
-node_from_lanes-requires-clause-sk_seed c =
-    let under = rw c.in-Some.is at c.lanes.ensures.under in
-    let whole = rw c.in-Some.is at c.lanes.ensures.whole in
-    rw under.0 (search rules)
-
-pub node_from_lanes-requires-clause-height : goal.node_from_lanes-requires-clause-height
-node_from_lanes-requires-clause-height c = let under = rw c.in-Some.is at c.lanes.ensures.under in rw under.0 c.requires.height
-
 pub node_from_lanes-requires-clause-index : goal.node_from_lanes-requires-clause-index
 node_from_lanes-requires-clause-index c =
-    let under = rw c.in-Some.is at c.lanes.ensures.under in
     let high : c.args.z ≤ (params c.args.self.now.signer.now.public.set).a = omega (arith, c.requires.height) in
-    rw under.0 (is_below (params c.args.self.now.signer.now.public.set).a c.args.z c.args.i high c.requires.within)
+    rw c.lanes.ensures.set (is_below (params c.args.self.now.signer.now.public.set).a c.args.z c.args.i high c.requires.within)
 
-pub returns-in-Some : goal.returns-in-Some
+pub returns-then-z-ge-EIGHT_NODES : goal.returns-then-z-ge-EIGHT_NODES
 unfolding fors_nodes_of
-returns-in-Some c = let under = rw c.in-Some.is at c.lanes.ensures.under in rw (under.0, under.1) at c.node_from_lanes.ensures
+returns-then-z-ge-EIGHT_NODES c = rw (c.lanes.ensures.set, c.lanes.ensures.pk_seed) at c.node_from_lanes.ensures

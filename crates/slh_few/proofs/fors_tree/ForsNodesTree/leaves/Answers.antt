@@ -8,10 +8,9 @@ use Rattle.slh_few.proofs.fors_tree.ForsNodesTree.leaves.Goals as goal
 pub first_nodes-requires-clause-n : goal.first_nodes-requires-clause-n
 first_nodes-requires-clause-n c = omega (arith, c.n.ensures, n_high c.args.self.now.signer.now.public.set)
 
-pub returns-in-Some-clause-leaves : goal.returns-in-Some-clause-leaves
+pub returns-clause-leaves : goal.returns-clause-leaves
 unfolding fors_nodes_of
-returns-in-Some-clause-leaves c = λ j d lt.
-    let under = rw c.in-Some.is at c.lanes.ensures.under in
+returns-clause-leaves c = λ j d lt.
     let lane : j < 8 = omega (arith, lt, c.first_nodes.ensures.len, c.requires.few) in
     c.first_nodes.ensures.values j d lt ∙ ap (value_at c.leaf_lanes-leaves.result j) c.n.ensures
-    ∙ (rw (under.0, under.1) at (c.leaf_lanes-leaves.ensures j lane))
+    ∙ (rw (c.lanes.ensures.set, c.lanes.ensures.pk_seed) at (c.leaf_lanes-leaves.ensures j lane))

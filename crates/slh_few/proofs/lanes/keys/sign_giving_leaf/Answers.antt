@@ -13,7 +13,7 @@ use Rattle.slh_few.proofs.lanes.keys.sign_giving_leaf.Goals.{After-xmss_nodes_kn
 pub xmss_nodes_knowing-tree-requires : goal.xmss_nodes_knowing-tree-requires
 xmss_nodes_knowing-tree-requires c =
     subst (λ (a : Place). AreKeysFrom (params c.args.signer.now.public.set) c.args.signer.now.sk_seed.now c.args.signer.now.public.pk_seed.now a c.sign_among_eight-group.result.items)
-    (sym c.first_of_eight.ensures) (rw (c.requires.lanes.0, c.requires.lanes.1) at c.sign_among_eight-group.ensures.keys)
+    (sym c.first_of_eight.ensures) (rw (c.lanes.ensures.set, c.lanes.ensures.pk_seed) at c.sign_among_eight-group.ensures.keys)
 
 -- the tree is that of the place
 tree_there : (c : After-xmss_nodes_knowing-tree)
@@ -32,15 +32,9 @@ returns-clause-signature c =
     let at = c.args.at in
     let there = (goal.at.returns-clause-signature c).After-xmss_nodes_knowing-tree in
     let b : c.path.new.out ≡ path (xmss_tree p sk pk at.layer at.tree) at.pair = rw (tree_there there) at c.path.ensures in
-    ap (λ xs. xs ++ c.path.new.out) (rw (c.requires.lanes.0, c.requires.lanes.1) at c.sign_among_eight-group.ensures.signature) ∙ ap (λ ys. wots_sig p sk pk at c.args.msg.now.items ++ ys) b
+    ap (λ xs. xs ++ c.path.new.out) (rw (c.lanes.ensures.set, c.lanes.ensures.pk_seed) at c.sign_among_eight-group.ensures.signature) ∙ ap (λ ys. wots_sig p sk pk at c.args.msg.now.items ++ ys) b
 
 pub returns-clause-leaf : goal.returns-clause-leaf
 returns-clause-leaf c =
     let there = (goal.at.returns-clause-leaf c).After-xmss_nodes_knowing-tree in
     c.leaf.ensures ∙ ap (λ (t : MerkleTree). t.leaf c.args.at.pair) (tree_there there)
-
-pub sign_among_eight-group-requires-clause-sk_seed : goal.sign_among_eight-group-requires-clause-sk_seed
-sign_among_eight-group-requires-clause-sk_seed c = rw c.requires.lanes.0 c.requires.sk_seed
-
-pub sign_among_eight-group-requires-clause-msg : goal.sign_among_eight-group-requires-clause-msg
-sign_among_eight-group-requires-clause-msg c = rw c.requires.lanes.0 c.requires.msg
