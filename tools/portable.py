@@ -43,7 +43,7 @@ FILES = {
 NESTED = {"slh_few_fors_tree_ForsPlace_sixteen_nodes": 11}
 # The functions that compare what is secret, and look at all bytes before they decide. A compiler that inlines one for
 # a known number of bytes can make branches of it. And those that compare twice, which a compiler could do once.
-COMPARISONS = {"slh_jobs_tag_have_same_bytes", "slh_core_hardened_passes", "slh_core_hardened_passes_again"}
+COMPARISONS = {"slh_core_comparing_are_same", "slh_core_hardened_passes", "slh_core_hardened_passes_again"}
 DEFINITION = re.compile(r"^(u32|u64|void) (w2c_slh_\w+)\(w2c_slh\* instance([^{;]*)\) \{\n(.*?)^\}\n", re.M | re.S)
 # The functions for the blocks of SHA-512, which the sets whose n is 16 never reach.
 LONG_BLOCKS = re.compile(r"\bsha2_block512_\w+")

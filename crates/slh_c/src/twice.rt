@@ -22,7 +22,7 @@ use crate::pure_form::slh_sign;
 use crate::randomizer::randomizer_of;
 use crate::refusal::{DONE, Refusal, or_refuse};
 use crate::rules::{self, judge};
-use slh_jobs::have_same_bytes;
+use slh_core::are_same;
 
 /// Exchanges the first signature with the bytes of `sig`, and compares what is in `sig` then with the second signature.
 /// If they differ, exchanges them back, so that `sig` is as it was.
@@ -35,7 +35,7 @@ fn exchange(first: &mut [u8], second: &[u8], sig: &mut [u8]) -> bool
     ensures len { length first.new ≡ length first.old }
 {
     sig.swap_with_slice(first);
-    let is_same = have_same_bytes(sig, second);
+    let is_same = are_same(sig, second);
     if !is_same {
         sig.swap_with_slice(first);
     }
@@ -55,7 +55,7 @@ fn release(are_done: bool, first: &mut [u8], second: &[u8], sig: &mut [u8]) -> u
     ensures refused { result ≢ DONE → sig.new ≡ sig.old }
     ensures len { length first.new ≡ length first.old }
 {
-    if are_done && have_same_bytes(first, second) && exchange(first, second, sig) {
+    if are_done && are_same(first, second) && exchange(first, second, sig) {
         DONE
     } else {
         Refusal::Fault.number()

@@ -2,6 +2,7 @@
 //! signing and verifying.
 #![tactic(auto, using(slh_params::proofs::Bounds::n_high))]
 
+pub use comparing::are_same;
 pub use digest_parts::{
     DigestIndices, DigestIndices as Cut, digest_indices, digest_indices as cut_digest,
 };

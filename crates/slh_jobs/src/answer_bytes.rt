@@ -14,7 +14,8 @@ ghost use Rattle.slh_subtrees.specs.declared.jobs.TheConstants.{MOST_JOBS_OF_A_K
 
 use crate::jobs::ranges;
 use crate::shape::Shape;
-use crate::tag::{AnswerTags, answer_tag, are_same};
+use crate::tag::{AnswerTags, answer_tag};
+use slh_core::are_same;
 use slh_hash::CategoryHmac;
 use slh_lanes::{GROUP, HmacLanes, LaneNodes, lane_node, node_lanes, set_lane};
 use slh_params::{Node, node_of, put_node};
@@ -50,12 +51,12 @@ impl<'a> AnswerBytes<'a> {
     }
 
     /// The tag of answer `c`.
-    fn tag(&self, c: usize) -> Node
+    fn tag(&self, c: usize) -> &'a [u8]
         requires { (c + 1) * answer_len self.now.shape ≤ length self.now.bytes.now }
-        ensures { result.items ≡ tag_given self.now.shape self.now.bytes.now c }
+        ensures { result.now ≡ tag_given self.now.shape self.now.bytes.now c }
     {
         let n = self.shape.n;
-        node_of(&self.answer(c)[n..2 * n])
+        &self.answer(c)[n..2 * n]
     }
 
     /// The nodes of a path of answer `c`.
@@ -101,7 +102,8 @@ fn judged_node(given: &AnswerBytes, c: u32, keyed: &CategoryHmac, job: u32) -> O
     ensures len { IfSome result (λ node. length node.items ≡ given.now.shape.n) }
 {
     let node = given.node(c as usize);
-    if are_same(&answer_tag(keyed, job, &node), &given.tag(c as usize)) {
+    let tag = answer_tag(keyed, job, &node);
+    if are_same(tag.as_slice(), given.tag(c as usize)) {
         Some(node)
     } else {
         None
@@ -176,7 +178,7 @@ fn have_tags(given: &AnswerBytes, first: u32, r: usize, used: usize, values: &La
 {
     for j in 0..used {
         let tag = given.tag(first as usize + (r + j));
-        if !are_same(&lane_node(values, j, 16), &tag) {
+        if !are_same(lane_node(values, j, 16).as_slice(), tag) {
             return false;
         }
     }

@@ -10,11 +10,11 @@ ghost use Rattle.slh_core.specs.declared.digest_parts.TheConstants.{MOST_DIGEST_
 ghost use Rattle.slh_jobs.specs.Tags.{begun_len, start_len};
 ghost use Rattle.slh_jobs.specs.declared.start.TheConstants.{MOST_START_LEN};
 
-use crate::tag::{are_same, start_tag};
+use crate::tag::start_tag;
 use arrayvec::ArrayVec;
 use slh_core::signing_steps::{MOST_DIGEST_LEN, randomized_digest};
-use slh_core::{Form, Randomizer, SecretKey, SignFault};
-use slh_params::{ParamSet, node_of};
+use slh_core::{Form, Randomizer, SecretKey, SignFault, are_same};
+use slh_params::ParamSet;
 
 /// No start is longer, in any set: R, a digest and a tag.
 pub const MOST_START_LEN: usize = 32 + MOST_DIGEST_LEN + 32;
@@ -55,7 +55,7 @@ pub(crate) fn is_start(sk: &SecretKey, start: &[u8]) -> bool
     ensures { IsTrue result ↔ IsStart sk.now start.now }
 {
     let (begun, tag) = start.split_at(begun_len(sk.set()));
-    are_same(&start_tag(sk, begun), &node_of(tag))
+    are_same(start_tag(sk, begun).as_slice(), tag)
 }
 
 /// Writes R and the digest of the parts put end to end.

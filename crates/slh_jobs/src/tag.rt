@@ -1,6 +1,6 @@
 //! Tags (ours). A tag is the HMAC of a start, or of a node of an answer. By it a call refuses one that was made under
 //! another key, or for another set, message or job, or that was changed since.
-ghost use Rattle.std.specs.Prelude.{◌≡◌, ◌↔◌, ℕ, List, [], ◌∷◌, ◌*◌, ◌^◌, ◌+◌, ◌<◌, ◌≤◌, IsTrue, IsSome, IfSome, length};
+ghost use Rattle.std.specs.Prelude.{◌≡◌, ◌↔◌, ℕ, List, [], ◌∷◌, ◌*◌, ◌^◌, ◌+◌, ◌<◌, ◌≤◌, IsSome, IfSome, length};
 ghost use Rattle.slh_params.specs.Params.{Params};
 ghost use Rattle.slh_params.specs.ParamSet.{params};
 ghost use Rattle.slh_params.specs.declared.param_set.ParamSet.{ParamSet};
@@ -230,25 +230,4 @@ pub(crate) fn answer_tag(keyed: &CategoryHmac, job: u32, node: &Node) -> Node
     keyed.update(&job.to_be_bytes());
     keyed.update(node);
     keyed.finish()
-}
-
-/// Whether two nodes are the same. All bytes are looked at before the answer.
-pub(crate) fn are_same(left: &Node, right: &Node) -> bool
-    ensures { IsTrue result ↔ (left.now.items ≡ right.now.items) }
-{
-    left.len() == right.len() && have_same_bytes(left, right)
-}
-
-/// Whether two slices of one length have the same bytes. All are looked at before the answer. A compiler that inlines
-/// this for a known length makes a branch of each byte, so it is never inlined.
-#[inline(never)]
-pub fn have_same_bytes(left: &[u8], right: &[u8]) -> bool
-    requires { length left.now ≡ length right.now }
-    ensures { IsTrue result ↔ (left.now ≡ right.now) }
-{
-    let mut differences = 0;
-    for i in 0..left.len() {
-        differences |= left[i] ^ right[i];
-    }
-    differences == 0
 }

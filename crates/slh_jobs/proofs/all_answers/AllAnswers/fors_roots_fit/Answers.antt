@@ -31,11 +31,6 @@ pub put_fors_roots-requires-clause-out : goal.put_fors_roots-requires-clause-out
 put_fors_roots-requires-clause-out c =
     length-take-le (length c.args.tops.now) _ (few c.args.self.now.signing.trees.signer.now.public.set (length c.args.tops.now) c.requires.len) ∙ c.requires.len
 
-pub have_same_bytes-requires : goal.have_same_bytes-requires
-have_same_bytes-requires c =
-    c.put_fors_roots.auto.out
-    ∙ length-take-le (length c.args.tops.now) _ (few c.args.self.now.signing.trees.signer.now.public.set (length c.args.tops.now) c.requires.len)
-
 pub returns : goal.returns
 returns c =
     let x = c.args.self.now in
@@ -51,7 +46,7 @@ returns c =
     let climbed : c.put_fors_roots.new.out ≡ end_to_end given p.k = c.put_fors_roots.ensures in (
       λ yes j lt.
           sym (same j lt) ∙ sym (chunk-end_to_end given p.n p.k j lt wide)
-          ∙ ap (λ (xs : List ℕ). chunk p.n xs j) (sym climbed ∙ c.have_same_bytes.ensures.0 yes ∙ c.requires.tops)
+          ∙ ap (λ (xs : List ℕ). chunk p.n xs j) (sym climbed ∙ c.are_same.ensures.0 yes ∙ c.requires.tops)
           ∙ chunk-end_to_end roots p.n p.k j lt c.requires.widths,
-      λ fit. c.have_same_bytes.ensures.1 (climbed ∙ end_to_end-same given roots p.k (λ j lt. same j lt ∙ fit j lt) ∙ sym c.requires.tops),
+      λ fit. c.are_same.ensures.1 (climbed ∙ end_to_end-same given roots p.k (λ j lt. same j lt ∙ fit j lt) ∙ sym c.requires.tops),
     )

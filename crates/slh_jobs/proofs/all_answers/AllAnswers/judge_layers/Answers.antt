@@ -2,7 +2,6 @@
 use Rattle.std.proofs.Common.{◌≡◌, ℕ, ◌+◌, ◌*◌, ◌++◌, List, length, take, refl, arith, add-one, ap, ◌∙◌, sym}
 use Rattle.slh_few.specs.Xmss.{xmss_sig_len}
 use Rattle.slh_few.proofs.Ends.{end_to_end-none, writes-more, written_all}
-use Rattle.slh_core.specs.Keys.{public_of, pk_root}
 use Rattle.slh_subtrees.specs.Assembled.{signed_by, layer_part_by}
 use Rattle.slh_subtrees.specs.declared.range.JobTree.TheVariants.{Xmss}
 use Rattle.slh_jobs.specs.AllAnswers.{params_in, source_in, answers_in, path_in, path_len_in}
@@ -72,11 +71,12 @@ returns-clause-fit c =
     let end : c.loop-layer.layer ≡ p.d = omega (arith, c.d-layer-end.ensures) in
     let signed : ℕ → List ℕ = signed_by (source_in x) (answers_in x) in
     let msg : c.loop-layer.msg.items ≡ signed p.d = c.loop-layer.invariant.0 ∙ ap signed end in
-    let root : c.node_of.result.items ≡ pk_root (public_of x.signing.sk.now) = c.node_of.ensures ∙ c.pk_root.ensures.value in (
+    let own = c.as_slice.ensures.value ∙ msg in
+    let root = c.pk_root.ensures.value in (
       λ yes. (
         λ l lt. c.loop-layer.invariant.6 l (omega (arith, lt, end)),
         λ l lt. c.loop-layer.invariant.7 l (omega (arith, lt, end)),
-        sym msg ∙ c.are_same.ensures.0 yes ∙ root,
+        sym own ∙ c.are_same.ensures.0 yes ∙ root,
       ),
-      λ fit. c.are_same.ensures.1 (msg ∙ fit.2 ∙ sym root),
+      λ fit. c.are_same.ensures.1 (own ∙ fit.2 ∙ sym root),
     )
