@@ -12,7 +12,7 @@ ghost use Rattle.slh_key_files.specs.declared.key_kind.KeyKind.TheVariants.{Publ
 use super::base64_lines::{get_base64, put_base64};
 use super::key_file::AnyKey;
 use super::key_kind::KeyKind;
-use slh_core::{PublicKey, SecretKey};
+use slh_core::{PublicKey, SecretKey, are_same};
 use slh_params::ParamSet;
 
 /// The length of a key in DER.
@@ -223,20 +223,6 @@ fn parts_of(len: usize) -> Option<(usize, usize)>
         257 | 258 => Some((28, 150)),
         _ => None,
     }
-}
-
-/// Whether two texts have the same bytes. All are looked at before the answer, which alone depends on them.
-fn are_same(left: &[u8], right: &[u8]) -> bool
-    ensures { IsTrue result ↔ (left.now ≡ right.now) }
-{
-    if left.len() != right.len() {
-        return false;
-    }
-    let mut differences = 0;
-    for i in 0..left.len() {
-        differences |= left[i] ^ right[i];
-    }
-    differences == 0
 }
 
 /// Whether a file is this key in PEM, of which the last line feed may be missing.

@@ -34,7 +34,7 @@ const MOST_ENDS_LEN: usize = 67 * 32;
 /// The ends of the chains of eight keys.
 type Ends = [[u8; MOST_ENDS_LEN]; GROUP];
 
-/// Puts the PK.seeds into one lane each. False if the build has one lane, or a PK.seed does not have n bytes.
+/// Puts the PK.seeds into one lane each. False if the build has one lane.
 fn put_seeds(set: ParamSet, signed: &[HtSignature; GROUP], seeds: &mut LaneSeeds) -> bool
     requires signed { AreUnder set signed.now }
     requires set { params seeds.old.set ≡ params set }
@@ -117,8 +117,7 @@ fn messages_of(set: ParamSet, signed: &[HtSignature; GROUP]) -> LaneNodes
     nodes
 }
 
-/// Writes the ends of the chains of the key at a place, which signs a node on a layer. False if the build has one lane,
-/// or PK.seed does not have n bytes.
+/// Writes the ends of the chains of the key at a place, which signs a node on a layer. False if the build has one lane.
 fn put_ends_of(
     set: ParamSet,
     signature: &HtSignature,
@@ -145,7 +144,7 @@ fn put_ends_of(
 }
 
 /// Writes the ends of the chains of each key of a layer, which signs the node in its lane. False if the build has one
-/// lane, or a PK.seed does not have n bytes.
+/// lane.
 fn put_all_ends(
     set: ParamSet,
     signed: &[HtSignature; GROUP],
@@ -292,7 +291,7 @@ fn climbed(
 }
 
 /// Puts into each lane the root of the layer's tree that the signature of the node in the lane gives. False if the
-/// build has one lane, or a PK.seed does not have n bytes.
+/// build has one lane.
 fn put_layer_roots(
     set: ParamSet,
     signed: &[HtSignature; GROUP],
@@ -319,8 +318,7 @@ fn put_layer_roots(
     true
 }
 
-/// Puts into each lane the root of the top tree that its signature gives. False if the build has one lane, or a PK.seed
-/// does not have n bytes.
+/// Puts into each lane the root of the top tree that its signature gives. False if the build has one lane.
 fn put_top_roots(
     set: ParamSet,
     signed: &[HtSignature; GROUP],
@@ -345,8 +343,8 @@ fn put_top_roots(
     true
 }
 
-/// Puts into each lane the root of the top tree that its signature gives. False if the build has no lanes for F and H, a
-/// PK.seed does not have n bytes, or the ends of a key are too long.
+/// Puts into each lane the root of the top tree that its signature gives. False if the build has no lanes for F and H,
+/// or the ends of a key are too long.
 pub(crate) fn put_roots_in_lanes(
     set: ParamSet,
     signed: &[HtSignature; GROUP],
