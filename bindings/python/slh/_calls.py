@@ -14,12 +14,15 @@ DONE = 0
 INVALID = 30
 FAULT = 38
 SELF_TEST_FAILED = 40
+#: libslh's numbers of the kinds of keys.
+KINDS = {"public": 1, "secret": 2}
+MAX_SECRET_KEY = 128
 _MAX_NAME = 20
 
 _NAMES = """slh_version slh_level slh_lengths slh_refusal_name slh_keygen slh_public slh_check slh_key_read
-slh_key_write slh_sign slh_sign_twice slh_verify slh_hash_sign slh_hash_sign_twice slh_hash_verify slh_hash_sign_digest
-slh_hash_sign_digest_twice slh_hash_verify_digest slh_sign_jobs slh_answer_place slh_sign_start slh_hash_sign_start
-slh_sign_job slh_sign_join""".split()
+slh_key_write slh_der_read slh_der_write slh_pem_read slh_pem_write slh_sign slh_sign_twice slh_verify slh_hash_sign
+slh_hash_sign_twice slh_hash_verify slh_hash_sign_digest slh_hash_sign_digest_twice slh_hash_verify_digest slh_sign_jobs
+slh_answer_place slh_sign_start slh_hash_sign_start slh_sign_job slh_sign_join""".split()
 
 _IS_WINDOWS = os.name == "nt"
 #: BCRYPT_USE_SYSTEM_PREFERRED_RNG of Windows.

@@ -7,11 +7,8 @@ import os
 import re
 import typing
 
-from slh._calls import DONE, Length, Memory, Refusal, call, cleared, done
+from slh._calls import DONE, KINDS, MAX_SECRET_KEY, Length, Memory, Refusal, call, cleared, done
 
-#: libslh's numbers of the kinds.
-_KINDS = {"public": 1, "secret": 2}
-_MAX_SECRET_KEY = 128
 #: Where lines 2 and 3 begin, in a file of one of the six sets.
 _NAME, _DIGITS = 17, 35
 #: A longer file is not a key file. It is read up to its first fault.
@@ -73,12 +70,12 @@ def parse(kinds: typing.Sequence[str], text: Memory, skipped: int, length_of: Le
 
     Raises Refusal by the first fault: NotAKeyFile, UnknownSet, BadHex, BadKeyLength, TrailingBytes.
     """
-    number, kind_number, room = ctypes.c_uint32(), ctypes.c_uint32(), Memory(_MAX_SECRET_KEY)
+    number, kind_number, room = ctypes.c_uint32(), ctypes.c_uint32(), Memory(MAX_SECRET_KEY)
     with cleared(room):
         result = call("slh_key_read", text, number, kind_number, room)
         if result != DONE:
             raise _refusal(result, kinds, text.view(), skipped, length_of)
-        kind = next(it for it in _KINDS if _KINDS[it] == kind_number.value)
+        kind = next(it for it in KINDS if KINDS[it] == kind_number.value)
         if kind not in kinds:
             raise _other_kind(kind, kinds)
         return kind, number.value, Memory.copy_of(room.part(0, length_of(number.value, kind)))
@@ -100,7 +97,7 @@ def _refusal(
         return Refusal(number, "this is PEM" if text[:11] == b"-----BEGIN " else "line 1 is not that of a key file")
     if not 12 <= number <= 15:
         return Refusal(number)
-    kind = next(it for it in _KINDS if text[: _NAME - 3] == b"slh-dsa-" + it.encode())
+    kind = next(it for it in KINDS if text[: _NAME - 3] == b"slh-dsa-" + it.encode())
     if kind not in kinds:
         return _other_kind(kind, kinds)
     if number == 12 or text[_NAME : _NAME + 7] == b"custom:":
@@ -116,7 +113,7 @@ def _refusal(
 def text_of(kind: str, set: int, key: Memory) -> Memory:
     """A key file of version 2. libslh writes a zero byte after it."""
     made = Memory(_DIGITS + 2 * key.length + 2)
-    done("slh_key_write", set, _KINDS[kind], key, made)
+    done("slh_key_write", set, KINDS[kind], key, made)
     return made.part(0, made.length - 1)
 
 
