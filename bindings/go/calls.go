@@ -22,7 +22,7 @@ var _ = [1]struct{}{}[uint32(C.SLH_DSA_SHA2_128S-SHA2_128s)|uint32(C.SLH_DSA_SHA
 	uint32(C.SLH_FAULT-fault)|uint32(C.SLH_SELF_TEST_FAILED-selfTestFailed)|uint32(C.SLH_MAX_CONTEXT-maxContext)|
 	uint32(C.SLH_NOT_A_KEY_FILE-NotAKeyFile)|uint32(C.SLH_UNKNOWN_SET-UnknownSet)|uint32(C.SLH_BAD_HEX-BadHex)|
 	uint32(C.SLH_BAD_KEY_LENGTH-BadKeyLength)|uint32(C.SLH_TRAILING_BYTES-TrailingBytes)|
-	uint32(C.SLH_MAX_SECRET_KEY-maxSecretKey)|
+	uint32(C.SLH_MAX_SECRET_KEY-maxSecretKey)|uint32(C.SLH_MAX_DER-maxDER)|uint32(C.SLH_MAX_PEM-maxPEM)|
 	uint32(C.SLH_SHA2_224-number224)|uint32(C.SLH_SHA2_256-number256)|uint32(C.SLH_SHA2_384-number384)|
 	uint32(C.SLH_SHA2_512-number512)|uint32(C.SLH_SHA2_512_224-number512_224)|uint32(C.SLH_SHA2_512_256-number512_256)]
 
@@ -68,7 +68,7 @@ func (refusal Refusal) nameInLibrary() string {
 	return C.GoString(&name[0])
 }
 
-// ---- key files
+// ---- files of keys
 
 // readKey writes the key of a key file's text, and zeros behind it. It returns the set, and whether the key is secret.
 func readKey(text, key []byte) (Set, bool, uint32) {
@@ -77,14 +77,45 @@ func readKey(text, key []byte) (Set, bool, uint32) {
 	return Set(set), kind == C.SLH_SECRET_KEY, uint32(result)
 }
 
+// readDER does what readKey does, for DER.
+func readDER(der, key []byte) (Set, bool, uint32) {
+	var set, kind C.uint32_t
+	result := C.slh_der_read(at(der), size(der), &set, &kind, at(key), size(key))
+	return Set(set), kind == C.SLH_SECRET_KEY, uint32(result)
+}
+
+// readPEM does what readKey does, for PEM.
+func readPEM(text, key []byte) (Set, bool, uint32) {
+	var set, kind C.uint32_t
+	result := C.slh_pem_read(at(text), size(text), &set, &kind, at(key), size(key))
+	return Set(set), kind == C.SLH_SECRET_KEY, uint32(result)
+}
+
 // writeKey writes the text of a key file, and zeros behind it.
 func (set Set) writeKey(kind string, key, text []byte) uint32 {
-	number := C.uint32_t(C.SLH_PUBLIC_KEY)
-	if kind == secretFile {
-		number = C.SLH_SECRET_KEY
-	}
 	first := (*C.char)(unsafe.Pointer(at(text)))
-	return uint32(C.slh_key_write(C.uint32_t(set), number, at(key), size(key), first, size(text)))
+	return uint32(C.slh_key_write(C.uint32_t(set), numberOf(kind), at(key), size(key), first, size(text)))
+}
+
+// writeDER writes the DER of a key, and zeros behind it. It returns the length.
+func (set Set) writeDER(kind string, key, to []byte) (int, uint32) {
+	var length C.uint32_t
+	result := C.slh_der_write(C.uint32_t(set), numberOf(kind), at(key), size(key), &length, at(to), size(to))
+	return int(length), uint32(result)
+}
+
+// writePEM does what writeDER does, for PEM.
+func (set Set) writePEM(kind string, key, to []byte) (int, uint32) {
+	var length C.uint32_t
+	result := C.slh_pem_write(C.uint32_t(set), numberOf(kind), at(key), size(key), &length, at(to), size(to))
+	return int(length), uint32(result)
+}
+
+func numberOf(kind string) C.uint32_t {
+	if kind == secretFile {
+		return C.SLH_SECRET_KEY
+	}
+	return C.SLH_PUBLIC_KEY
 }
 
 // ---- signatures

@@ -25,7 +25,7 @@ const (
 // on a key that comes from elsewhere. The text is the caller's to overwrite. It is refused as NotAKeyFile, UnknownSet,
 // BadHex, BadKeyLength or TrailingBytes, by its first fault.
 func ParseSecretKey(text []byte) (*SecretKey, error) {
-	set, key, err := parse(secretFile, text)
+	set, key, err := parseText(secretFile, text)
 	if err != nil {
 		return nil, err
 	}
@@ -35,7 +35,7 @@ func ParseSecretKey(text []byte) (*SecretKey, error) {
 // ParsePublicKey returns the public key of a key file's text, of either version, with the file's set. It is refused as
 // ParseSecretKey refuses. The text of a secret key is refused as NotAKeyFile.
 func ParsePublicKey(text []byte) (*PublicKey, error) {
-	set, key, err := parse(publicFile, text)
+	set, key, err := parseText(publicFile, text)
 	if err != nil {
 		return nil, err
 	}
@@ -98,29 +98,50 @@ func keyFile(kind string, set Set, key []byte) ([]byte, error) {
 	return text[:len(text)-1], nil
 }
 
-// parse returns the set and the key of a key file's text, which libslh reads.
-func parse(kind string, text []byte) (set Set, key []byte, err error) {
+// parse returns the set and the key of a file, which a call of libslh reads. The call writes zeros behind the key, and
+// returns whether it is secret. why returns the error if the call refuses, and also if the key is of the other kind: the
+// result of the call is success then.
+func parse(
+	kind string, file []byte, read func(file, key []byte) (Set, bool, uint32), why func(result uint32) error,
+) (set Set, key []byte, err error) {
 	room, isSecret := make([]byte, maxSecretKey), false
 	result := uninterrupted(func() (result uint32) {
-		set, isSecret, result = readKey(text, room)
+		set, isSecret, result = read(file, room)
 		return result
 	})
-	if result != success {
-		return 0, nil, whyRefused(result, kind, text)
-	}
-	if isSecret != (kind == secretFile) {
+	if result != success || isSecret != (kind == secretFile) {
 		erase(room)
-		return 0, nil, NotAKeyFile
+		return 0, nil, why(result)
 	}
 	return set, room[:keyLength(kind, set)], nil
 }
 
-// whyRefused returns the error of a text that libslh refuses. libslh reads files of both kinds, and names the other
-// faults of a set without a number, whose name begins with custom, before that set. Here these two come first. It looks
-// for no line feed by package bytes, which would leave digits of the key in vector registers.
+// parseText returns the set and the key of a key file's text.
+func parseText(kind string, text []byte) (Set, []byte, error) {
+	return parse(kind, text, readKey, func(result uint32) error { return whyRefused(result, kind, text) })
+}
+
+// keyLength returns the length of a key of this kind, or 0 if there is no such set.
+func keyLength(kind string, set Set) int {
+	lengths, err := set.Lengths()
+	if err != nil {
+		return 0
+	}
+	if kind == publicFile {
+		return lengths.PublicKey
+	}
+	return lengths.SecretKey
+}
+
+// whyRefused returns the error of a text that libslh refuses, or whose key is of the other kind. libslh reads files of
+// both kinds, and names the other faults of a set without a number, whose name begins with custom, before that set. Here
+// these two come first. It looks for no line feed by package bytes, which would leave digits of the key in vector
+// registers.
 func whyRefused(result uint32, kind string, text []byte) error {
 	refusal := Refusal(result)
 	switch {
+	case result == success:
+		return NotAKeyFile
 	case refusal < UnknownSet || refusal > TrailingBytes:
 		return done(result)
 	case string(text[len("slh-dsa-"):nameAt-len(" 2\n")]) != kind:

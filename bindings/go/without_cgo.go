@@ -12,7 +12,11 @@ func (set Set) keygen(skSeed, skPrf, pkSeed, key []byte) uint32    { return with
 func (set Set) public(key, public []byte) uint32                   { return withoutCgo }
 func (set Set) check(key []byte) uint32                            { return withoutCgo }
 func readKey(text, key []byte) (Set, bool, uint32)                 { return 0, false, withoutCgo }
+func readDER(der, key []byte) (Set, bool, uint32)                  { return 0, false, withoutCgo }
+func readPEM(text, key []byte) (Set, bool, uint32)                 { return 0, false, withoutCgo }
 func (set Set) writeKey(kind string, key, text []byte) uint32      { return withoutCgo }
+func (set Set) writeDER(kind string, key, to []byte) (int, uint32) { return 0, withoutCgo }
+func (set Set) writePEM(kind string, key, to []byte) (int, uint32) { return 0, withoutCgo }
 func version() uint32                                              { return 0 }
 func (it *form) sign(key, randomizer, sig []byte) uint32           { return withoutCgo }
 func (it *form) signTwice(key, random, scratch, sig []byte) uint32 { return withoutCgo }
