@@ -1,6 +1,5 @@
 package pipitscreen.slh;
 
-import java.io.ByteArrayOutputStream;
 import java.security.InvalidKeyException;
 import java.security.KeyFactory;
 import java.security.PrivateKey;
@@ -100,10 +99,7 @@ final class VectorsTests {
         Tests.same(seen.size(), 12, "verdicts of each set");
     }
 
-    static byte[] der(boolean isPrivate, SlhSet set, byte[] key) {
-        ByteArrayOutputStream made = new ByteArrayOutputStream();
-        made.writeBytes(Pkix.prefix(isPrivate, set));
-        made.writeBytes(key);
-        return made.toByteArray();
+    static byte[] der(boolean isPrivate, SlhSet set, byte[] key) throws InvalidKeyException {
+        return isPrivate ? SlhPrivateKey.of(set, key).getEncoded() : SlhPublicKey.of(set, key).getEncoded();
     }
 }

@@ -1,121 +1,95 @@
 package pipitscreen.slh;
 
-import java.io.ByteArrayOutputStream;
 import java.lang.foreign.MemorySegment;
 import java.lang.foreign.ValueLayout;
+import java.nio.charset.StandardCharsets;
 import java.security.InvalidKeyException;
 import java.util.Arrays;
-import java.util.HexFormat;
 
 /**
- * Keys as other programs read them: SubjectPublicKeyInfo and PKCS#8, as DER. A key is one of twelve fixed prefixes, by
- * its kind and its set, and the key's bytes.
+ * Keys as other programs read them: SubjectPublicKeyInfo and PKCS#8, as DER and PEM. The library reads and writes one
+ * form of each set and kind.
  */
 final class Pkix {
-    /** AlgorithmIdentifier up to its last byte, which is the set's. */
-    private static final byte[] ALGORITHM = HexFormat.of().parseHex("300b06096086480165030403");
+    /** The library's numbers of the kinds. */
+    private static final int PUBLIC = 1;
+    private static final int PRIVATE = 2;
+    private static final int MAX_PRIVATE_KEY = 128;
+    /** The most bytes that the library writes, with a zero byte after PEM. */
+    private static final int MAX_DER = 150;
+    private static final int MAX_PEM = 259;
+    private static final byte[] ENCRYPTED = "-----BEGIN ENCRYPTED PRIVATE".getBytes(StandardCharsets.US_ASCII);
     private static final String CONVERT_PUBLIC = "openssl pkey -pubin -in FILE -pubout -out NEW";
     private static final String CONVERT_PRIVATE = "openssl pkey -in FILE -out NEW";
 
     private Pkix() {}
 
-    static int length(boolean isPrivate, SlhSet set) {
-        return isPrivate ? set.privateKeyLength() : set.publicKeyLength();
+    static SlhPublicKey publicKey(byte[] file, boolean isPem) throws InvalidKeyException {
+        try (Memory key = new Memory(MAX_PRIVATE_KEY)) {
+            SlhSet set = read(false, file, isPem, key);
+            return new SlhPublicKey(set, key.first(set.publicKeyLength()).toBytes());
+        }
     }
 
-    /** Returns what is before the key's bytes. */
-    static byte[] prefix(boolean isPrivate, SlhSet set) {
-        int length = length(isPrivate, set);
-        ByteArrayOutputStream inside = new ByteArrayOutputStream();
-        inside.writeBytes(isPrivate ? new byte[] {0x02, 1, 0} : new byte[0]);
-        inside.writeBytes(ALGORITHM);
-        inside.write(set.arc());
-        inside.write(isPrivate ? 0x04 : 0x03);
-        inside.writeBytes(derLength(isPrivate ? length : length + 1));
-        inside.writeBytes(isPrivate ? new byte[0] : new byte[1]);
-        ByteArrayOutputStream whole = new ByteArrayOutputStream();
-        whole.write(0x30);
-        whole.writeBytes(derLength(inside.size() + length));
-        whole.writeBytes(inside.toByteArray());
-        return whole.toByteArray();
+    static SlhPrivateKey privateKey(byte[] file, boolean isPem) throws InvalidKeyException {
+        try (Memory key = new Memory(MAX_PRIVATE_KEY)) {
+            SlhSet set = read(true, file, isPem, key);
+            return new SlhPrivateKey(set, Memory.copyOf(key.first(set.privateKeyLength()).segment()));
+        }
     }
 
-    private static byte[] derLength(int length) {
-        return length < 128 ? new byte[] {(byte) length} : new byte[] {(byte) 0x81, (byte) length};
-    }
-
-    static Memory der(boolean isPrivate, SlhSet set, Memory key) {
-        byte[] prefix = prefix(isPrivate, set);
-        Memory made = new Memory(prefix.length + key.length());
-        MemorySegment.copy(prefix, 0, made.segment(), ValueLayout.JAVA_BYTE, 0, prefix.length);
-        made.segment().asSlice(prefix.length).copyFrom(key.segment());
-        return made;
-    }
-
-    /** Returns the set of DER, or null if it is of no set. */
-    static SlhSet setOf(boolean isPrivate, Memory der) {
-        for (SlhSet set : SlhSet.values()) {
-            byte[] prefix = prefix(isPrivate, set);
-            if (der.length() == prefix.length + length(isPrivate, set) && beginsWith(der, prefix)) {
-                return set;
+    /** Writes the key of a file, and zeros behind it. Returns the set. */
+    private static SlhSet read(boolean isPrivate, byte[] file, boolean isPem, Memory key) throws InvalidKeyException {
+        try (Memory given = Memory.copyOf(file); Memory numbers = new Memory(2 * Integer.BYTES)) {
+            MemorySegment set = numbers.segment().asSlice(0, Integer.BYTES);
+            MemorySegment kind = numbers.segment().asSlice(Integer.BYTES);
+            int result = Library.call(isPem ? "slh_pem_read" : "slh_der_read", given, set, kind, key);
+            if (result != Library.DONE && result != Refusal.NOT_A_KEY_FILE) {
+                throw refused(new Refusal(result));
             }
-        }
-        return null;
-    }
-
-    private static boolean beginsWith(Memory der, byte[] prefix) {
-        byte[] first = der.segment().asSlice(0, prefix.length).toArray(ValueLayout.JAVA_BYTE);
-        return Arrays.equals(first, prefix);
-    }
-
-    /** Returns a copy of the key's bytes of DER that is of this set. */
-    static Memory keyOf(boolean isPrivate, SlhSet set, Memory der) {
-        return Memory.copyOf(der.segment().asSlice(prefix(isPrivate, set).length));
-    }
-
-    static SlhPrivateKey privateKey(Memory der) throws InvalidKeyException {
-        SlhSet set = setOf(true, der);
-        if (set == null) {
-            throw refused(true, why(true, true, false));
-        }
-        return new SlhPrivateKey(set, keyOf(true, set, der));
-    }
-
-    static SlhPublicKey publicKey(Memory der) throws InvalidKeyException {
-        SlhSet set = setOf(false, der);
-        if (set == null) {
-            throw refused(false, setOf(true, der) == null ? why(false, true, false) : IS_PRIVATE);
-        }
-        try (Memory key = keyOf(false, set, der)) {
-            return new SlhPublicKey(set, key.toBytes());
+            boolean isDone = result == Library.DONE;
+            if (!isDone || kind.get(ValueLayout.JAVA_INT, 0) != (isPrivate ? PRIVATE : PUBLIC)) {
+                throw refused(new Refusal(Refusal.NOT_A_KEY_FILE, why(isPrivate, file, isPem, isDone)));
+            }
+            return SlhSet.values()[set.get(ValueLayout.JAVA_INT, 0) - 1];
         }
     }
-
-    static final String IS_PRIVATE = "the key is private, and a public one is asked for";
 
     /** Why a key is refused, and the command that converts it. */
-    static String why(boolean isPrivate, boolean isDer, boolean isEncrypted) {
+    private static String why(boolean isPrivate, byte[] file, boolean isPem, boolean isOtherKind) {
+        if (!isPrivate && isOtherKind) {
+            return "the key is private, and a public one is asked for";
+        }
         String convert = isPrivate ? CONVERT_PRIVATE : CONVERT_PUBLIC;
-        if (isDer) {
+        if (!isPem) {
             convert = convert.replace("-in FILE", "-inform DER -in FILE").replace("-out NEW", "-outform DER -out NEW");
         }
-        if (isEncrypted) {
+        if (Arrays.equals(ENCRYPTED, Arrays.copyOf(file, Math.min(file.length, ENCRYPTED.length)))) {
             return "the key is encrypted; this asks for its password: " + convert;
         }
         String kind = isPrivate ? "private" : "public";
         return "this is not the one form of a " + kind + " key of the six sets; this converts it: " + convert;
     }
 
-    static InvalidKeyException refused(boolean isPrivate, String why) {
-        Refusal refusal = new Refusal(Refusal.NOT_A_KEY_FILE, why);
-        return new InvalidKeyException(refusal.getMessage(), refusal);
+    /** The DER or PEM of a key. That of a private key is the receiver's to overwrite. */
+    static byte[] written(SlhKey key, boolean isPem) {
+        int kind = key instanceof SlhPrivateKey ? PRIVATE : PUBLIC;
+        try (Memory taken = key.taken(); Memory made = new Memory(isPem ? MAX_PEM : MAX_DER);
+                Memory length = new Memory(Integer.BYTES)) {
+            String call = isPem ? "slh_pem_write" : "slh_der_write";
+            Library.done(call, key.set.number(), kind, taken, length.segment(), made);
+            return made.first(length.segment().get(ValueLayout.JAVA_INT, 0)).toBytes();
+        }
     }
 
     static void checkLength(String kind, SlhSet set, int expected, int given) throws InvalidKeyException {
         if (expected != given) {
-            Refusal refusal = new Refusal(Refusal.BAD_LENGTH, "a " + kind + " key of " + set.algorithm() + " has "
-                    + expected + " bytes, and " + given + " were given");
-            throw new InvalidKeyException(refusal.getMessage(), refusal);
+            throw refused(new Refusal(Refusal.BAD_LENGTH, "a " + kind + " key of " + set.algorithm() + " has "
+                    + expected + " bytes, and " + given + " were given"));
         }
+    }
+
+    private static InvalidKeyException refused(Refusal refusal) {
+        return new InvalidKeyException(refusal.getMessage(), refusal);
     }
 }

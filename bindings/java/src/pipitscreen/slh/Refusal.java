@@ -23,9 +23,8 @@ public final class Refusal extends RuntimeException {
         this.name = nameOf(number);
     }
 
-    /** A key of another form. The library for C has no number for that. */
     private static String nameOf(int number) {
-        String found = number == NOT_A_KEY_FILE ? "NotAKeyFile" : Library.refusalName(number);
+        String found = Library.refusalName(number);
         return found == null ? "NoSuchRefusal" : found;
     }
 

@@ -22,6 +22,9 @@ abstract sealed class SlhKey implements AsymmetricKey permits SlhPrivateKey, Slh
         return set;
     }
 
+    /** A copy of the bytes for one call. */
+    abstract Memory taken();
+
     /** Returns the name of the set, as "SLH-DSA-SHA2-128F". */
     @Override
     public String getAlgorithm() {

@@ -105,20 +105,16 @@ final class SlhKeyFactory extends KeyFactorySpi {
 
     /** The public key of DER. */
     private static SlhPublicKey publicOf(byte[] der, SlhSet fixed) throws InvalidKeyException {
-        try (Memory given = Memory.copyOf(der)) {
-            SlhPublicKey key = Pkix.publicKey(given);
-            checkSet(key.set(), fixed);
-            return key;
-        }
+        SlhPublicKey key = Pkix.publicKey(der, false);
+        checkSet(key.set(), fixed);
+        return key;
     }
 
     /** The private key of DER. */
     private static SlhPrivateKey privateOf(byte[] der, SlhSet fixed) throws InvalidKeyException {
-        try (Memory given = Memory.copyOf(der)) {
-            SlhPrivateKey key = Pkix.privateKey(given);
-            checkSet(key.set(), fixed);
-            return key;
-        }
+        SlhPrivateKey key = Pkix.privateKey(der, false);
+        checkSet(key.set(), fixed);
+        return key;
     }
 
     private static void checkSet(SlhSet set, SlhSet fixed) throws InvalidKeyException {

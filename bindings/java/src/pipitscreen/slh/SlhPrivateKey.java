@@ -109,6 +109,7 @@ public final class SlhPrivateKey extends SlhKey implements PrivateKey, AutoClose
     }
 
     /** A copy for one call. A destroy that comes meanwhile waits for the copy, and not for the call. */
+    @Override
     synchronized Memory taken() {
         if (isDestroyed) {
             throw new IllegalStateException("the private key was destroyed");
@@ -147,9 +148,7 @@ public final class SlhPrivateKey extends SlhKey implements PrivateKey, AutoClose
     /** Returns the PrivateKeyInfo of PKCS#8, as DER that is not encrypted. The caller overwrites these bytes. */
     @Override
     public byte[] getEncoded() {
-        try (Memory key = taken(); Memory der = Pkix.der(true, set, key)) {
-            return der.toBytes();
-        }
+        return Pkix.written(this, false);
     }
 
     /** Whether both are the same key, in a time that does not depend on their bytes. A destroyed one is only itself. */

@@ -58,6 +58,7 @@ public final class SlhPublicKey extends SlhKey implements PublicKey {
         return bytes;
     }
 
+    @Override
     Memory taken() {
         return Memory.copyOf(bytes);
     }
@@ -70,9 +71,7 @@ public final class SlhPublicKey extends SlhKey implements PublicKey {
     /** Returns the SubjectPublicKeyInfo, as DER. */
     @Override
     public byte[] getEncoded() {
-        try (Memory key = taken(); Memory der = Pkix.der(false, set, key)) {
-            return der.toBytes();
-        }
+        return Pkix.written(this, false);
     }
 
     @Override
