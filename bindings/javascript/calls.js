@@ -69,7 +69,7 @@ class Verdicts extends Room {
 }
 
 /** One number of 64 bits that a call writes, or one of 32 bits: the memory is cleared before. */
-class NumberRoom extends Room {
+export class NumberRoom extends Room {
     constructor() {
         super(8);
     }
@@ -230,10 +230,10 @@ export class Calls {
         return room.bytes;
     }
 
-    /** The result of slh_key_read; and the set, the kind and the bytes of the key, with zeros behind them. */
-    readKey(file) {
+    /** The result of a call that reads a key; and its set, its kind and its bytes, with zeros behind them. */
+    readKey(name, file) {
         const [set, kind, key] = [new NumberRoom(), new NumberRoom(), new Room(MAX_SECRET_KEY)];
-        const result = this.call("slh_key_read", [], file, set, kind, key);
+        const result = this.call(name, [], file, set, kind, key);
         return { result, set: set.value, kind: kind.value, key: key.bytes };
     }
 
@@ -269,6 +269,20 @@ export class Calls {
         const [publicKey, secretKey, signature, n] = rooms.map((it) => it.value);
         return { publicKey, secretKey, signature, n };
     }
+}
+
+const callsOfLibraries = new WeakMap();
+
+/** Keeps the calls of a library for `callsOf`. */
+export function keepCalls(library, calls) {
+    callsOfLibraries.set(library, calls);
+}
+
+/** The calls of a library. Throws a TypeError unless `load` has made it. */
+export function callsOf(library) {
+    const calls = callsOfLibraries.get(library);
+    if (calls === undefined) throw new TypeError("a library is needed, as of load()");
+    return calls;
 }
 
 /** The pointer and the length of a place, which has 64 bits. A number has no length, and items point to their parts. */

@@ -21,7 +21,7 @@
  */
 
 import { byteLength, copyOf, NONE, zeros } from "./bytes.js";
-import { Calls, Scratch } from "./calls.js";
+import { Calls, keepCalls, Scratch } from "./calls.js";
 import { Erased, Fault, Refusal } from "./errors.js";
 import { formatKey, parseKey } from "./key_files.js";
 import { readOptions, SIGN_OPTIONS } from "./options.js";
@@ -292,6 +292,7 @@ class Library {
 
     constructor(calls) {
         this.#calls = calls;
+        keepCalls(this, calls);
     }
 
     version() {

@@ -5,6 +5,7 @@ import assert from "node:assert/strict";
 import test from "node:test";
 import { runInNewContext } from "node:vm";
 
+import * as pkix from "../pkix.js";
 import * as names from "../slh.js";
 import { buffersOf, hex, isIn, isZeros, module, partsOf, vectorKey, watchInstances } from "./support.js";
 
@@ -26,6 +27,11 @@ const slh = await watched((exports) => exports);
 const secret = slh.secretKey(SLH_DSA_SHA2_128F, sk);
 const publicKey = secret.public();
 const signature = secret.sign(text, { deterministic: true });
+const [der, pem] = [pkix.toDer(slh, secret), pkix.toPem(slh, secret)];
+
+/** Eight characters in a row of the base64 of SK.seed and SK.prf. A line of it ends after the 64th. */
+const letters = Array.from({ length: 64 - 7 - 28 }, (_, at) => Buffer.from(Buffer.from(der).toString("base64", 0, 48))
+    .subarray(28 + at, 36 + at));
 
 test("the search finds parts of a key", () => {
     const memory = new WebAssembly.Memory({ initial: 1 });
@@ -34,13 +40,16 @@ test("the search finds parts of a key", () => {
         assert.ok(isIn([memory], parts));
         new Uint8Array(memory.buffer).fill(0);
     }
+    new Uint8Array(memory.buffer).set(pem, 12345);
+    assert.ok(letters.every((it) => isIn([memory], [it])));
+    new Uint8Array(memory.buffer).fill(0);
     new Uint8Array(memory.buffer).set(sk.subarray(32), 12345);
     assert.ok(!isIn([memory], parts));
 });
 
 function expectNothing(name) {
     assert.ok(memories.length > 0);
-    assert.ok(!isIn(memories, [...parts, ...digits]), `${name}: the key is in the module's memory`);
+    assert.ok(!isIn(memories, [...parts, ...digits, ...letters]), `${name}: the key is in the module's memory`);
     memories.splice(0, memories.length - 1);
 }
 
@@ -207,6 +216,10 @@ test("a refusal leaves nothing", () => {
         () => slh.publicKey(SLH_DSA_SHA2_128F, sk),
         () => slh.parseSecretKey(`${file}x`),
         () => slh.parsePublicKey(file),
+        () => pkix.secretKeyFromDer(slh, der.subarray(1)),
+        () => pkix.publicKeyFromDer(slh, der),
+        () => pkix.secretKeyFromPem(slh, pem.subarray(1)),
+        () => pkix.publicKeyFromPem(slh, pem),
     ];
     for (const call of refused) {
         assert.throws(call, Refusal);
@@ -234,6 +247,12 @@ test("a call that is done leaves nothing", () => {
     expectNothing("parseSecretKey");
     secret.format();
     expectNothing("format");
+    for (const [read, write] of [[pkix.secretKeyFromDer, pkix.toDer], [pkix.secretKeyFromPem, pkix.toPem]]) {
+        const written = write(slh, secret);
+        expectNothing(write.name);
+        read(slh, written);
+        expectNothing(read.name);
+    }
     assert.equal(publicKey.verify(sk, signature), false);
     expectNothing("verify");
 });
@@ -342,6 +361,10 @@ const traps = {
     slh_check: (_, key) => key.check(),
     slh_key_read: (library) => library.parseSecretKey(file),
     slh_key_write: (_, key) => key.format(),
+    slh_der_read: (library) => pkix.secretKeyFromDer(library, der),
+    slh_der_write: (library, key) => pkix.toDer(library, key),
+    slh_pem_read: (library) => pkix.secretKeyFromPem(library, pem),
+    slh_pem_write: (library, key) => pkix.toPem(library, key),
     slh_sign: (_, key) => key.sign(text, { once: true }),
     slh_hash_sign: (_, key) => key.hashSign(SLH_SHA2_256, text, { once: true }),
     slh_hash_sign_digest: (_, key) => key.hashSignDigest(SLH_SHA2_256, digest, { once: true }),
