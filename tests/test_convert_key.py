@@ -46,6 +46,10 @@ def test_keys_to_and_from_openssl(convert_key, keys, of_set):
         assert file.read_bytes().startswith(f"slh-dsa-{kind} 2\n".encode())
         assert succeed(convert_key, folder / f"{kind}.der") == file.read_bytes()
         assert succeed(convert_key, "--pem", file) == (folder / f"{kind}.pem").read_bytes()
+        (folder / "old").write_bytes(file.read_bytes().replace(b" 2", b" 1", 1))
+        assert succeed(convert_key, "--pem", folder / "old") == (folder / f"{kind}.pem").read_bytes()
+        outcome = run(convert_key, "--pem", folder / f"{kind}.pem")
+        assert outcome[:2] == (2, b"") and b"no key file" in outcome.errors
     secret, public = ((folder / f"{it}.key").read_text().splitlines()[2] for it in ("secret", "public"))
     assert secret.endswith(public)
 
