@@ -244,7 +244,7 @@ def test_keys_of_each_version(page):
 def test_what_is_no_key_is_told(page):
     key, name = page.test["pk"], page.test["set"]
     for data in b"", b"x" * 33, f"slh-dsa-secret 2\n{name}\n{key}\n".encode(), \
-            f"slh-dsa-public 2\n{name}\n{key[2:]}\n".encode(), b"x" * 514:
+            f"slh-dsa-public 2\n{name}\n{key[2:]}\n".encode(), b"slh-dsa-public 2\n".ljust(32), b"x" * 514:
         verdict, text = page.says_of(key=data)
         assert verdict == "refused" and text.startswith("Not judged\n"), data
     assert page.says_of(context="0")[0] == "refused"  # an odd number of digits
