@@ -21,7 +21,7 @@ import sys
 
 import pytest
 
-pytest.register_assert_rewrite("packages", "browsers", "archives")
+pytest.register_assert_rewrite("packages", "browsers", "archives", "key_forms")
 
 from copies import Copy
 from debian_roots import Root, make_base, need_roots

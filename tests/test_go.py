@@ -5,6 +5,7 @@ import shutil
 
 import pytest
 
+from key_forms import check_key_forms
 from packages import GO_MODULE, check_memory, refuses_to_build, says_best_level, write_another_library
 from support import HERE, need, run, succeed
 
@@ -69,7 +70,7 @@ def env(installed, tmp_path_factory):
     return {**os.environ, **settings}
 
 
-@pytest.mark.parametrize("path", ["go", os.path.join("tests", "erased.go")])
+@pytest.mark.parametrize("path", ["go", os.path.join("tests", "erased.go"), os.path.join("tests", "key_forms.go")])
 def test_layout(path):
     need("gofmt")
     assert succeed("gofmt", "-l", HERE / "bindings" / path) == b""
@@ -95,9 +96,10 @@ def page(env, tmp_path_factory):
     """The folder of a module over the package, as a user has it."""
     folder = tmp_path_factory.mktemp("page")
     (folder / "main.go").write_text(f'package main\n\nimport _ "{GO_MODULE}"\n\nfunc main() {{}}\n')
-    for name in "erased", "level", "self_test", "verifies":
+    for name in "erased", "key_forms", "level", "self_test", "verifies":
         (folder / name).mkdir()
-    shutil.copy(HERE / "bindings/tests/erased.go", folder / "erased/main.go")
+    for name in "erased", "key_forms":
+        shutil.copy(HERE / f"bindings/tests/{name}.go", folder / name / "main.go")
     (folder / "level/main.go").write_text(LEVEL)
     (folder / "self_test/main.go").write_text(SELF_TEST)
     (folder / "verifies/main.go").write_text(VERIFIES)
@@ -106,6 +108,11 @@ def page(env, tmp_path_factory):
     succeed("go", "mod", "edit", "-require", f"{GO_MODULE}@v{version}", "-replace", f"{GO_MODULE}={PACKAGE}",
             cwd=folder, env=env)
     return folder
+
+
+def test_changed_keys_of_other_programs_are_judged(env, page):
+    succeed("go", "build", "-o", page / "key_forms_in_go", "./key_forms", cwd=page, env=env)
+    check_key_forms(page / "key_forms_in_go")
 
 
 @pytest.mark.usefixtures("built_by_the_kit")

@@ -10,6 +10,7 @@ import shutil
 
 import pytest
 
+from key_forms import check_key_forms
 from packages import check_memory, check_part, lines_of, text_of, write_another_library
 from support import HERE, best_level, need, run, succeed
 
@@ -161,7 +162,8 @@ def classes(env, jar, tmp_path_factory):
     """The folder of the compiled tests of the package."""
     folder = tmp_path_factory.mktemp("classes")
     succeed("javac", "-Xlint:all,-restricted,-serial", "-Werror", "-d", folder, "-cp", jar,
-            *sorted((PACKAGE / "tests").glob("*.java")), HERE / "bindings/tests/erased.java", env=env)
+            *sorted((PACKAGE / "tests").glob("*.java")),
+            *(HERE / f"bindings/tests/{it}.java" for it in ("erased", "key_forms")), env=env)
     return folder
 
 
@@ -192,6 +194,10 @@ def test_package_passes_its_tests(own_tests):
 def test_class_passes_its_tests(own_tests, name):
     """Those of a class that are skipped are named."""
     check_part(own_tests, f"{name}.")
+
+
+def test_changed_keys_of_other_programs_are_judged(java, env, jar, classes):
+    check_key_forms(*java(jar, classes), "pipitscreen.slh.KeyForms", env=env)
 
 
 @pytest.mark.usefixtures("built_by_the_kit")

@@ -7,6 +7,7 @@ import shutil
 
 import pytest
 
+from key_forms import check_key_forms
 from packages import check_memory, count_tests, refuses_to_build
 from support import HERE, Outcome, need, run, succeed
 
@@ -186,6 +187,14 @@ def test_types_name_what_is_exported(node, folder, name, file):
     text = (folder / "node_modules/slh" / file).read_text()
     declared = re.findall(r"^export (?:const|class|function) (\w+)", text, re.MULTILINE)
     assert declared and sorted(declared) == sorted(exports_of(node, folder, name))
+
+
+# ---- keys of other programs
+
+
+def test_changed_keys_of_other_programs_are_judged(node, folder):
+    shutil.copy(HERE / "bindings/tests/key_forms.mjs", folder)
+    check_key_forms(node, "--no-warnings", folder / "key_forms.mjs")
 
 
 # ---- secrets

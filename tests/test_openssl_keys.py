@@ -12,6 +12,7 @@ import re
 
 import pytest
 
+from key_forms import KINDS, PREFIXES, drawn_files, verdict
 from support import HERE, Outcome, block_of, need, run, succeed
 
 PAGE_NAME = "examples/README.md"
@@ -19,9 +20,6 @@ PAGE = (HERE / PAGE_NAME).read_text()
 CI, PEM = "Sign a release in CI", "Keys as PEM files"
 VALID, INVALID, CONSISTENT = Outcome(0, b"valid\n"), Outcome(1, b"invalid\n"), Outcome(0, b"consistent\n")
 QUICK = "128f"
-# The DER before the 4n bytes of a private key and before the 2n bytes of a public key.
-ROW = re.compile(r"^\| ([0-9]+[sf]) \| `([0-9a-f]+)` \| `([0-9a-f]+)` \|$", re.M)
-PREFIXES = {name: (bytes.fromhex(private), bytes.fromhex(public)) for name, private, public in ROW.findall(PAGE)}
 
 
 class Keys:
@@ -74,6 +72,18 @@ def keys(request, slh, oracle, tmp_path):
 
 def test_page_has_prefixes_of_all_sets():
     assert sorted(PREFIXES) == sorted(f"{bits}{kind}" for bits in (128, 192, 256) for kind in "sf")
+
+
+@pytest.mark.slow
+def test_changed_keys_of_the_one_form_are_keys_to_openssl(oracle):
+    """It writes each again as the same bytes."""
+    taken = [(kind, form, file, said) for form, file in drawn_files() for kind in KINDS
+             for said in [verdict(form, kind, file)] if said != "11"]
+    assert len(taken) > 200
+    for kind, form, file, said in taken[:: -(-len(taken) // 200)]:
+        public = ["-pubin", "-pubout"] if kind == "public" else []
+        again = succeed(oracle, "pkey", "-inform", form, "-outform", form, *public, stdin=file)
+        assert again.hex() == said.split()[1], file
 
 
 def test_key_from_openssl_and_back(keys):

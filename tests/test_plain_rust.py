@@ -26,6 +26,7 @@ import typing
 import pytest
 
 from conftest import cache_folder, make_once
+from key_forms import check_key_forms
 from packages import check_memory, count_tests, is_key_file, with_another_root
 from support import HERE, TESTS, callgrind, need, need_level, run, succeed
 
@@ -40,7 +41,7 @@ LEFT_BY_BUILDS = {"out", "target", "node_modules", "__pycache__"}
 # The status of a program that an instruction ended which the processor lacks.
 ILLEGAL = -4
 # Programs of a user, as examples of the crate: that of bindings/tests, and one that asks for self-tests.
-ERASED = HERE / "bindings/tests/erased.rs"
+PROGRAMS = HERE / "bindings/tests"
 SELF_TEST = """use slh::{Error, ParameterSet, SlhDsaSha2_128f, SlhDsaSha2_192f};
 fn main() {
     for result in [SlhDsaSha2_192f::self_test(), SlhDsaSha2_128f::self_test()] {
@@ -250,10 +251,11 @@ def write_workspace(folder):
     (folder / "slh").chmod(0o755)
     succeed(sys.executable, HERE / "tools/plain_rust.py", "--counts", folder / "counts.json", folder / "out/plain_rust")
     crate = folder / "out/plain_rust/slh"
-    shutil.copy(ERASED, crate / "examples")
+    for name in "erased", "key_forms":
+        shutil.copy(PROGRAMS / f"{name}.rs", crate / "examples")
     (crate / "examples" / "self_test.rs").write_text(SELF_TEST)
     with open(crate / "Cargo.toml", "a") as manifest:
-        for name in "erased", "self_test":
+        for name in "erased", "key_forms", "self_test":
             manifest.write(f'\n[[example]]\nname = "{name}"\nrequired-features = ["std"]\n')
     (folder / ".cargo").mkdir()
     (folder / ".cargo/config.toml").write_text(
@@ -588,6 +590,11 @@ def examples(crates):
 def example(examples):
     """The example, which signs a file."""
     return examples / "sign_threads"
+
+
+@pytest.mark.slow
+def test_changed_keys_of_other_programs_are_judged(examples):
+    check_key_forms(examples / "key_forms")
 
 
 @pytest.mark.slow

@@ -11,6 +11,7 @@ import zipfile
 
 import pytest
 
+from key_forms import check_key_forms
 from packages import check_memory, check_script, count_tests, lines_of, refuses_to_build, says_best_level
 from support import HERE, PYTHON, TESTS, need, run, succeed
 
@@ -232,6 +233,10 @@ def test_package_passes_its_tests(python):
     """The lines of its README are among them."""
     outcome = run(python, "-m", "unittest", "discover", "-s", HERE / "bindings/python/tests", env=ENV, timeout=1800)
     count_tests(outcome, r"^Ran (\d+) tests? in ")
+
+
+def test_changed_keys_of_other_programs_are_judged(python):
+    check_key_forms(python, HERE / "bindings/tests/key_forms.py", env=ENV)
 
 
 def test_commands_of_the_module(python):

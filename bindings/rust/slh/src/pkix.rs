@@ -3,6 +3,8 @@
 #[cfg(feature = "std")]
 use std::io::Write;
 
+#[cfg(feature = "std")]
+use crate::call::certainly_done;
 use crate::{
     Error, PublicKey, SecretKey,
     error::Conversion,
@@ -10,8 +12,6 @@ use crate::{
     sets::{Bytes, Kind, NAMES, ParameterSet},
     sys,
 };
-#[cfg(feature = "std")]
-use crate::call::certainly_done;
 
 #[cfg(feature = "std")]
 impl<P: ParameterSet> PublicKey<P> {
