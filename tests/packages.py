@@ -1,5 +1,6 @@
 """What the tests of packages share: the level of this processor, the counts of other runners, the search for secrets in
 the memory of a program, and a library with another known answer."""
+import base64
 import contextlib
 import ctypes
 import json
@@ -141,9 +142,11 @@ def started(command, env):
 
 
 def secrets_of(sk):
-    """What may not be left of a secret key, by names: as bytes and as digits."""
+    """What may not be left of a secret key, by names: as bytes and as digits, and as in the first line of its PEM. In
+    the DER SK.seed begins at byte 20, and each three bytes are four characters."""
     named = {"SK.seed": sk[:N], "SK.prf": sk[N : 2 * N]}
-    return named | {f"digits of {name}": part.hex().encode() for name, part in named.items()}
+    in_pem = {"PEM of SK.seed": base64.b64encode(sk[1:N]), "PEM of SK.prf": base64.b64encode(sk[N : N + 12])}
+    return named | in_pem | {f"digits of {name}": part.hex().encode() for name, part in named.items()}
 
 
 def check_memory(library, *command, env=None):
