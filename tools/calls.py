@@ -200,7 +200,7 @@ def declared():
 OF_LANGUAGE = {
     "C": set(),
     "C++": {"call", "fail", "arguments", "system_random", "expect", "made", "Error"},
-    "Rust": {"number", "expected", "given", "digest_len", "command", "first_lines"},
+    "Rust": {"number", "expected", "given", "digest_len", "command"},
     "Go": {"Equal", "String", "Format", "Error", "HashFunc", "ParseSet"},
     "Python": {"label", "close", "Function", "Lengths", "Set", "digest_length"},
     "JavaScript": {"constructor", "load"},

@@ -57,6 +57,18 @@ pub(crate) fn sign_job(set: u32, levels: [u32; 2], sk: &[u8], start: &[u8], job:
     apart(|| slh_c::jobs::slh_sign_job(set, levels[0], levels[1], sk, start, job, answer))
 }
 
+/// Reads a key file. Writes its key's set, kind and bytes, with zeros behind them.
+#[cfg(feature = "std")]
+pub(crate) fn key_read(file: &[u8], set: &mut u32, kind: &mut u32, key: &mut [u8]) -> u32 {
+    apart(|| slh_c::key_files::slh_key_read(file, set, kind, key))
+}
+
+/// Writes a key file, and zeros behind it.
+#[cfg(feature = "std")]
+pub(crate) fn key_write(set: u32, kind: u32, key: &[u8], text: &mut [u8]) -> u32 {
+    apart(|| slh_c::key_files::slh_key_write(set, kind, key, text))
+}
+
 /// Reads a key in DER or PEM. Writes its set, its kind and its bytes, with zeros behind them.
 #[cfg(feature = "pkcs8")]
 pub(crate) fn pkix_read(is_pem: bool, file: &[u8], set: &mut u32, kind: &mut u32, key: &mut [u8]) -> u32 {
