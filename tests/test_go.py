@@ -7,7 +7,6 @@ import shutil
 import pytest
 
 from key_forms import check_key_forms
-from key_forms import check_key_forms
 from packages import GO_MODULE, check_memory, refuses_to_build, says_best_level, text_of, write_another_library
 from support import HERE, need, run, succeed
 

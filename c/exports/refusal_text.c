@@ -18,7 +18,7 @@ const char *slh_refusal_text(uint32_t result) {
     case SLH_BAD_SEED_LENGTH:
         return "a seed does not have n bytes";
     case SLH_NOT_A_KEY_FILE:
-        return "the first line is not that of a key file";
+        return "the first line is not that of a key file, or a key in DER or PEM has another form";
     case SLH_UNKNOWN_SET:
         return "the second line of the key file is not the name of a parameter set";
     case SLH_BAD_HEX:
