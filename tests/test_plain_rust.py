@@ -104,6 +104,8 @@ BECOMES = [
     ("a clone that may fail", "let Ok(x) = y;\nlet Ok(z) = y.clone() else { return };\n",
      "let Ok(x) = y;\nlet Ok(z) = y.clone() else { return };\n"),
     ("clones", "let Ok(mut s) = self.s.clone() else {\n    unreachable!()\n};\n", "let mut s = self.s.clone();\n"),
+    ("an arm that is never taken", "let Some(x) = y else {\n    unreachable!()\n};\n",
+     "let Some(x) = y else {\n    unreachable!()\n};\n"),
     ("paths", "use crate::a;\nuse slh_hash::{b};\npub(crate) use crate::c;\n",
      "use crate::slh_few::a;\nuse crate::slh_hash::{b};\npub(crate) use crate::slh_few::c;\n"),
     ("a clone of an allocator", "let x = f(alloc.clone()?, y)?;\n", "let x = f(alloc.clone(), y)?;\n"),

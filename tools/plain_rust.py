@@ -476,7 +476,7 @@ RULES = {it.__name__.replace("_", " "): it for it in
 # ----------------------------------------------------------------------------------------------------- what is left
 
 ATTRIBUTES = {"derive", "inline", "error"}
-MACROS = {"matches", "or_refuse", "macro_rules"}
+MACROS = {"matches", "or_refuse", "macro_rules", "unreachable"}
 PATHS = {"core", "crate", "self", "super", "sha2", "arrayvec", "rand_core", "thiserror"}
 BEFORE_NOT = {"if", "while", "return", "match", "in", "else"}
 OF_RATTLE = {"ghost", "requires", "ensures", "invariant", "decreases", "tactic", "final", "prove", "Model"}
