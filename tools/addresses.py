@@ -23,7 +23,7 @@ PLACES = [
 OF_GO = [
     "bindings/go/README.md", "bindings/go/examples/sign_queue/main.go", "bindings/go/key_files_test.go",
     "bindings/go/printing_test.go", "bindings/go/users_test.go", "bindings/tests/erased.go",
-    "bindings/tests/wycheproof.go", "bindings/go/go.mod"]
+    "bindings/tests/key_forms.go", "bindings/tests/wycheproof.go", "bindings/go/go.mod"]
 
 
 def addresses():
