@@ -131,13 +131,13 @@ KEPT = [
      "`PublicKey` is of bytes alone; three calls make a `SecretKey`, each with its name", "c/include/slh.hpp",
      "static SecretKey from_bytes("),
     ("Python", "secret_from_pem", "JavaScript's `secretKeyFromPem`",
-     "a call of the module `pkix`, which a program writes before it: `pkix.secret_from_pem`", "bindings/python/slh/pkix.py",
+     "a function of the module `pkix`: programs write `pkix.secret_from_pem`", "bindings/python/slh/pkix.py",
      "def secret_from_pem("),
     ("the program", "--random", "the packages' `randomizer`",
-     "as the standard names the value: `addrnd`, additional randomness; and scripts write it",
+     "FIPS 205 names the value `addrnd`, additional randomness; scripts use `--random`",
      "crates/slh_tool/src/arguments.rt", "use --random and"),
     ("`slh.cnf`", "twice", "the packages' `once`",
-     "a setting has a value that can be read again: services look for `twice=1` in the provider's build info",
+     "the value of a setting can be read: services look for `twice=1` in the provider's build info",
      "bindings/openssl/slh.cnf.in", "twice = 1"),
 ]
 # Deprecated names: the language, the name, the name to write instead, the file, and its mark in the language's manner.

@@ -38,16 +38,16 @@
  * - The number of bytes follows each pointer to bytes. The pointer points to that many bytes, which may be read, and
  *   for an output also written, until the call returns. It may be null if the number is 0. No number is above
  *   PTRDIFF_MAX.
- * - A pointer to one number (slh_lengths, slh_key_read, slh_sign_jobs, slh_answer_place, slh_keygen_jobs) is not null,
- *   and is aligned as its type. So are the arrays of slh_verify_many, whose lengths count elements. They may be null if
- *   these are 0.
+ * - A pointer to one number (slh_lengths, slh_key_read, the four calls for DER and PEM, slh_sign_jobs,
+ *   slh_answer_place, slh_keygen_jobs) is not null, and is aligned as its type. So are the arrays of slh_verify_many,
+ *   whose lengths count elements. They may be null if these are 0.
  * - An output overlaps no other argument, and nothing else writes to an argument while the call runs. scratch is an
  *   output, too.
  * - Seeds and randomizers are n fresh bytes from a source that is fit for keys: this library draws none. A randomizer
  *   of n bytes is FIPS 205's opt_rand; one of 0 bytes makes the deterministic variant (section 9.2).
  *
  * The calls check everything else: the numbers of sets, pre-hash functions, kinds of keys and refusals, all lengths,
- * and each byte of a key file.
+ * and each byte of a key file, of DER and of PEM.
  *
  * No call allocates memory or stores anything of its arguments. Any number of threads may be in any of the calls at
  * once. Nothing is claimed about the time of a call.
@@ -66,7 +66,7 @@
  *   4  key or seeds    8  start         12 output or signature
  *
  * The seeds are SK.seed, SK.prf and PK.seed, in this order. A digest or a hash takes the place of the message, a kind
- * of keys that of the function, and a key file that of the key. An output stands behind a signature.
+ * of keys that of the function, and a key file, DER or PEM that of the key. An output follows a signature.
  *
  * A call returns SLH_DONE (0), SLH_INVALID (30, only slh_check and the verify calls), or a refusal's number. The
  * exceptions are slh_version, slh_level, slh_erase, slh_refusal_text, and the two hardened calls, which return
@@ -208,8 +208,7 @@ uint32_t slh_key_write(uint32_t set, uint32_t kind, const uint8_t *key, size_t k
  * To read a key of another program in DER (bindings/README.md, "Keys for other programs"): a SubjectPublicKeyInfo, or a
  * PKCS#8 PrivateKeyInfo that has neither attributes nor a public key. der has the whole file. Writes what slh_key_read
  * writes. Call slh_check once on a secret key from elsewhere.
- * Returns: SLH_DONE; SLH_NOT_A_KEY_FILE for any other bytes; SLH_BAD_OUTPUT_LENGTH if key has less room than the key's
- * bytes.
+ * Returns: SLH_DONE; SLH_NOT_A_KEY_FILE for any other bytes; SLH_BAD_OUTPUT_LENGTH if key has too little room.
  */
 SLH_MUST_USE SLH_API
 uint32_t slh_der_read(const uint8_t *der, size_t der_len, uint32_t *set, uint32_t *kind, uint8_t *key, size_t key_len);
@@ -223,8 +222,9 @@ SLH_MUST_USE SLH_API
 uint32_t slh_pem_read(const uint8_t *pem, size_t pem_len, uint32_t *set, uint32_t *kind, uint8_t *key, size_t key_len);
 
 /*
- * To write the key `of` in DER: writes the bytes, and zeros from there to the end of der. Writes the number of bytes
- * into written. SLH_MAX_DER bytes have room for each key.
+ * To write the key `of` in DER: writes its bytes, and zeros from there to the end of der. Writes the number of bytes
+ * before these zeros into written. SLH_MAX_DER bytes have room for each key. The DER of a secret key is as secret as
+ * the key.
  * Returns: SLH_DONE; SLH_NO_SUCH_SET, SLH_NO_SUCH_KIND, SLH_BAD_LENGTH, SLH_BAD_OUTPUT_LENGTH if der has too little
  * room.
  */

@@ -188,8 +188,8 @@ extern "C" {
         text: *mut c_char,
         text_len: usize,
     ) -> u32;
-    /// To read a key of another program in DER (docs/FORMATS.md, "DER and PEM"): a SubjectPublicKeyInfo, or a PKCS#8
-    /// PrivateKeyInfo that has neither attributes nor a public key.
+    /// To read a key of another program in DER (bindings/README.md, "Keys for other programs"): a
+    /// SubjectPublicKeyInfo, or a PKCS#8 PrivateKeyInfo that has neither attributes nor a public key.
     #[must_use]
     pub fn slh_der_read(
         der: *const u8,
@@ -209,7 +209,7 @@ extern "C" {
         key: *mut u8,
         key_len: usize,
     ) -> u32;
-    /// To write the key `of` in DER: writes the bytes, and zeros from there to the end of der.
+    /// To write the key `of` in DER: writes its bytes, and zeros from there to the end of der.
     #[must_use]
     pub fn slh_der_write(
         set: u32,
