@@ -72,7 +72,7 @@ int main(int count, char **words) {
     if (from == NULL) return perror(path), 2;
     setbuf(from, NULL); /* a buffer of C would keep a copy of the key */
     size_t len = fread(file, 1, sizeof file, from);
-    if (ferror(from)) return perror(path), 2;
+    if (ferror(from)) return perror(path), clear_all(), 2;
     fclose(from);
     if (is_back && !take_key_file(len)) refuse(path, "no key file of slh");
     if (!is_back && !take_pkix(len)) refuse(path, why_refused());

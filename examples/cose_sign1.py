@@ -65,8 +65,8 @@ def main():
         done = tasks[task](int(alg), key, pathlib.Path(file).read_bytes())
     except slh.Invalid:
         end(1, "the signature is not valid")
-    except (OSError, ValueError, TypeError, cbor2.CBORDecodeError) as fault:
-        end(2, fault)
+    except Exception as fault:  # cbor2 raises many kinds, also RecursionError and MemoryError
+        end(2, f"{type(fault).__name__}: {fault}")
     sys.stdout.buffer.write(done)
 
 

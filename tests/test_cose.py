@@ -76,6 +76,9 @@ CASES = {
     "three parts": (2, lambda it: b"\xd2\x83" + it[2:]),
     "no payload": (2, lambda it: it.replace(b"\x54" + PAYLOAD, b"\xf6")),
     "an empty file": (2, lambda it: b""),
+    "arrays in arrays": (2, lambda it: b"\xd2\x84" + b"\x81" * 100_000),
+    "bytes without end": (2, lambda it: b"\xd2\x84\x5b\0\0\1\0\0\0\0\0"),
+    "a fraction of nothing": (2, lambda it: b"\xd2\x84\xd8\x1e\x82\1\0"),
 }
 
 

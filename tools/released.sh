@@ -49,7 +49,8 @@ are_whole() {
     for file in "$@"; do
         if [ ! -f "$dist/$file" ]; then
             echo "${0##*/}: $name/$file is missing" >&2
-        elif ! sum=$(sha256sum <"$dist/$file") || [[ $sums != *$'\n'"${sum%% *}  $file"$'\n'* ]]; then
+        elif ! sum=$(sha256sum <"$dist/$file") || [[ $sums != *$'\n'"${sum%% *}  $file"$'\n'* ]] ||
+            [[ $sums = *"  $file"$'\n'*"  $file"$'\n'* ]]; then
             echo "${0##*/}: $name/$file is damaged: $name/SHA256SUMS lists another hash" >&2
         else
             continue

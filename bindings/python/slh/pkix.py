@@ -38,7 +38,7 @@ def _why(kind: str, text: memoryview, is_pem: bool, is_other_kind: bool) -> str:
     convert = _CONVERT[kind]
     if not is_pem:
         convert = convert.replace("-in FILE", "-inform DER -in FILE").replace("-out NEW", "-outform DER -out NEW")
-    if bytes(text[:28]) == b"-----BEGIN ENCRYPTED PRIVATE":
+    if text[:28] == b"-----BEGIN ENCRYPTED PRIVATE":
         return f"the key is encrypted; this asks for its password: {convert}"
     return f"this is not the one form of a {kind} key of the six sets; this converts it: {convert}"
 

@@ -64,7 +64,8 @@ final class Pkix {
         if (!isPem) {
             convert = convert.replace("-in FILE", "-inform DER -in FILE").replace("-out NEW", "-outform DER -out NEW");
         }
-        if (Arrays.equals(ENCRYPTED, Arrays.copyOf(file, Math.min(file.length, ENCRYPTED.length)))) {
+        int most = Math.min(file.length, ENCRYPTED.length);
+        if (Arrays.equals(ENCRYPTED, 0, ENCRYPTED.length, file, 0, most)) {
             return "the key is encrypted; this asks for its password: " + convert;
         }
         String kind = isPrivate ? "private" : "public";
