@@ -6,6 +6,8 @@
  *   slh_keygen, slh_public            to make a secret key, and to give away its public key
  *   slh_check                         to check a secret key that comes from elsewhere, once
  *   slh_key_read, slh_key_write       to read and write key files
+ *   slh_der_read, slh_der_write       to read and write keys in DER
+ *   slh_pem_read, slh_pem_write       to read and write keys in PEM
  *   slh_self_test                     to test key generation, signing and verifying by known answers
  *   slh_sign_twice, slh_hash_sign_digest_twice, slh_hash_sign_twice
  *                                     to sign two times and compare, as you should: one fault can cost the key
@@ -36,16 +38,16 @@
  * - The number of bytes follows each pointer to bytes. The pointer points to that many bytes, which may be read, and
  *   for an output also written, until the call returns. It may be null if the number is 0. No number is above
  *   PTRDIFF_MAX.
- * - A pointer to one number (slh_lengths, slh_key_read, slh_sign_jobs, slh_answer_place, slh_keygen_jobs) is not null,
- *   and is aligned as its type. So are the arrays of slh_verify_many, whose lengths count elements. They may be null if
- *   these are 0.
+ * - A pointer to one number (slh_lengths, slh_key_read, the four calls for DER and PEM, slh_sign_jobs,
+ *   slh_answer_place, slh_keygen_jobs) is not null, and is aligned as its type. So are the arrays of slh_verify_many,
+ *   whose lengths count elements. They may be null if these are 0.
  * - An output overlaps no other argument, and nothing else writes to an argument while the call runs. scratch is an
  *   output, too.
  * - Seeds and randomizers are n fresh bytes from a source that is fit for keys: this library draws none. A randomizer
  *   of n bytes is FIPS 205's opt_rand; one of 0 bytes makes the deterministic variant (section 9.2).
  *
  * The calls check everything else: the numbers of sets, pre-hash functions, kinds of keys and refusals, all lengths,
- * and each byte of a key file.
+ * and each byte of a key file, of DER and of PEM.
  *
  * No call allocates memory or stores anything of its arguments. Any number of threads may be in any of the calls at
  * once. Nothing is claimed about the time of a call.
@@ -64,7 +66,7 @@
  *   4  key or seeds    8  start         12 output or signature
  *
  * The seeds are SK.seed, SK.prf and PK.seed, in this order. A digest or a hash takes the place of the message, a kind
- * of keys that of the function, and a key file that of the key. An output stands behind a signature.
+ * of keys that of the function, and a key file, DER or PEM that of the key. An output follows a signature.
  *
  * A call returns SLH_DONE (0), SLH_INVALID (30, only slh_check and the verify calls), or a refusal's number. The
  * exceptions are slh_version, slh_level, slh_erase, slh_refusal_text, and the two hardened calls, which return
@@ -75,8 +77,9 @@
  *   SLH_NO_SUCH_REFUSAL        slh_refusal_name alone: the number is not a result's
  *   SLH_NO_SUCH_SET            the number is not a set's
  *   SLH_NO_SUCH_FUNCTION       the number is not a pre-hash function's
- *   SLH_NO_SUCH_KIND           slh_key_write alone: the number is not a kind of keys
- *   SLH_NOT_A_KEY_FILE, SLH_UNKNOWN_SET, SLH_BAD_HEX, SLH_BAD_KEY_LENGTH, SLH_TRAILING_BYTES
+ *   SLH_NO_SUCH_KIND           the number is not a kind of keys
+ *   SLH_NOT_A_KEY_FILE         the bytes are not a key in the form that the call reads
+ *   SLH_UNKNOWN_SET, SLH_BAD_HEX, SLH_BAD_KEY_LENGTH, SLH_TRAILING_BYTES
  *                              slh_key_read alone: the first fault of the file
  *   SLH_BAD_CUTTING            a number of levels is above 8 or above the height of the trees
  *   SLH_NO_SUCH_JOB            the number is no job's
@@ -86,8 +89,8 @@
  *                              slh_verify_hashed than the set's
  *   SLH_BAD_RANDOMIZER_LENGTH  the randomizer has neither 0 nor n bytes
  *   SLH_BAD_START_LENGTH       the start has another length than the set's
- *   SLH_BAD_OUTPUT_LENGTH      the output has another length than the bytes to write, or too little room in
- *                              slh_key_read, slh_key_write and slh_refusal_name
+ *   SLH_BAD_OUTPUT_LENGTH      the output has another length than the bytes to write, or too little room in the
+ *                              calls that read or write a form of keys and in slh_refusal_name
  *   SLH_BAD_ANSWERS_LENGTH     the answers have another length than those of all jobs
  *   SLH_BAD_START              the start does not have its tag under this key
  *   SLH_ANSWERS_DISAGREE       the answers don't fit together
@@ -164,7 +167,7 @@ uint32_t slh_public(uint32_t set, const uint8_t *sk, size_t sk_len, uint8_t *pk,
 SLH_MUST_USE SLH_API
 uint32_t slh_check(uint32_t set, const uint8_t *sk, size_t sk_len);
 
-/* The kinds of keys in key files. */
+/* The kinds of keys. */
 enum slh_key_kind {
     SLH_PUBLIC_KEY = 1,
     SLH_SECRET_KEY = 2
@@ -196,6 +199,47 @@ uint32_t slh_key_read(const uint8_t *file, size_t file_len, uint32_t *set, uint3
  */
 SLH_MUST_USE SLH_API
 uint32_t slh_key_write(uint32_t set, uint32_t kind, const uint8_t *key, size_t key_len, char *text, size_t text_len);
+
+/* The most bytes of a key in DER, and of one in PEM with a zero byte after it. */
+#define SLH_MAX_DER 150
+#define SLH_MAX_PEM 259
+
+/*
+ * To read a key of another program in DER (bindings/README.md, "Keys for other programs"): a SubjectPublicKeyInfo, or a
+ * PKCS#8 PrivateKeyInfo that has neither attributes nor a public key. der has the whole file. Writes what slh_key_read
+ * writes. Call slh_check once on a secret key from elsewhere.
+ * Returns: SLH_DONE; SLH_NOT_A_KEY_FILE for any other bytes; SLH_BAD_OUTPUT_LENGTH if key has too little room.
+ */
+SLH_MUST_USE SLH_API
+uint32_t slh_der_read(const uint8_t *der, size_t der_len, uint32_t *set, uint32_t *kind, uint8_t *key, size_t key_len);
+
+/*
+ * To read the same in PEM: base64 in lines of 64 characters between the lines of a PUBLIC KEY or a PRIVATE KEY. pem has
+ * the whole file, without a zero byte behind it. Its last line feed may be missing.
+ * Returns: as slh_der_read.
+ */
+SLH_MUST_USE SLH_API
+uint32_t slh_pem_read(const uint8_t *pem, size_t pem_len, uint32_t *set, uint32_t *kind, uint8_t *key, size_t key_len);
+
+/*
+ * To write the key `of` in DER: writes its bytes, and zeros from there to the end of der. Writes the number of bytes
+ * before these zeros into written. SLH_MAX_DER bytes have room for each key. The DER of a secret key is as secret as
+ * the key.
+ * Returns: SLH_DONE; SLH_NO_SUCH_SET, SLH_NO_SUCH_KIND, SLH_BAD_LENGTH, SLH_BAD_OUTPUT_LENGTH if der has too little
+ * room.
+ */
+SLH_MUST_USE SLH_API
+uint32_t slh_der_write(uint32_t set, uint32_t kind, const uint8_t *of, size_t of_len, uint32_t *written, uint8_t *der,
+                       size_t der_len);
+
+/*
+ * To write the same in PEM: at least one zero follows the text, which has none. SLH_MAX_PEM bytes have room for each
+ * key.
+ * Returns: as slh_der_write.
+ */
+SLH_MUST_USE SLH_API
+uint32_t slh_pem_write(uint32_t set, uint32_t kind, const uint8_t *of, size_t of_len, uint32_t *written, uint8_t *pem,
+                       size_t pem_len);
 
 /*
  * To test a set on this machine before it is used, as when a service starts: generates a known key, signs a known

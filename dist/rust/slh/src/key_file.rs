@@ -1,8 +1,7 @@
-//! Key files (docs/FORMATS.md, "Key file").
+//! Key files (docs/FORMATS.md, "Key file"), which the proved code reads and writes.
 use std::{
     fs::{self, OpenOptions},
     io::{self, Read, Write},
-    ops::Range,
     path::Path,
 };
 
@@ -11,36 +10,23 @@ use std::os::unix::fs::OpenOptionsExt;
 
 use crate::{
     Error, Refusal,
+    call::certainly_done,
     secrets::Secrets,
-    sets::{Kind, NAMES},
+    sets::{Kind, NAMES, ParameterSet},
+    sys,
 };
 
 /// More bytes than a key file of one of the six sets has. Of a longer file the first fault depends on these bytes and
 /// on the first one after them that is not a hexadecimal digit.
 const MOST: usize = 512;
 
-impl Kind {
-    /// The first lines of the versions 1 and 2.
-    fn first_lines(self) -> [&'static [u8]; 2] {
-        match self {
-            Kind::Public => [b"slh-dsa-public 1", b"slh-dsa-public 2"],
-            Kind::Secret => [b"slh-dsa-secret 1", b"slh-dsa-secret 2"],
-        }
-    }
-
-    /// The digits of a key, of which two are a byte of n, 2n or 4n.
-    fn digits(self, n: usize) -> usize {
-        match self {
-            Kind::Public => 4 * n,
-            Kind::Secret => 8 * n,
-        }
-    }
-}
+/// Where lines 2 and 3 begin, in a file of one of the six sets.
+const NAME: usize = 17;
+const DIGITS: usize = 35;
 
 /// A key file without a fault. Its bytes are overwritten when it is dropped.
 pub(crate) struct KeyFile {
-    front: Secrets,
-    digits: Range<usize>,
+    key: Secrets,
     /// The name of the key's set.
     pub(crate) set: &'static str,
 }
@@ -51,23 +37,9 @@ impl KeyFile {
         if self.set != set {
             return Err(Error::OtherSet { expected: set, given: self.set });
         }
-        let digits = &self.front.bytes()[self.digits.clone()];
-        for (byte, pair) in out.iter_mut().zip(digits.chunks_exact(2)) {
-            *byte = value(pair[0]) << 4 | value(pair[1]);
-        }
+        out.copy_from_slice(&self.key.bytes()[..out.len()]);
         Ok(())
     }
-}
-
-/// The value of a hexadecimal digit. No branch and no address depends on it.
-fn value(digit: u8) -> u8 {
-    (digit & 15) + 9 * (digit >> 6)
-}
-
-/// The digit of a value below 16. No branch and no address depends on it.
-fn digit(value: u8) -> u8 {
-    // The lower-case letters stand 39 above the characters that follow `9`.
-    b'0' + value + (9u8.wrapping_sub(value) >> 7) * 39
 }
 
 pub(crate) fn load(path: &Path, kind: Kind) -> Result<KeyFile, Error> {
@@ -76,8 +48,7 @@ pub(crate) fn load(path: &Path, kind: Kind) -> Result<KeyFile, Error> {
 
 pub(crate) fn read(reader: impl Read, kind: Kind) -> Result<KeyFile, Error> {
     let (front, len) = front(reader).map_err(Error::ReadFailed)?;
-    let (set, digits) = judged(&front.bytes()[..len], kind)?;
-    Ok(KeyFile { front, digits, set })
+    Ok(judged(&front.bytes()[..len], kind)?)
 }
 
 /// Reads a file as far as its key or its first fault depends on it. Returns the bytes and their number.
@@ -108,58 +79,66 @@ fn pushed(rest: &mut [u8], part: &[u8]) -> usize {
     }
 }
 
-/// The set, and the place of the digits; or the first fault.
-fn judged(text: &[u8], kind: Kind) -> Result<(&'static str, Range<usize>), Refusal> {
-    let first = line_end(text).ok_or(Refusal::NOT_A_KEY_FILE)?;
-    if !kind.first_lines().contains(&&text[..first]) {
-        return Err(Refusal::NOT_A_KEY_FILE);
+/// The key of a file, or the file's first fault.
+fn judged(text: &[u8], kind: Kind) -> Result<KeyFile, Refusal> {
+    let (mut set, mut of_kind, mut key) = (0, 0, Secrets::zeros(sys::SLH_MAX_SECRET_KEY));
+    match sys::key_read(text, &mut set, &mut of_kind, key.bytes_mut()) {
+        sys::SLH_DONE if of_kind == kind as u32 => Ok(KeyFile { key, set: NAMES[set as usize - 1].0 }),
+        result => Err(refusal(result, text, kind)),
     }
-    let rest = &text[first + 1..];
-    let second = line_end(rest).ok_or(Refusal::UNKNOWN_SET)?;
-    let (set, n) = *NAMES.iter().find(|(name, _)| name.as_bytes() == &rest[..second]).ok_or(Refusal::UNKNOWN_SET)?;
-    let rest = &rest[second + 1..];
-    let third = line_end(rest).unwrap_or(rest.len());
-    if !rest[..third].iter().all(u8::is_ascii_hexdigit) {
-        return Err(Refusal::BAD_HEX);
-    }
-    if third != kind.digits(n) {
-        let refusal = Refusal::BAD_KEY_LENGTH;
-        // Of a longer file the digits were not counted.
-        return Err(if text.len() < MOST { refusal.of_lengths(kind.digits(n), "digits", third) } else { refusal });
-    }
-    if rest.len() > third + 1 {
-        return Err(Refusal::TRAILING_BYTES);
-    }
-    let at = text.len() - rest.len();
-    Ok((set, at..at + third))
 }
 
-fn line_end(text: &[u8]) -> Option<usize> {
-    text.iter().position(|byte| *byte == b'\n')
-}
-
-/// The text of a key file of version 2.
-fn text(kind: Kind, set: &str, key: &[u8]) -> Secrets {
-    let head = [kind.first_lines()[1], b"\n", set.as_bytes(), b"\n"].concat();
-    let mut text = Secrets::zeros(head.len() + 2 * key.len() + 1);
-    let (first, rest) = text.bytes_mut().split_at_mut(head.len());
-    first.copy_from_slice(&head);
-    for (pair, byte) in rest.chunks_exact_mut(2).zip(key) {
-        pair.copy_from_slice(&[digit(byte >> 4), digit(byte & 15)]);
+/// The refusal of a file that the proved code refuses, or whose key is of the other kind. That code reads files of both
+/// kinds, and names the other faults of a set without a number before that set. Here these two come first.
+fn refusal(result: u32, text: &[u8], kind: Kind) -> Refusal {
+    if result == sys::SLH_NOT_A_KEY_FILE || !text.starts_with(kind.beginning()) {
+        return Refusal::NOT_A_KEY_FILE;
     }
-    rest[2 * key.len()] = b'\n';
-    text
+    if result == sys::SLH_UNKNOWN_SET || text[NAME..].starts_with(b"custom:") {
+        return Refusal::UNKNOWN_SET;
+    }
+    // Of a longer file the digits were not counted.
+    if result != sys::SLH_BAD_KEY_LENGTH || text.len() >= MOST {
+        return Refusal::of(result);
+    }
+    let digits = &text[DIGITS..];
+    let given = digits.iter().position(|byte| *byte == b'\n').unwrap_or(digits.len());
+    let is = |(name, _): &&(&str, usize)| &text[NAME..DIGITS - 1] == name.as_bytes();
+    let n = NAMES.iter().find(is).map_or(0, |(_, n)| *n);
+    Refusal::BAD_KEY_LENGTH.of_lengths(kind.digits(n), "digits", given)
 }
 
-pub(crate) fn write(mut writer: impl Write, kind: Kind, set: &str, key: &[u8]) -> Result<(), Error> {
-    writer.write_all(text(kind, set, key).bytes()).map_err(Error::WriteFailed)
+impl Kind {
+    /// The first line of a file without the number of its version.
+    fn beginning(self) -> &'static [u8] {
+        match self {
+            Kind::Public => b"slh-dsa-public ",
+            Kind::Secret => b"slh-dsa-secret ",
+        }
+    }
+
+    /// The digits of a key, of which two are a byte of n, 2n or 4n.
+    fn digits(self, n: usize) -> usize {
+        match self {
+            Kind::Public => 4 * n,
+            Kind::Secret => 8 * n,
+        }
+    }
+}
+
+/// Writes the text of a key file of version 2.
+pub(crate) fn write<P: ParameterSet>(mut writer: impl Write, kind: Kind, key: &[u8]) -> Result<(), Error> {
+    let mut text = Secrets::zeros(sys::SLH_MAX_KEY_FILE);
+    certainly_done(sys::key_write(P::NUMBER, kind as u32, key, text.bytes_mut()));
+    let len = DIGITS + 2 * key.len() + 1;
+    writer.write_all(&text.bytes()[..len]).map_err(Error::WriteFailed)
 }
 
 /// Writes a new file.
-pub(crate) fn dump(path: &Path, kind: Kind, set: &str, key: &[u8]) -> Result<(), Error> {
+pub(crate) fn dump<P: ParameterSet>(path: &Path, kind: Kind, key: &[u8]) -> Result<(), Error> {
     let mut file = created(path, kind).map_err(Error::WriteFailed)?;
     whole_or_removed(path, || {
-        write(&mut file, kind, set, key)?;
+        write::<P>(&mut file, kind, key)?;
         file.sync_all().map_err(Error::WriteFailed)
     })
 }
@@ -186,16 +165,6 @@ mod tests {
     use alloc::format;
 
     use super::*;
-
-    #[test]
-    fn digits_are_those_of_the_standard_library() {
-        for byte in 0..=255u8 {
-            let expected = format!("{byte:02x}").into_bytes();
-            assert_eq!([digit(byte >> 4), digit(byte & 15)], expected[..]);
-            let upper = format!("{byte:02X}").into_bytes();
-            assert!([expected, upper].iter().all(|pair| value(pair[0]) << 4 | value(pair[1]) == byte));
-        }
-    }
 
     #[test]
     fn a_part_of_a_file_does_not_stay() {

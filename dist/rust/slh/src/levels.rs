@@ -81,12 +81,12 @@ pub(crate) fn run<const N: usize>(
     n: usize,
     adrs: &[Simd<u32, N>; 6],
     x: &[Simd<u32, N>; 8],
-    from: u32,
-    count: u32,
+    from: Simd<u32, N>,
+    counts: Simd<u32, N>,
 ) -> [Simd<u32, N>; 8] {
-    by_avx2!(Simd<u32, N>, avx2::Run { short, n, adrs, x, from, count });
+    by_avx2!(Simd<u32, N>, avx2::Run { short, n, adrs, x, from, counts });
     need_register!(Simd<u32, N>);
-    chains::run::<_, Rounds>(short, n, adrs, x, from, count)
+    chains::run::<_, Rounds>(short, n, adrs, x, from, counts)
 }
 
 /// The functions again, by vectors of AVX2. All that they call is inlined.
@@ -112,8 +112,8 @@ mod avx2 {
         pub n: usize,
         pub adrs: &'a [Simd<u32, N>; 6],
         pub x: &'a [Simd<u32, N>; 8],
-        pub from: u32,
-        pub count: u32,
+        pub from: Simd<u32, N>,
+        pub counts: Simd<u32, N>,
     }
 
     /// The vectors with the same words at another level.
@@ -153,7 +153,8 @@ mod avx2 {
         #[inline(always)]
         fn compute(self) -> Self::Value {
             let (adrs, x) = (at_level(self.adrs), at_level(self.x));
-            let ends = chains::run::<Simd<u32, N, Avx2>, Rounds>(self.short, self.n, &adrs, &x, self.from, self.count);
+            let [from, counts] = at_level(&[self.from, self.counts]);
+            let ends = chains::run::<Simd<u32, N, Avx2>, Rounds>(self.short, self.n, &adrs, &x, from, counts);
             at_level(&ends)
         }
     }

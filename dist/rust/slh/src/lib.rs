@@ -28,7 +28,7 @@ macro_rules! proved {
             #[allow(clippy::needless_range_loop, clippy::manual_memcpy, clippy::manual_range_contains)]
             #[allow(clippy::misnamed_getters, clippy::needless_question_mark, clippy::manual_is_ascii_check)]
             #[allow(clippy::too_many_arguments, clippy::large_enum_variant, clippy::len_without_is_empty)]
-            #[allow(clippy::new_without_default, clippy::question_mark)]
+            #[allow(clippy::new_without_default, clippy::question_mark, clippy::manual_div_ceil)]
             $visible mod $module;
         )*
     };

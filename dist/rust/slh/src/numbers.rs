@@ -2,7 +2,7 @@
 //! The numbers of the headers for C.
 
 /// `slh_version` of the version that these declarations are of.
-pub const SLH_VERSION_NUMBER: u32 = 15_000;
+pub const SLH_VERSION_NUMBER: u32 = 16_000;
 /// The number of the set SLH-DSA-SHA2-128s.
 pub const SLH_DSA_SHA2_128S: u32 = 1;
 /// The number of the set SLH-DSA-SHA2-128f.
@@ -41,9 +41,9 @@ pub const SLH_NO_SUCH_SET: u32 = 8;
 pub const SLH_NO_SUCH_FUNCTION: u32 = 9;
 /// A seed has another length than n bytes.
 pub const SLH_BAD_SEED_LENGTH: u32 = 10;
-/// The first line is not that of a key file: this and the next four are of `slh_key_read` alone.
+/// The bytes are not a key in the form that the call reads.
 pub const SLH_NOT_A_KEY_FILE: u32 = 11;
-/// The second line of the key file is not the name of a set.
+/// The second line of the key file is not the name of a set: this and the next three are of `slh_key_read` alone.
 pub const SLH_UNKNOWN_SET: u32 = 12;
 /// The third line of the key file has a byte that is not a hexadecimal digit.
 pub const SLH_BAD_HEX: u32 = 13;
@@ -83,15 +83,21 @@ pub const SLH_FAULT: u32 = 38;
 pub const SLH_OLD_PROCESSOR: u32 = 39;
 /// An answer of the self-test is not the known one: `slh_self_test` alone returns it.
 pub const SLH_SELF_TEST_FAILED: u32 = 40;
-/// The number is not a kind of keys: `slh_key_write` alone returns it.
+/// The number is not a kind of keys.
 pub const SLH_NO_SUCH_KIND: u32 = 41;
-/// The kind of a key file's public key.
+/// The kind of public keys.
 pub const SLH_PUBLIC_KEY: u32 = 1;
-/// The kind of a key file's secret key.
+/// The kind of secret keys.
 pub const SLH_SECRET_KEY: u32 = 2;
 /// The most bytes of a refusal's name with the zero byte after it.
 pub const SLH_MAX_NAME: usize = 20;
 /// The most bytes of a key file that `slh_key_write` writes, with a zero byte after it.
 pub const SLH_MAX_KEY_FILE: usize = 293;
+/// The most bytes that `slh_der_write` writes.
+pub const SLH_MAX_DER: usize = 150;
+/// The most bytes that `slh_pem_write` writes, with a zero byte after them.
+pub const SLH_MAX_PEM: usize = 259;
+/// The most bytes of a secret key.
+pub const SLH_MAX_SECRET_KEY: usize = 128;
 /// The most bytes of a context.
 pub const SLH_MAX_CONTEXT: usize = 255;

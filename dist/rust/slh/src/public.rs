@@ -91,12 +91,12 @@ impl<P: ParameterSet> PublicKey<P> {
     /// Writes a new key file of version 2. `Error::WriteFailed` if it can't be written, and if the path exists: no file
     /// is overwritten, and a part of one does not stay.
     pub fn dump(&self, path: impl AsRef<Path>) -> Result<(), Error> {
-        key_file::dump(path.as_ref(), Kind::Public, P::NAME, self.bytes.as_ref())
+        key_file::dump::<P>(path.as_ref(), Kind::Public, self.bytes.as_ref())
     }
 
     /// Writes the text of a key file of version 2. `Error::WriteFailed`.
     pub fn write_to(&self, writer: impl Write) -> Result<(), Error> {
-        key_file::write(writer, Kind::Public, P::NAME, self.bytes.as_ref())
+        key_file::write::<P>(writer, Kind::Public, self.bytes.as_ref())
     }
 }
 

@@ -13,7 +13,7 @@ pub fn refusal_text(result: u32) -> &'static CStr {
         8 => c"the number is not a parameter set's",
         9 => c"the number is not a pre-hash function's",
         10 => c"a seed does not have n bytes",
-        11 => c"the first line is not that of a key file",
+        11 => c"the first line is not that of a key file, or a key in DER or PEM has another form",
         12 => c"the second line of the key file is not the name of a parameter set",
         13 => c"the third line of the key file has a byte that is no hexadecimal digit",
         14 => c"the third line of the key file has too few or too many digits for a key of the set",

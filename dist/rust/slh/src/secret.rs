@@ -105,12 +105,12 @@ impl<P: ParameterSet> SecretKey<P> {
     /// rights are those that its folder gives. `Error::WriteFailed` if it can't be written, and if the path exists: no
     /// file is overwritten, and a part of one does not stay.
     pub fn dump(&self, path: impl AsRef<Path>) -> Result<(), Error> {
-        key_file::dump(path.as_ref(), Kind::Secret, P::NAME, self.slice())
+        key_file::dump::<P>(path.as_ref(), Kind::Secret, self.slice())
     }
 
     /// Writes the text of a key file of version 2. `Error::WriteFailed`.
     pub fn write_to(&self, writer: impl Write) -> Result<(), Error> {
-        key_file::write(writer, Kind::Secret, P::NAME, self.slice())
+        key_file::write::<P>(writer, Kind::Secret, self.slice())
     }
 
     /// Workers that sign under this key by that many threads, the caller's among them. 0 and 1 are the caller's alone.

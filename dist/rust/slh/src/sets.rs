@@ -110,11 +110,12 @@ macro_rules! parameter_set {
     };
 }
 
-/// The kind of a key.
+/// The kind of a key, by the library's number.
 #[derive(Clone, Copy, PartialEq, Eq)]
+#[repr(u32)]
 pub(crate) enum Kind {
-    Public,
-    Secret,
+    Public = sys::SLH_PUBLIC_KEY,
+    Secret = sys::SLH_SECRET_KEY,
 }
 
 /// The names of the six sets, and n.

@@ -20,6 +20,7 @@ pub mod keys;
 pub mod many;
 pub mod names;
 pub mod numbers;
+pub mod pkix;
 pub mod pre_hash_form;
 pub mod pure_form;
 pub mod randomizer;

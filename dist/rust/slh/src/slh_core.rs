@@ -2,6 +2,7 @@
 //! SLH-DSA (FIPS 205) with SHA-2 in one thread and without memory: keys, message digests, pre-hashing,
 //! signing and verifying.
 
+pub use comparing::are_same;
 pub use digest_parts::{DigestIndices, DigestIndices as Cut, digest_indices, digest_indices as cut_digest};
 pub use eight::{SignedParts, verify_eight};
 pub use fault::{KeyFault, KeygenFault, SignFault};

@@ -31,4 +31,4 @@ pub use jobs::{answer_len, answer_start, answers_len, levels_are_a_cutting, sign
 pub use joining::sign_join;
 pub use levels::Levels;
 pub use start::{MOST_START_LEN, sign_start, start_len};
-pub use tag::{have_same_bytes, keys_differ, texts_differ};
+pub use tag::{keys_differ, texts_differ};

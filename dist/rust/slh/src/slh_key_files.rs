@@ -13,7 +13,9 @@ pub use key_front::push_key_bytes;
 pub use key_kind::KeyKind;
 #[cfg(feature = "alloc")]
 pub use key_text::{either_is_read, upgraded_stays, write_public, write_secret, written_is_read};
+pub use pkix::{der_len, pem_len, put_der, put_pem, read_der, read_pem};
 
+mod base64_lines;
 mod digits;
 mod fault;
 mod key_file;
@@ -23,3 +25,4 @@ mod key_kind;
 #[cfg(feature = "alloc")]
 mod key_text;
 mod lines;
+mod pkix;

@@ -3,7 +3,7 @@ use core::ffi::CStr;
 
 pub(crate) use crate::numbers::*;
 use crate::slh_c;
-#[cfg(feature = "std")]
+#[cfg(any(feature = "std", feature = "pkcs8"))]
 use crate::stack::apart;
 
 /// Makes a call with numbers, then with slices that it reads, and last with slices that it writes, by their names. The
@@ -55,6 +55,32 @@ pub(crate) fn answer_place(set: u32, levels: [u32; 2], job: u32, at: &mut usize,
 #[cfg(feature = "std")]
 pub(crate) fn sign_job(set: u32, levels: [u32; 2], sk: &[u8], start: &[u8], job: u32, answer: &mut [u8]) -> u32 {
     apart(|| slh_c::jobs::slh_sign_job(set, levels[0], levels[1], sk, start, job, answer))
+}
+
+/// Reads a key file. Writes its key's set, kind and bytes, with zeros behind them.
+#[cfg(feature = "std")]
+pub(crate) fn key_read(file: &[u8], set: &mut u32, kind: &mut u32, key: &mut [u8]) -> u32 {
+    apart(|| slh_c::key_files::slh_key_read(file, set, kind, key))
+}
+
+/// Writes a key file, and zeros behind it.
+#[cfg(feature = "std")]
+pub(crate) fn key_write(set: u32, kind: u32, key: &[u8], text: &mut [u8]) -> u32 {
+    apart(|| slh_c::key_files::slh_key_write(set, kind, key, text))
+}
+
+/// Reads a key in DER or PEM. Writes its set, its kind and its bytes, with zeros behind them.
+#[cfg(feature = "pkcs8")]
+pub(crate) fn pkix_read(is_pem: bool, file: &[u8], set: &mut u32, kind: &mut u32, key: &mut [u8]) -> u32 {
+    let call = if is_pem { slh_c::pkix::slh_pem_read } else { slh_c::pkix::slh_der_read };
+    apart(|| call(file, set, kind, key))
+}
+
+/// Writes a key in DER or PEM, with zeros behind it, and its length.
+#[cfg(all(feature = "pkcs8", feature = "std"))]
+pub(crate) fn pkix_write(is_pem: bool, set: u32, kind: u32, key: &[u8], len: &mut u32, file: &mut [u8]) -> u32 {
+    let call = if is_pem { slh_c::pkix::slh_pem_write } else { slh_c::pkix::slh_der_write };
+    apart(|| call(set, kind, key, len, file))
 }
 
 /// An item of `verify_many`: a key, a message, a context and a signature.

@@ -322,7 +322,7 @@ macro_rules! words {
         shift!($word, Shl, shl, $left);
         shift!($word, Shr, shr, $right);
 
-        impl<const N: usize> Compare<N> for Simd<$word, N> {
+        impl<const N: usize, L: Level> Compare<N> for Simd<$word, N, L> {
             #[inline(always)]
             fn simd_lt(self, other: Self) -> Mask<N> {
                 Mask(from_fn(|lane| self.0[lane] < other.0[lane]))
@@ -393,7 +393,7 @@ impl<T: Copy, const N: usize, L: Level> Simd<T, N, L> {
 impl<const N: usize> Mask<N> {
     /// In each lane the word of `x` if the mask is true there, else that of `y`.
     #[inline(always)]
-    pub fn select<T: Copy>(self, x: Simd<T, N>, y: Simd<T, N>) -> Simd<T, N> {
+    pub fn select<T: Copy, L: Level>(self, x: Simd<T, N, L>, y: Simd<T, N, L>) -> Simd<T, N, L> {
         Simd::from_array(from_fn(|lane| if self.0[lane] { x.0[lane] } else { y.0[lane] }))
     }
 }

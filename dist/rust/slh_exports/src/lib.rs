@@ -61,6 +61,10 @@ calls! { slh_c:
         answers: input, sk: output,);
     key_files::slh_key_read(file: input, set: place u32, kind: place u32, key: output,);
     key_files::slh_key_write(set: number, kind: number, key: input, file: output,);
+    pkix::slh_der_read(der: input, set: place u32, kind: place u32, key: output,);
+    pkix::slh_pem_read(pem: input, set: place u32, kind: place u32, key: output,);
+    pkix::slh_der_write(set: number, kind: number, of: input, written: place u32, der: output,);
+    pkix::slh_pem_write(set: number, kind: number, of: input, written: place u32, pem: output,);
     self_test::slh_self_test(set: number, scratch: output,);
     names::slh_refusal_name(refusal: number, name: output,);
 }

@@ -35,7 +35,7 @@ fn put(bytes: &[u8], out: &mut [u8]) {
 }
 
 /// What `read_key` gave, as `slh_key_read` writes it.
-fn put_key(it: &AnyKey, set: &mut u32, kind: &mut u32, key: &mut [u8]) -> u32 {
+pub(crate) fn put_key(it: &AnyKey, set: &mut u32, kind: &mut u32, key: &mut [u8]) -> u32 {
     let (of, of_kind, bytes) = match it {
         AnyKey::Public(it) => (it.set(), KeyKind::Public, it.bytes()),
         AnyKey::Secret(it) => (it.set(), KeyKind::Secret, it.bytes()),
@@ -64,7 +64,7 @@ pub fn slh_key_read(file: &[u8], set: &mut u32, kind: &mut u32, key: &mut [u8]) 
 }
 
 /// The kind of a number.
-fn kind_of(number: u32) -> Option<KeyKind> {
+pub(crate) fn kind_of(number: u32) -> Option<KeyKind> {
     match number {
         1 => Some(KeyKind::Public),
         2 => Some(KeyKind::Secret),

@@ -13,13 +13,13 @@ use crate::slh_c::pure_form::slh_sign;
 use crate::slh_c::randomizer::randomizer_of;
 use crate::slh_c::refusal::{DONE, Refusal, or_refuse};
 use crate::slh_c::rules::{self, judge};
-use crate::slh_jobs::have_same_bytes;
+use crate::slh_core::are_same;
 
 /// Exchanges the first signature with the bytes of `sig`, and compares what is in `sig` then with the second signature.
 /// If they differ, exchanges them back, so that `sig` is as it was.
 fn exchange(first: &mut [u8], second: &[u8], sig: &mut [u8]) -> bool {
     sig.swap_with_slice(first);
-    let is_same = have_same_bytes(sig, second);
+    let is_same = are_same(sig, second);
     if !is_same {
         sig.swap_with_slice(first);
     }
@@ -30,11 +30,7 @@ fn exchange(first: &mut [u8], second: &[u8], sig: &mut [u8]) -> bool {
 /// written, and the written bytes are compared again: a bit may also turn on the way. Refused as `Fault`, with `sig` as
 /// it was, if the runs are not done, or if a comparison fails.
 fn release(are_done: bool, first: &mut [u8], second: &[u8], sig: &mut [u8]) -> u32 {
-    if are_done && have_same_bytes(first, second) && exchange(first, second, sig) {
-        DONE
-    } else {
-        Refusal::Fault.number()
-    }
+    if are_done && are_same(first, second) && exchange(first, second, sig) { DONE } else { Refusal::Fault.number() }
 }
 
 /// Signs a message as `slh_sign` does, two times, and compares: the bytes are those of `slh_sign`. `scratch` has room

@@ -22,7 +22,15 @@ pub struct HashContext<'a> {
 impl<'a> HashContext<'a> {
     /// The midstates of this PK.seed of n bytes.
     pub fn new(set: ParamSet, pk_seed: &'a [u8]) -> Self {
-        let lanes = lanes_under(set, pk_seed);
+        let lanes = match build_widths().short {
+            Width::One => None,
+            Width::Four | Width::Eight | Width::Sixteen | Width::Instructions => Some(lanes_under(set, pk_seed)),
+        };
+        HashContext::with_lanes(set, pk_seed, lanes)
+    }
+
+    /// The midstates of this PK.seed, of which these are in SIMD lanes.
+    fn with_lanes(set: ParamSet, pk_seed: &'a [u8], lanes: Option<SeededLanes<'a>>) -> Self {
         HashContext {
             set,
             pk_seed,
@@ -57,7 +65,7 @@ impl<'a> HashContext<'a> {
         stream.finish()
     }
 
-    /// The midstates in SIMD lanes. `None` if PK.seed does not have n bytes or the build has one lane.
+    /// The midstates in SIMD lanes. `None` if the build has one lane.
     pub(crate) fn lanes(&self) -> Option<&SeededLanes<'a>> {
         match build_widths().short {
             Width::One => None,
@@ -66,12 +74,10 @@ impl<'a> HashContext<'a> {
     }
 }
 
-/// The midstates in SIMD lanes. `None` if PK.seed does not have n bytes or the build has one lane.
-fn lanes_under(set: ParamSet, pk_seed: &[u8]) -> Option<SeededLanes> {
-    match build_widths().short {
-        Width::One => None,
-        Width::Four | Width::Eight | Width::Sixteen | Width::Instructions => SeededLanes::new(set, pk_seed),
-    }
+/// The midstates of this PK.seed of n bytes in SIMD lanes.
+fn lanes_under(set: ParamSet, pk_seed: &[u8]) -> SeededLanes {
+    let Some(lanes) = SeededLanes::new(set, pk_seed) else { unreachable!() };
+    lanes
 }
 
 /// A key's SK.seed with the midstates of its PK.seed, for signing.
@@ -80,14 +86,16 @@ fn lanes_under(set: ParamSet, pk_seed: &[u8]) -> Option<SeededLanes> {
 pub struct SigningContext<'a> {
     pub public: HashContext<'a>,
     pub sk_seed: &'a [u8],
-    lanes: Option<SeededLanes<'a>>,
 }
 
 impl<'a> SigningContext<'a> {
-    /// The midstates of these seeds, of n bytes each.
+    /// The midstates of these seeds.
     pub fn new(seeds: &Seeds<'a>) -> Self {
-        let lanes = signing_lanes(seeds);
-        SigningContext { public: HashContext::new(seeds.set, seeds.pk_seed), sk_seed: seeds.sk_seed, lanes }
+        let lanes = lanes_under(seeds.set, seeds.pk_seed);
+        SigningContext {
+            public: HashContext::with_lanes(seeds.set, seeds.pk_seed, Some(lanes)),
+            sk_seed: seeds.sk_seed,
+        }
     }
 
     /// PRF: the secret at an address.
@@ -95,16 +103,9 @@ impl<'a> SigningContext<'a> {
         self.public.seeded.prf(self.sk_seed, adrs)
     }
 
-    /// The midstates in SIMD lanes. `None` if a seed does not have n bytes.
-    pub(crate) fn lanes(&self) -> Option<&SeededLanes<'a>> {
-        self.lanes.as_ref()
+    /// The midstates in SIMD lanes, which signing has in each build.
+    pub(crate) fn lanes(&self) -> &SeededLanes<'a> {
+        let Some(lanes) = &self.public.lanes else { unreachable!() };
+        lanes
     }
-}
-
-/// The midstates of PK.seed in SIMD lanes. `None` if a seed does not have n bytes.
-fn signing_lanes<'a>(seeds: &Seeds<'a>) -> Option<SeededLanes<'a>> {
-    if seeds.sk_seed.len() != seeds.set.n() {
-        return None;
-    }
-    SeededLanes::new(seeds.set, seeds.pk_seed)
 }

@@ -124,17 +124,9 @@ impl<'c, 'a> Tree for ForsNodes<'c, 'a> {
     }
 
     fn leaves(&self, first: u32, count: u32) -> Leaves {
-        if let Some(lanes) = self.signer.lanes() {
-            let leaves = self.at.leaf_lanes(lanes, self.signer.sk_seed, first);
-            return first_nodes(&leaves, self.signer.public.set.n(), count as usize);
-        }
-        // For the prover: a tree has a height of at most 14.
-        let _highest = self.height();
-        let mut leaves = Leaves::new();
-        for j in 0..count {
-            leaves.push(self.leaf(first + j));
-        }
-        leaves
+        let signer = self.signer;
+        let leaves = self.at.leaf_lanes(signer.lanes(), signer.sk_seed, first);
+        first_nodes(&leaves, signer.public.set.n(), count as usize)
     }
 }
 

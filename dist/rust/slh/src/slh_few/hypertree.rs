@@ -3,7 +3,7 @@
 //! (FIPS 205, section 7).
 
 use crate::slh_few::context::{HashContext, SigningContext};
-use crate::slh_few::lanes::put_roots_in_lanes;
+use crate::slh_few::lanes::{put_roots_in_lanes, sign_giving_leaf};
 use crate::slh_few::nodes::first_nodes;
 use crate::slh_few::place::{Place, Public, Seeds};
 use crate::slh_few::wots::MOST_WOTS_SIG_LEN;
@@ -64,7 +64,7 @@ impl<'a> SigningContext<'a> {
         let set = self.public.set;
         let end = start + xmss_sig_len(set);
         let sig = &mut out[start..end];
-        let leaf = self.sign_tree(at, msg, sig);
+        let leaf = sign_giving_leaf(self, at, msg, sig);
         let (_wots, auth) = sig.split_at(set.len() * set.n());
         let tree = self.xmss_nodes(at.layer, at.tree);
         climb(&tree, at.pair, &leaf, auth)

@@ -2,10 +2,10 @@
 //! Checkpoints of a key's chains, stored when the key is made, until it signs (FIPS 205, section 5).
 
 use crate::slh_few::context::{HashContext, SigningContext};
-use crate::slh_few::lanes::{MOST_DIGITS, run_with_checkpoints};
+use crate::slh_few::lanes::run_with_checkpoints;
 use crate::slh_few::nodes::{chunk_at, node_at, put_chunk};
 use crate::slh_few::place::Place;
-use crate::slh_few::wots::{MOST_WOTS_SIG_LEN, compressed_ends, run_chain, run_secrets, wots_sig_len};
+use crate::slh_few::wots::{MOST_WOTS_SIG_LEN, compressed_ends, run_chain, wots_sig_len};
 use crate::slh_few::wots_digits::{MOST_CHAINS, digits_of};
 use crate::slh_params::{Node, ParamSet, put_node};
 
@@ -45,37 +45,13 @@ pub(crate) fn put_checkpoint(set: ParamSet, checkpoints: &mut [u8], c: usize, j:
     put_chunk(&mut checkpoints[start..start + size], set.n(), j, value);
 }
 
-/// Writes checkpoint `j` of all chains, which are end to end in `values`.
-fn put_checkpoint_of_each(set: ParamSet, checkpoints: &mut [u8], j: usize, values: &[u8]) {
-    let n = set.n();
-    for c in 0..set.len() {
-        put_checkpoint(set, checkpoints, c, j, &node_at(values, n, c));
-    }
-}
-
 impl<'a> SigningContext<'a> {
-    /// Writes the checkpoints of a key's chains. Each is computed from its secret, one chain after another: no key has
-    /// seeds of this kind.
-    fn put_checkpoints_alone(&self, at: Place, checkpoints: &mut [u8]) {
-        let set = self.public.set;
-        let mut buffer = [0; MOST_WOTS_SIG_LEN];
-        let values = &mut buffer[..wots_sig_len(set)];
-        for j in 0..checkpoint_count(set) {
-            run_secrets(self, at, &[j * spacing(set); MOST_DIGITS], values);
-            put_checkpoint_of_each(set, checkpoints, j as usize, values);
-        }
-    }
-
     /// The public key at a place, n bytes (Algorithm 6). Into `checkpoints` it writes checkpoints of the key's chains,
     /// `key_checkpoints_len` bytes, from which `wots_sign_from_checkpoints` signs.
     pub(crate) fn wots_pk_with_checkpoints(&self, at: Place, checkpoints: &mut [u8]) -> Node {
-        let Some(lanes) = self.lanes() else {
-            self.put_checkpoints_alone(at, checkpoints);
-            return self.wots_pk(at);
-        };
         let mut buffer = [0; MOST_WOTS_SIG_LEN];
         let ends = &mut buffer[..wots_sig_len(self.public.set)];
-        run_with_checkpoints(lanes, self.sk_seed, at, checkpoints, ends);
+        run_with_checkpoints(self.lanes(), self.sk_seed, at, checkpoints, ends);
         compressed_ends(&self.public, at, ends)
     }
 }

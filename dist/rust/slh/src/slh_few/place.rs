@@ -1,5 +1,6 @@
 // Made by tools/plain_rust.py from crates/slh_few/src/place.rt.
 //! The arguments of the public calls: seeds, and the place of a key (FIPS 205, sections 5 to 8).
+
 use crate::slh_params::ParamSet;
 
 /// The seeds that signing needs: SK.seed and PK.seed, of n bytes each.

@@ -27,10 +27,10 @@ impl<'a> SigningContext<'a> {
     /// The tree over a place, of which the leaf there is known, and all eight below its node of height 3 if they are in
     /// the range. Into `checkpoints` it writes `key_checkpoints_len` bytes: the checkpoints of the key at the place.
     fn xmss_nodes_with_checkpoints(&self, at: Place, lo: u32, hi: u32, checkpoints: &mut [u8]) -> XmssNodes<'_, 'a> {
-        if let (true, Some(lanes)) = (has_eight_in_range(at, lo, hi), self.lanes()) {
+        if has_eight_in_range(at, lo, hi) {
             let first = first_of_eight(at);
             let lane = lane_among_eight(at);
-            let group = eight_keys(lanes, self.sk_seed, first, &LaneCheckpoints { lane }, checkpoints);
+            let group = eight_keys(self.lanes(), self.sk_seed, first, &LaneCheckpoints { lane }, checkpoints);
             self.xmss_nodes_knowing(first, group)
         } else {
             let mut known = Leaves::new();

@@ -3,7 +3,7 @@
 
 use crate::slh_few::context::{HashContext, SigningContext};
 use crate::slh_few::lanes::{ChainNumbers, MOST_DIGITS, run_secrets_in_lanes, run_values};
-use crate::slh_few::nodes::{node_at, put_chunk};
+use crate::slh_few::nodes::node_at;
 use crate::slh_few::place::{Place, Public, Seeds};
 use crate::slh_few::wots_digits::{MOST_CHAINS, digits_of};
 use crate::slh_lanes::SeededLanes;
@@ -51,31 +51,6 @@ pub(crate) fn compressed_ends(context: &HashContext, at: Place, ends: &[u8]) -> 
     context.t(&adrs, ends, context.set.len())
 }
 
-/// The secret of chain `c` of the key at a place, n bytes.
-fn wots_secret(signer: &SigningContext, at: Place, c: u32) -> Node {
-    signer.prf(&wots_adrs(at, AdrsType::WotsPrf, c, 0))
-}
-
-/// Writes the value of each chain of a key after its number of steps from its secret, one chain after another.
-fn run_secrets_alone(signer: &SigningContext, at: Place, counts: &ChainNumbers, out: &mut [u8]) {
-    let set = signer.public.set;
-    let n = set.n();
-    for c in 0..set.len() {
-        let secret = wots_secret(signer, at, c as u32);
-        let value = run_chain(&signer.public, at, c as u32, secret, 0, counts[c]);
-        put_chunk(out, n, c, &value);
-    }
-}
-
-/// Writes the value of each chain of a key after its number of steps from its secret. If a seed does not have n bytes,
-/// one chain is run after another.
-pub(crate) fn run_secrets(signer: &SigningContext, at: Place, counts: &ChainNumbers, out: &mut [u8]) {
-    match signer.lanes() {
-        None => run_secrets_alone(signer, at, counts, out),
-        Some(lanes) => run_secrets_in_lanes(lanes, signer.sk_seed, at, counts, out),
-    }
-}
-
 impl<'a> SigningContext<'a> {
     /// The public key at a place: n bytes (Algorithm 6).
     pub fn wots_pk(&self, at: Place) -> Node {
@@ -83,7 +58,7 @@ impl<'a> SigningContext<'a> {
         let mut buffer = [0; MOST_WOTS_SIG_LEN];
         let ends = &mut buffer[..wots_sig_len(set)];
         let last = [set.w() - 1; MOST_DIGITS];
-        run_secrets(self, at, &last, ends);
+        run_secrets_in_lanes(self.lanes(), self.sk_seed, at, &last, ends);
         compressed_ends(&self.public, at, ends)
     }
 
@@ -91,7 +66,7 @@ impl<'a> SigningContext<'a> {
     /// The key that it gives is the public key.
     pub fn wots_sign(&self, at: Place, msg: &Node, out: &mut [u8]) {
         let digits = digits_of(self.public.set, msg);
-        run_secrets(self, at, &digits, out);
+        run_secrets_in_lanes(self.lanes(), self.sk_seed, at, &digits, out);
     }
 }
 

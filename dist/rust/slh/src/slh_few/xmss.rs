@@ -6,7 +6,7 @@ use crate::slh_few::lanes::sign_giving_leaf;
 use crate::slh_few::place::{Place, Public, Seeds};
 use crate::slh_few::xmss_tree::XmssJoins;
 use crate::slh_params::Node;
-use crate::slh_tree::{climb, node, path};
+use crate::slh_tree::{climb, node};
 
 impl<'a> SigningContext<'a> {
     /// xmss_node (Algorithm 9): the node of height `z` at index `i` of tree `tree` of layer `layer`, n bytes, from the
@@ -15,39 +15,12 @@ impl<'a> SigningContext<'a> {
         node(&self.xmss_nodes(layer, tree), z, i)
     }
 
-    /// Writes the signature as `xmss_sign` does. The leaf that signs is not made. It is for trees of fewer than eight
-    /// leaves, and for seeds that do not have n bytes.
-    fn sign_alone(&self, at: Place, msg: &Node, out: &mut [u8]) {
-        let set = self.public.set;
-        let (wots, auth) = out.split_at_mut(set.len() * set.n());
-        self.wots_sign(at, msg, wots);
-        path(&self.xmss_nodes(at.layer, at.tree), at.pair, auth);
-    }
-
-    /// Writes the signature as `xmss_sign` does, and gives the leaf that signs. None of its chains is computed twice.
-    pub(crate) fn sign_tree(&self, at: Place, msg: &Node, out: &mut [u8]) -> Node {
-        let set = self.public.set;
-        if let (true, Some(lanes)) = (EIGHT_LEAVES <= set.hp(), self.lanes()) {
-            return sign_giving_leaf(self, lanes, at, msg, out);
-        }
-        self.sign_alone(at, msg, out);
-        let (wots, _auth) = out.split_at(set.len() * set.n());
-        self.public.wots_pk_from_sig(at, msg, wots)
-    }
-
     /// Writes the signature of a message of n bytes: that of the leaf's WOTS+ key, then the leaf's path,
     /// (len + h') * n bytes (Algorithm 10). The root that the signature gives is the tree's.
     pub fn xmss_sign(&self, at: Place, msg: &Node, out: &mut [u8]) {
-        if let (true, Some(lanes)) = (EIGHT_LEAVES <= self.public.set.hp(), self.lanes()) {
-            sign_giving_leaf(self, lanes, at, msg, out);
-        } else {
-            self.sign_alone(at, msg, out);
-        }
+        sign_giving_leaf(self, at, msg, out);
     }
 }
-
-/// The height of a tree of eight leaves: from it on, the leaf that signs is made together with seven others.
-const EIGHT_LEAVES: u32 = 3;
 
 impl<'a> HashContext<'a> {
     /// The root that a signature of a message of n bytes gives: n bytes (Algorithm 11).

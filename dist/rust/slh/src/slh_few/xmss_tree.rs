@@ -97,8 +97,9 @@ impl<'c, 'a> Tree for XmssNodes<'c, 'a> {
     fn leaves(&self, first: u32, count: u32) -> Leaves {
         // For the prover: a tree has a height of at most 14.
         let _highest = self.height();
-        if let (true, Some(lanes)) = (count == GROUP as u32 && self.knows_none(first, count), self.signer.lanes()) {
+        if count == GROUP as u32 && self.knows_none(first, count) {
             let at = Place { layer: self.layer, tree: self.tree, pair: first };
+            let lanes = self.signer.lanes();
             return eight_keys(lanes, self.signer.sk_seed, at, &Nothing, &mut []);
         }
         let mut leaves = Leaves::new();

@@ -4,7 +4,8 @@
 
 use crate::slh_jobs::jobs::ranges;
 use crate::slh_jobs::shape::Shape;
-use crate::slh_jobs::tag::{AnswerTags, answer_tag, are_same};
+use crate::slh_jobs::tag::{AnswerTags, answer_tag};
+use crate::slh_core::are_same;
 use crate::slh_hash::CategoryHmac;
 use crate::slh_lanes::{GROUP, HmacLanes, LaneNodes, lane_node, node_lanes, set_lane};
 use crate::slh_params::{Node, node_of, put_node};
@@ -30,9 +31,9 @@ impl<'a> AnswerBytes<'a> {
     }
 
     /// The tag of answer `c`.
-    fn tag(&self, c: usize) -> Node {
+    fn tag(&self, c: usize) -> &'a [u8] {
         let n = self.shape.n;
-        node_of(&self.answer(c)[n..2 * n])
+        &self.answer(c)[n..2 * n]
     }
 
     /// The nodes of a path of answer `c`.
@@ -59,7 +60,8 @@ pub(crate) struct TreeRanges<'a> {
 /// The node of answer `c`, if it has the tag of this job.
 fn judged_node(given: &AnswerBytes, c: u32, keyed: &CategoryHmac, job: u32) -> Option<Node> {
     let node = given.node(c as usize);
-    if are_same(&answer_tag(keyed, job, &node), &given.tag(c as usize)) { Some(node) } else { None }
+    let tag = answer_tag(keyed, job, &node);
+    if are_same(tag.as_slice(), given.tag(c as usize)) { Some(node) } else { None }
 }
 
 /// Copies the nodes of a tree's ranges, whose answers begin with answer `first`, one after another. Whether each has its
@@ -90,7 +92,7 @@ fn copied_group(given: &AnswerBytes, first: u32, r: usize, used: usize, copies: 
 fn have_tags(given: &AnswerBytes, first: u32, r: usize, used: usize, values: &LaneNodes) -> bool {
     for j in 0..used {
         let tag = given.tag(first as usize + (r + j));
-        if !are_same(&lane_node(values, j, 16), &tag) {
+        if !are_same(lane_node(values, j, 16).as_slice(), tag) {
             return false;
         }
     }

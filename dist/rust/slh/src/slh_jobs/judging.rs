@@ -4,10 +4,10 @@
 use crate::slh_jobs::all_answers::AllAnswers;
 use crate::slh_jobs::answer_bytes::{MOST_NODES_LEN, TreeRanges, are_judged};
 use crate::slh_jobs::jobs::ranges;
-use crate::slh_jobs::tag::{are_same, have_same_bytes};
 use crate::slh_jobs::upper_tree::{put_auth, xmss_joins};
+use crate::slh_core::are_same;
 use crate::slh_few::{MOST_XMSS_SIG_LEN, fors_part_len, wots_sig_len, xmss_sig_len};
-use crate::slh_params::{Node, copy_of, node_of, put_node};
+use crate::slh_params::{Node, copy_of, put_node};
 use crate::slh_subtrees::{JobTree, MOST_ROOTS_LEN, roots_len};
 
 impl<'a> AllAnswers<'a> {
@@ -81,7 +81,7 @@ impl<'a> AllAnswers<'a> {
         let (idx_tree, idx_leaf) = (trees.idx_tree, trees.idx_leaf);
         let public = &trees.signer.public;
         public.put_fors_roots(idx_tree, idx_leaf, trees.md, sig_fors, climbed);
-        have_same_bytes(climbed, tops)
+        are_same(climbed, tops)
     }
 
     /// Writes the FORS signature, and returns T over the roots that the ranges give; `None` if a node has not its tag,
@@ -124,7 +124,7 @@ impl<'a> AllAnswers<'a> {
         auth.copy_from_slice(path);
         let at = trees.layer_place(layer);
         let signed_root = trees.signer.public.xmss_pk_from_sig(at, msg, part);
-        if are_same(&signed_root, &root) { Some(root) } else { None }
+        if are_same(signed_root.as_slice(), root.as_slice()) { Some(root) } else { None }
     }
 
     /// As above, with the path written from `start` on.
@@ -151,7 +151,7 @@ impl<'a> AllAnswers<'a> {
             };
             msg = root;
         }
-        are_same(&msg, &node_of(signing.sk.pk_root()))
+        are_same(msg.as_slice(), signing.sk.pk_root())
     }
 
     /// Whether the answers fit together. If they do, the FORS signature, the value that each layer signs and the path

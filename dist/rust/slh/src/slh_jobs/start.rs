@@ -1,11 +1,11 @@
 // Made by tools/plain_rust.py from crates/slh_jobs/src/start.rt.
 //! The start of a signature: R, the digest of the message, and their tag (FIPS 205, Algorithm 19, lines 2 to 5).
 
-use crate::slh_jobs::tag::{are_same, start_tag};
+use crate::slh_jobs::tag::start_tag;
 use arrayvec::ArrayVec;
 use crate::slh_core::signing_steps::{MOST_DIGEST_LEN, randomized_digest};
-use crate::slh_core::{Form, Randomizer, SecretKey, SignFault};
-use crate::slh_params::{ParamSet, node_of};
+use crate::slh_core::{Form, Randomizer, SecretKey, SignFault, are_same};
+use crate::slh_params::ParamSet;
 
 /// No start is longer, in any set: R, a digest and a tag.
 pub const MOST_START_LEN: usize = 32 + MOST_DIGEST_LEN + 32;
@@ -34,7 +34,7 @@ pub(crate) fn copy_of_start(start: &[u8]) -> StartCopy {
 /// Whether the bytes end with the tag of those before the tag.
 pub(crate) fn is_start(sk: &SecretKey, start: &[u8]) -> bool {
     let (begun, tag) = start.split_at(begun_len(sk.set()));
-    are_same(&start_tag(sk, begun), &node_of(tag))
+    are_same(start_tag(sk, begun).as_slice(), tag)
 }
 
 /// Writes R and the digest of the parts put end to end.

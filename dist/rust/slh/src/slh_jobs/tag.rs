@@ -139,19 +139,3 @@ pub(crate) fn answer_tag(keyed: &CategoryHmac, job: u32, node: &Node) -> Node {
     keyed.update(node);
     keyed.finish()
 }
-
-/// Whether two nodes are the same. All bytes are looked at before the answer.
-pub(crate) fn are_same(left: &Node, right: &Node) -> bool {
-    left.len() == right.len() && have_same_bytes(left, right)
-}
-
-/// Whether two slices of one length have the same bytes. All are looked at before the answer. A compiler that inlines
-/// this for a known length makes a branch of each byte, so it is never inlined.
-#[inline(never)]
-pub fn have_same_bytes(left: &[u8], right: &[u8]) -> bool {
-    let mut differences = 0;
-    for i in 0..left.len() {
-        differences |= left[i] ^ right[i];
-    }
-    differences == 0
-}

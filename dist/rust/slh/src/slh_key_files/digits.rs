@@ -7,12 +7,13 @@ pub fn are_hex_digits(digits: &[u8]) -> bool {
     digits.iter().all(|byte| is_hex_digit(*byte))
 }
 
-/// Whether a byte is a hexadecimal digit, of either case.
+/// Whether a byte is a hexadecimal digit, of either case. At most one of the three holds, so `^` gives what `|` would.
+/// Of `|` the compiler makes branches, which tell a number from a letter.
 pub fn is_hex_digit(byte: u8) -> bool {
     let is_number = (b'0' <= byte) & (byte <= b'9');
     let is_upper = (b'A' <= byte) & (byte <= b'F');
     let is_lower = (b'a' <= byte) & (byte <= b'f');
-    is_number | is_upper | is_lower
+    is_number ^ is_upper ^ is_lower
 }
 
 /// The value of a hexadecimal digit.

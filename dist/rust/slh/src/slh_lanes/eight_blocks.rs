@@ -9,7 +9,7 @@ use crate::slh_lanes::part::{Part, part_of_eight, part_of_sixteen, with_eight};
 use crate::slh_lanes::rounds::{self, Compression, Rounds};
 use crate::slh_lanes::short_lanes::tell_all;
 use crate::slh_lanes::single_block::Instructions;
-use crate::slh_lanes::words::{GROUP, Words, is_above};
+use crate::slh_lanes::words::{GROUP, Words};
 use crate::slh_width::{Width, build_widths};
 use crate::vectors::*;
 
@@ -17,41 +17,26 @@ use crate::vectors::*;
 /// `block`.
 pub fn compress(state: &mut [Words; 8], block: &[Words; 16]) {
     tell_all(block);
-    compress_each(state, block, 0, Words::splat(1));
+    compress_eight(state, block);
 }
 
-/// The same in the lanes that have a step left, whose number in `counts` is above `step`. Of other lanes nothing is
-/// said.
-pub(crate) fn compress_each(state: &mut [Words; 8], block: &[Words; 16], step: u32, counts: Words) {
+/// The same for blocks of any words.
+fn compress_eight(state: &mut [Words; 8], block: &[Words; 16]) {
     match build_widths().short {
-        Width::One => compress_singles::<Rounds>(state, block, step, counts),
-        Width::Instructions => compress_singles::<Instructions>(state, block, step, counts),
+        Width::One => compress_singles::<Rounds>(state, block),
+        Width::Instructions => compress_singles::<Instructions>(state, block),
         Width::Four => {
-            compress_running::<u32x4, Rounds>(state, block, 0, 4, step, counts);
-            compress_running::<u32x4, Rounds>(state, block, 4, 4, step, counts);
+            compress_part::<Words, u32x4, Rounds>(state, block, 0);
+            compress_part::<Words, u32x4, Rounds>(state, block, 4);
         }
         Width::Eight | Width::Sixteen => crate::levels::compress(state, block),
     }
 }
 
-/// The compressions in each of eight lanes that has a step left, one after another.
-fn compress_singles<C: Compression<Word>>(state: &mut [Words; 8], block: &[Words; 16], step: u32, counts: Words) {
+/// Eight compressions of SHA-256, one after another.
+fn compress_singles<C: Compression<Word>>(state: &mut [Words; 8], block: &[Words; 16]) {
     for lane in 0..GROUP {
-        compress_running::<Word, C>(state, block, lane, 1, step, counts);
-    }
-}
-
-/// The compressions in `len` lanes from `first` on, unless none of them has a step left.
-fn compress_running<W: Part<Words>, C: Compression<W>>(
-    state: &mut [Words; 8],
-    block: &[Words; 16],
-    first: usize,
-    len: usize,
-    step: u32,
-    counts: Words,
-) {
-    if is_above(counts, first, len, step) {
-        compress_part::<Words, W, C>(state, block, first);
+        compress_part::<Words, Word, C>(state, block, lane);
     }
 }
 

@@ -3,8 +3,8 @@
 
 use crate::slh_lanes::lane_adrs::LaneAdrs;
 use crate::slh_lanes::lane_nodes::LaneNodes;
-use crate::slh_lanes::part::{part_of_eight, with_eight, with_six};
-use crate::slh_lanes::words::GROUP;
+use crate::slh_lanes::part::{Part, part_of_eight, with_eight, with_six};
+use crate::slh_lanes::words::{GROUP, Words};
 use crate::vectors::*;
 
 /// The words of two groups.
@@ -22,6 +22,13 @@ pub(crate) fn join_adrs<const G: usize>(batch: &[LaneAdrs; G]) -> [TwoWords; 6] 
 pub(crate) fn join_nodes<const G: usize>(batch: &[LaneNodes; G]) -> [TwoWords; 8] {
     let first = with_eight(&[TwoWords::splat(0); 8], &batch[0], 0);
     with_eight(&first, &batch[1], GROUP)
+}
+
+/// The words of a batch of two groups.
+#[inline(always)]
+pub(crate) fn join_words<const G: usize>(batch: &[Words; G]) -> TwoWords {
+    let first = batch[0].put(TwoWords::splat(0), 0);
+    batch[1].put(first, GROUP)
 }
 
 /// Writes the values of both groups into a batch of two.

@@ -4,17 +4,17 @@
 use crate::slh_lanes::block::{BLOCK_LEN, hash_after, second_block, splat_all};
 use crate::slh_lanes::bytes::load_all_long;
 use crate::slh_lanes::chains::{run, run_part, run_singles};
-use crate::slh_lanes::eight_blocks::{compress, compress_each, compress_long};
-use crate::slh_lanes::joined::{TwoWords, join_adrs, join_nodes, split_nodes};
-use crate::slh_lanes::lane_adrs::{LaneAdrs, set_hashes};
-use crate::slh_lanes::lane_nodes::{LaneNodes, node_lanes, pick_nodes, two_short};
+use crate::slh_lanes::eight_blocks::{compress, compress_long};
+use crate::slh_lanes::joined::{TwoWords, join_adrs, join_nodes, join_words, split_nodes};
+use crate::slh_lanes::lane_adrs::LaneAdrs;
+use crate::slh_lanes::lane_nodes::{LaneNodes, node_lanes, two_short};
 use crate::slh_lanes::long_block::{
     first_lane, initial, second_block as second_long_block, splat_all as splat_all_long, truncated,
 };
 use crate::slh_lanes::long_words::LongWords;
 use crate::slh_lanes::rounds::{self, Rounds};
 use crate::slh_lanes::single_block::Instructions;
-use crate::slh_lanes::words::{GROUP, Words, add, most};
+use crate::slh_lanes::words::{GROUP, Words};
 use crate::slh_params::ParamSet;
 use crate::slh_width::{Width, build_widths};
 use crate::vectors::*;
@@ -77,30 +77,23 @@ impl<'a> SeededLanes<'a> {
     /// Runs the chains of a batch on from their values after `from` steps, each by `count` steps (section 5,
     /// Algorithm 5).
     pub fn chains<const G: usize>(&self, adrs: &[LaneAdrs; G], x: &mut [LaneNodes; G], from: u32, count: u32) {
-        if is_joined(G) {
-            let joined = join_adrs(adrs);
-            let nodes = join_nodes(x);
-            let ends = crate::levels::run(&self.short, self.set.n(), &joined, &nodes, from, count);
-            split_nodes(&ends, x);
-        } else {
-            for g in 0..G {
-                x[g] = self.eight_chains(&adrs[g], &x[g], from, count);
-            }
-        }
+        let from = [Words::splat(from); G];
+        let counts = [Words::splat(count); G];
+        self.chains_each(adrs, x, &from, &counts);
     }
 
-    /// Runs eight chains on from their values after `from` steps, each by `count` steps.
-    fn eight_chains(&self, adrs: &LaneAdrs, x: &LaneNodes, from: u32, count: u32) -> LaneNodes {
+    /// Runs eight chains on, each from its first step by its number of steps.
+    fn eight_chains(&self, adrs: &LaneAdrs, x: &LaneNodes, from: Words, counts: Words) -> LaneNodes {
         let n = self.set.n();
         let short = &self.short;
         match build_widths().short {
-            Width::One => run_singles::<Rounds>(short, n, adrs, x, from, count),
-            Width::Instructions => run_singles::<Instructions>(short, n, adrs, x, from, count),
+            Width::One => run_singles::<Rounds>(short, n, adrs, x, from, counts),
+            Width::Instructions => run_singles::<Instructions>(short, n, adrs, x, from, counts),
             Width::Four => {
-                let low = run_part::<u32x4, Rounds>(short, n, adrs, x, 0, from, count);
-                run_part::<u32x4, Rounds>(short, n, adrs, &low, 4, from, count)
+                let low = run_part::<u32x4, Rounds>(short, n, adrs, x, 0, from, counts);
+                run_part::<u32x4, Rounds>(short, n, adrs, &low, 4, from, counts)
             }
-            Width::Eight | Width::Sixteen => crate::levels::run(short, n, adrs, x, from, count),
+            Width::Eight | Width::Sixteen => crate::levels::run(short, n, adrs, x, from, counts),
         }
     }
 
@@ -113,29 +106,17 @@ impl<'a> SeededLanes<'a> {
         from: &[Words; G],
         counts: &[Words; G],
     ) {
-        for step in 0..most_of_all(counts) {
-            let mut next = *x;
-            self.f_each(&adrs_at_step(adrs, from, step), &mut next, step, counts);
-            take_step(x, &next, step, counts);
-        }
-    }
-
-    /// F in each lane that has a step left, whose number in `counts` is above `step`. Of other lanes nothing is said.
-    fn f_each<const G: usize>(&self, adrs: &[LaneAdrs; G], x: &mut [LaneNodes; G], step: u32, counts: &[Words; G]) {
         if is_joined(G) {
-            self.digests_of_two(adrs, x, self.set.n());
+            let joined = join_adrs(adrs);
+            let nodes = join_nodes(x);
+            let ends =
+                crate::levels::run(&self.short, self.set.n(), &joined, &nodes, join_words(from), join_words(counts));
+            split_nodes(&ends, x);
         } else {
             for g in 0..G {
-                x[g] = self.f_of_group(&adrs[g], &x[g], step, counts[g]);
+                x[g] = self.eight_chains(&adrs[g], &x[g], from[g], counts[g]);
             }
         }
-    }
-
-    /// F in each lane of one group that has a step left.
-    fn f_of_group(&self, adrs: &LaneAdrs, x: &LaneNodes, step: u32, counts: Words) -> LaneNodes {
-        let mut state = splat_all(&self.short);
-        compress_each(&mut state, &second_block(self.set.n(), adrs, x), step, counts);
-        state
     }
 
     /// In each lane of a batch the first n bytes of the digest of PK.seed, zeros, the address and the value of `len`
@@ -164,31 +145,6 @@ impl<'a> SeededLanes<'a> {
 #[inline(always)]
 fn is_joined(groups: usize) -> bool {
     groups == 2 && matches!(build_widths().short, Width::Sixteen)
-}
-
-/// The largest word of all lanes of a batch.
-fn most_of_all<const G: usize>(counts: &[Words; G]) -> u32 {
-    let mut most_of_all = 0;
-    for g in 0..G {
-        most_of_all = most_of_all.max(most(counts[g]));
-    }
-    most_of_all
-}
-
-/// The addresses of a batch, so many steps after the first ones.
-fn adrs_at_step<const G: usize>(adrs: &[LaneAdrs; G], from: &[Words; G], step: u32) -> [LaneAdrs; G] {
-    let mut here = *adrs;
-    for g in 0..G {
-        set_hashes(&mut here[g], add(from[g], Words::splat(step)));
-    }
-    here
-}
-
-/// Takes the next value in each lane that has a step left. The others keep their values.
-fn take_step<const G: usize>(x: &mut [LaneNodes; G], next: &[LaneNodes; G], step: u32, counts: &[Words; G]) {
-    for g in 0..G {
-        x[g] = pick_nodes(Words::splat(step), counts[g], &next[g], &x[g]);
-    }
 }
 
 /// SHA-256's hash value after its first block, which PK.seed of n bytes and zeros fill.

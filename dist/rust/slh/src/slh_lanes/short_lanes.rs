@@ -18,6 +18,18 @@ pub(crate) trait ShortLanes: Lanes {
     /// The low half of each word, in the place of the high one.
     fn low(self) -> Self;
 
+    /// In each lane the word of `x` if that of `a` is below that of `b`, else the word of `y`.
+    fn pick(a: Self, b: Self, x: Self, y: Self) -> Self;
+
+    /// Each word with this number more, modulo 2^32.
+    fn more(self, number: u32) -> Self;
+
+    /// The largest word of all lanes.
+    fn most(self) -> u32;
+
+    /// The smallest word of all lanes.
+    fn least(self) -> u32;
+
     /// The fact of the type about its lanes. It runs no code.
     fn tell_short(self);
 }
@@ -44,6 +56,26 @@ impl<const N: usize, L: Level> ShortLanes for Simd<u32, N, L> {
     }
 
     #[inline(always)]
+    fn pick(a: Self, b: Self, x: Self, y: Self) -> Self {
+        pick_lanes(a, b, x, y)
+    }
+
+    #[inline(always)]
+    fn more(self, number: u32) -> Self {
+        more_in_lanes(self, number)
+    }
+
+    #[inline(always)]
+    fn most(self) -> u32 {
+        most_of_lanes(self)
+    }
+
+    #[inline(always)]
+    fn least(self) -> u32 {
+        least_of_lanes(self)
+    }
+
+    #[inline(always)]
     fn tell_short(self) {}
 }
 
@@ -65,6 +97,41 @@ fn high_of_lanes<const N: usize, L: Level>(p: Simd<u32, N, L>) -> Simd<u32, N, L
 #[inline(always)]
 fn low_of_lanes<const N: usize, L: Level>(p: Simd<u32, N, L>) -> Simd<u32, N, L> {
     p << 16
+}
+
+#[inline(always)]
+fn pick_lanes<const N: usize, L: Level>(
+    a: Simd<u32, N, L>,
+    b: Simd<u32, N, L>,
+    x: Simd<u32, N, L>,
+    y: Simd<u32, N, L>,
+) -> Simd<u32, N, L> {
+    a.simd_lt(b).select(x, y)
+}
+
+#[inline(always)]
+fn more_in_lanes<const N: usize, L: Level>(words: Simd<u32, N, L>, number: u32) -> Simd<u32, N, L> {
+    words + Simd::splat(number)
+}
+
+#[inline(always)]
+fn most_of_lanes<const N: usize, L: Level>(words: Simd<u32, N, L>) -> u32 {
+    let each = words.to_array();
+    let mut most = 0;
+    for j in 0..N {
+        most = most.max(each[j]);
+    }
+    most
+}
+
+#[inline(always)]
+fn least_of_lanes<const N: usize, L: Level>(words: Simd<u32, N, L>) -> u32 {
+    let each = words.to_array();
+    let mut least = u32::MAX;
+    for j in 0..N {
+        least = least.min(each[j]);
+    }
+    least
 }
 
 // The fact of the type about each vector of a list. This runs no code.

@@ -75,22 +75,3 @@ pub(crate) fn odds(x: Words, y: Words) -> Words {
 pub(crate) fn pick(a: Words, b: Words, x: Words, y: Words) -> Words {
     a.simd_lt(b).select(x, y)
 }
-
-// The largest word of all lanes.
-pub(crate) fn most(words: Words) -> u32 {
-    let mut most = 0;
-    for word in words.to_array() {
-        most = most.max(word);
-    }
-    most
-}
-
-/// Whether one of `len` words from `first` on is above a number.
-pub(crate) fn is_above(words: Words, first: usize, len: usize, number: u32) -> bool {
-    let each = words.to_array();
-    let mut above = false;
-    for j in 0..len {
-        above = above || number < each[first + j];
-    }
-    above
-}

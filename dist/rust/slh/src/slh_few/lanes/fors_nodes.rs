@@ -131,10 +131,11 @@ const EIGHT_NODES: u32 = 3;
 
 impl<'c, 'a> ForsNodes<'c, 'a> {
     /// fors_node (Algorithm 15): the node of height `z` at index `i` of this tree, from the leaves below it. From
-    /// height 3 on it is made in lanes if the seeds have n bytes.
+    /// height 3 on it is made in lanes.
     pub(crate) fn node(&self, z: u32, i: u32) -> Node {
-        if let (true, Some(lanes)) = (EIGHT_NODES <= z, self.signer.lanes()) {
-            self.at.node_from_lanes(lanes, self.signer.sk_seed, z, i)
+        if EIGHT_NODES <= z {
+            let signer = self.signer;
+            self.at.node_from_lanes(signer.lanes(), signer.sk_seed, z, i)
         } else {
             node(self, z, i)
         }

@@ -5,17 +5,21 @@ use crate::slh_few::hypertree::{HtSignature, place_above, xmss_sig_len};
 use crate::slh_few::lanes::fors_climbs::has_lanes;
 use crate::slh_few::nodes::chunk_at;
 use crate::slh_few::place::Place;
-use crate::slh_few::wots::{MOST_WOTS_SIG_LEN, put_ends, wots_adrs, wots_sig_len};
+use crate::slh_few::wots::{put_ends, wots_adrs, wots_sig_len};
 use crate::slh_lanes::{
     GROUP, LaneAdrs, LaneNodes, LaneSeeds, LaneStream, Words, half, lane_node, node_lanes, parity, pick_nodes,
     set_adrs, set_chains, set_hashes, set_lane, set_pairs,
 };
 use crate::slh_params::{AdrsType, Node, ParamSet};
 
-/// The ends of the chains of eight keys.
-type Ends = [[u8; MOST_WOTS_SIG_LEN]; GROUP];
+/// The most bytes of a key's ends in lanes. The sets of FIPS 205 have no more. A longer buffer would lie on the stack of
+/// each caller.
+const MOST_ENDS_LEN: usize = 67 * 32;
 
-/// Puts the PK.seeds into one lane each. False if the build has one lane, or a PK.seed does not have n bytes.
+/// The ends of the chains of eight keys.
+type Ends = [[u8; MOST_ENDS_LEN]; GROUP];
+
+/// Puts the PK.seeds into one lane each. False if the build has one lane.
 fn put_seeds(set: ParamSet, signed: &[HtSignature; GROUP], seeds: &mut LaneSeeds) -> bool {
     for j in 0..GROUP {
         let Some(lanes) = signed[j].context.lanes() else {
@@ -77,15 +81,14 @@ fn messages_of(set: ParamSet, signed: &[HtSignature; GROUP]) -> LaneNodes {
     nodes
 }
 
-/// Writes the ends of the chains of the key at a place, which signs a node on a layer. False if the build has one lane,
-/// or PK.seed does not have n bytes.
+/// Writes the ends of the chains of the key at a place, which signs a node on a layer. False if the build has one lane.
 fn put_ends_of(
     set: ParamSet,
     signature: &HtSignature,
     at: Place,
     layer: usize,
     msg: &Node,
-    out: &mut [u8; MOST_WOTS_SIG_LEN],
+    out: &mut [u8; MOST_ENDS_LEN],
 ) -> bool {
     let Some(lanes) = signature.context.lanes() else {
         return false;
@@ -97,7 +100,7 @@ fn put_ends_of(
 }
 
 /// Writes the ends of the chains of each key of a layer, which signs the node in its lane. False if the build has one
-/// lane, or a PK.seed does not have n bytes.
+/// lane.
 fn put_all_ends(
     set: ParamSet,
     signed: &[HtSignature; GROUP],
@@ -195,7 +198,7 @@ fn climbed(
 }
 
 /// Puts into each lane the root of the layer's tree that the signature of the node in the lane gives. False if the
-/// build has one lane, or a PK.seed does not have n bytes.
+/// build has one lane.
 fn put_layer_roots(
     set: ParamSet,
     signed: &[HtSignature; GROUP],
@@ -213,10 +216,9 @@ fn put_layer_roots(
     true
 }
 
-/// Puts into each lane the root of the top tree that its signature gives. False if the build has one lane, or a PK.seed
-/// does not have n bytes.
+/// Puts into each lane the root of the top tree that its signature gives. False if the build has one lane.
 fn put_top_roots(set: ParamSet, signed: &[HtSignature; GROUP], seeds: &LaneSeeds, nodes: &mut LaneNodes) -> bool {
-    let mut ends = [[0; MOST_WOTS_SIG_LEN]; GROUP];
+    let mut ends = [[0; MOST_ENDS_LEN]; GROUP];
     let mut places = first_places(set, signed);
     *nodes = messages_of(set, signed);
     for layer in 0..set.d() as u8 {
@@ -230,11 +232,14 @@ fn put_top_roots(set: ParamSet, signed: &[HtSignature; GROUP], seeds: &LaneSeeds
 }
 
 /// Puts into each lane the root of the top tree that its signature gives. False if the build has no lanes for F and H,
-/// or a PK.seed does not have n bytes.
+/// or the ends of a key are too long.
 pub(crate) fn put_roots_in_lanes(set: ParamSet, signed: &[HtSignature; GROUP], nodes: &mut LaneNodes) -> bool {
     let Some(first) = signed[0].context.lanes() else {
         return false;
     };
     let mut seeds = LaneSeeds::splat(first);
-    has_lanes(set) && put_seeds(set, signed, &mut seeds) && put_top_roots(set, signed, &seeds, nodes)
+    has_lanes(set)
+        && wots_sig_len(set) <= MOST_ENDS_LEN
+        && put_seeds(set, signed, &mut seeds)
+        && put_top_roots(set, signed, &seeds, nodes)
 }

@@ -72,17 +72,11 @@ fn sign_among_eight(lanes: &SeededLanes, sk_seed: &[u8], at: Place, msg: &Node, 
 }
 
 /// Writes the signature as `xmss_sign` does, and gives the leaf that signs. That leaf is made together with the seven
-/// others below its node of height 3, and the path's nodes of heights 0 to 2 are made from those. It is for trees of
-/// eight leaves or more.
-pub(crate) fn sign_giving_leaf(
-    signer: &SigningContext,
-    lanes: &SeededLanes,
-    at: Place,
-    msg: &Node,
-    out: &mut [u8],
-) -> Node {
+/// others below its node of height 3, and the path's nodes of heights 0 to 2 are made from those. If the tree has fewer
+/// than eight leaves, the keys after its last leaf are not read.
+pub(crate) fn sign_giving_leaf(signer: &SigningContext, at: Place, msg: &Node, out: &mut [u8]) -> Node {
     let (wots, auth) = out.split_at_mut(signer.public.set.len() * signer.public.set.n());
-    let group = sign_among_eight(lanes, signer.sk_seed, at, msg, wots);
+    let group = sign_among_eight(signer.lanes(), signer.sk_seed, at, msg, wots);
     let tree = signer.xmss_nodes_knowing(first_of_eight(at), group);
     path(&tree, at.pair, auth);
     tree.leaf(at.pair)
