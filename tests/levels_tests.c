@@ -134,11 +134,11 @@ static void test_calls_below_v2(void) {
     uint32_t *const verdicts = verdicts_of;
     const size_t items_len = 2, verdicts_len = 2;
     const uint32_t kind = SLH_SECRET_KEY;
-    const uint8_t *const file = painted;
-    uint8_t *const key = outputs;
+    const uint8_t *const file = painted, *const of = painted;
+    uint8_t *const key = outputs, *const der = outputs, *const pem = outputs;
     char *const text = (char *)outputs;
-    uint32_t *const set_read = jobs_of, *const kind_read = jobs_of;
-    const size_t file_len = KEY, key_len = KEY, text_len = KEY;
+    uint32_t *const set_read = jobs_of, *const kind_read = jobs_of, *const written = jobs_of;
+    const size_t file_len = KEY, key_len = KEY, text_len = KEY, der_len = KEY, pem_len = KEY, of_len = KEY;
     const size_t a_len = KEY, b_len = KEY, c_len = KEY, msg_len = KEY, ctx_len = KEY, random_len = KEY;
     const size_t digest_len = KEY, hash_len = KEY, answers_len = KEY, sk_len = KEY, pk_len = KEY, start_len = KEY;
     const size_t answer_len = KEY, sig_len = KEY, scratch_len = KEY, front_len = KEY, name_len = KEY;
