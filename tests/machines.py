@@ -19,8 +19,8 @@ COUNTS = re.compile(r"(\d+) passed, (\d+) failed(?:, \d+ skipped)?")
 CALLS = [f"slh_{it}" for it in """
     answer_place check der_read der_write hash_sign hash_sign_digest hash_sign_digest_twice hash_sign_start
     hash_sign_twice hash_verify hash_verify_digest hash_verify_digest_hardened key_read key_write keygen keygen_job
-    keygen_jobs keygen_join lengths pem_read pem_write public refusal_name self_test sign sign_internal sign_job sign_jobs sign_join sign_start sign_twice verify
-    verify_front verify_hardened verify_hashed verify_internal verify_many version""".split()]
+    keygen_jobs keygen_join lengths pem_read pem_write public refusal_name self_test sign sign_internal sign_job
+    sign_jobs sign_join sign_start sign_twice verify verify_front verify_hardened verify_hashed verify_internal verify_many version""".split()]
 LIBRARY_CALLS = sorted([*CALLS, "slh_erase", "slh_level", "slh_refusal_text"])
 VERIFY_CALLS = [f"slh_{it}" for it in
                 "hash_verify hash_verify_digest hash_verify_digest_hardened verify verify_hardened version".split()]
@@ -362,14 +362,15 @@ def search_program(compiled, machine, include, *words):
 
 
 def search_finds_what_is_left(compiled, machine, include, archive, folder):
-    """After each call under 128f the search finds secrets if nothing is cleared. slh_key_write may leave none."""
+    """After each call under 128f the search finds secrets if nothing is cleared. Two that copy may leave none."""
     (folder / "clears_nothing.c").write_text(CLEARS_NOTHING)
     with_weak(machine, archive, folder / "weak.a", "slh_clear")
     program = search_program(compiled, machine, include, folder / "clears_nothing.c", folder / "weak.a")
     status, text = text_of(run(*machine.runs, program, "2"))
     *lines, last = text.splitlines()
-    assert status == 1 and re.fullmatch(r"[01] passed, [1-9]\d* failed", last), text[-4000:]
-    assert [it for it in lines if it.endswith(": yes") and " slh_key_write " not in it] == [], text[-4000:]
+    assert status == 1 and re.fullmatch(r"[0-2] passed, [1-9]\d* failed", last), text[-4000:]
+    clean = [it for it in lines if it.endswith(": yes")]
+    assert not [it for it in clean if " slh_key_write " not in it and " slh_der_write " not in it], text[-4000:]
 
 
 # ---- packages

@@ -284,8 +284,9 @@ UNUSED_WHERE_IT_LEAKS static void by_jobs(void) {
         must(result == SLH_DONE, "job");
     }
     tell("slh_sign_job, all jobs", VALGRIND_COUNT_ERRORS - before, jobs, jobs, 0);
-    TRY("slh_sign_join", 1 + jobs + 1 + d + 1, d,
-        slh_sign_join(set, 1, 1, sk, sk_len, start, start_len, answers, answers_len, made, sig_len));
+    /* The verdict on the two nodes of a tree may make a second branch, in the caller. */
+    TRY_UP_TO("slh_sign_join", 1 + jobs + 1 + d + 1, 1 + jobs + 1 + d + 1 + jobs / 2, d,
+              slh_sign_join(set, 1, 1, sk, sk_len, start, start_len, answers, answers_len, made, sig_len));
     must(memcmp(made, sig, sig_len) == 0, "another signature by jobs");
 }
 
@@ -294,8 +295,8 @@ UNUSED_WHERE_IT_LEAKS static void key_by_jobs(void) {
     for (uint32_t job = 0; job < 2; job++)
         TRY("slh_keygen_job", 0, 0, slh_keygen_job(set, 1, seeds, n, seeds + n, n, seeds + 2 * n, n, job,
                                                           given + 2 * n * job, 2 * n));
-    TRY("slh_keygen_join", 2, 0,
-        slh_keygen_join(set, 1, seeds, n, seeds + n, n, seeds + 2 * n, n, given, 4 * n, made, sk_len));
+    TRY_UP_TO("slh_keygen_join", 2, 3, 0,
+              slh_keygen_join(set, 1, seeds, n, seeds + n, n, seeds + 2 * n, n, given, 4 * n, made, sk_len));
     must(memcmp(made, sk, sk_len) == 0, "another key by jobs");
 }
 
