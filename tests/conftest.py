@@ -429,7 +429,7 @@ def python_package(installed_as_is, tmp_path_factory):
     """A folder for PYTHONPATH, which has the package slh over the library."""
     folder = tmp_path_factory.mktemp("python")
     shutil.copytree(HERE / "bindings/python/slh", folder / "slh")
-    shutil.copy(installed_as_is / "lib/libslh.so", folder / "slh/libslh.so.0")
+    shutil.copy(installed_as_is / "lib/libslh.so", folder / "slh/libslh.so.1")
     return folder
 
 

@@ -394,7 +394,7 @@ def wheel_has(venv, prefix, shared, platform_tag, folder):
     succeed(venv / "pip", "wheel", "--no-index", "--no-build-isolation", "-w", folder, copy_python(folder / "clone"),
             env={**os.environ, "SLH_PREFIX": str(prefix), "PIP_NO_CACHE_DIR": "1"})
     wheel = zipfile.ZipFile(folder / f"slh-{version()}-py3-none-{platform_tag}.whl")
-    assert wheel.read("slh/libslh.so.0") == shared.read_bytes()
+    assert wheel.read("slh/libslh.so.1") == shared.read_bytes()
 
 
 OF_CMAKE = {

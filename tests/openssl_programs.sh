@@ -395,12 +395,12 @@ valgrind_sees_nothing() {
 
 # ---- broken installations ----
 
-module=/usr/lib/x86_64-linux-gnu/ossl-modules/slh.so library=/usr/lib/x86_64-linux-gnu/libslh.so.0
+module=/usr/lib/x86_64-linux-gnu/ossl-modules/slh.so library=/usr/lib/x86_64-linux-gnu/libslh.so.1
 
 at_a_wrong_path() { sed -i "s|$module|/nowhere/slh.so|" broken-*.cnf; }
 without_the_library() { mv $library $library.away; }
-with_an_older_library() { mv $library $library.away && cp "$here/older/libslh.so.0" $library; }
-with_a_lesser_library() { mv $library $library.away && cp "$here/lesser/libslh.so.0" $library; }
+with_an_older_library() { mv $library $library.away && cp "$here/older/libslh.so.1" $library; }
+with_a_lesser_library() { mv $library $library.away && cp "$here/lesser/libslh.so.1" $library; }
 with_an_unreadable_module() { chmod 600 $module; }
 with_lost_settings() { sed -i 's/^workers = 1/workres = 4/; s/^\(settings = .*\)workers=1/\1workers=4/' broken-*.cnf; }
 restore() {

@@ -191,7 +191,7 @@ def with_another_root(data):
 def write_another_library(installed, folder):
     """A copy of an installed library, whose archive and shared object have another known answer: its prefix."""
     shutil.copytree(installed, folder / "another", symlinks=True)
-    for name in "libslh.a", "libslh.so.0":
+    for name in "libslh.a", "libslh.so.1":
         path = folder / "another/lib" / name
         path.write_bytes(with_another_root(path.read_bytes()))
     return folder / "another"

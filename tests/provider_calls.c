@@ -25,7 +25,7 @@ static _Thread_local int is_known;
 
 /* The function of libslh, which the provider has loaded, or of another library of this process. */
 static void *real(const char *name) {
-    void *library = dlopen("libslh.so.0", RTLD_NOW | RTLD_NOLOAD);
+    void *library = dlopen("libslh.so.1", RTLD_NOW | RTLD_NOLOAD);
     void *found = library == NULL ? NULL : dlsym(library, name);
     if (library != NULL) dlclose(library);
     if (found == NULL) found = dlsym(RTLD_NEXT, name);

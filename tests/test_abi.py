@@ -13,7 +13,7 @@ HERE = pathlib.Path(__file__).resolve().parent.parent
 sys.path.append(str(HERE / "tools"))
 import abi  # noqa: E402
 
-SHARED = "libslh.so.0"
+SHARED = "libslh.so.1"
 PUBLIC = "uint32_t slh_public(uint32_t set, const uint8_t *sk, size_t sk_len, uint8_t *pk, size_t pk_len);"
 BROKEN = {
     "the type of a result": ("slh.h", PUBLIC, PUBLIC.replace("uint32_t slh_", "uint64_t slh_"), "slh_public"),
@@ -52,7 +52,7 @@ def change(release, file, old, new):
     path.write_text(text.replace(old, new))
 
 
-def link(release, version="SLH_0", text=None):
+def link(release, version="SLH_1", text=None):
     """Links the shared object of a release of its stub, or of this text."""
     script = release / "symbols"
     script.write_text(f"{version} {{ global: slh_*; other; local: *; }};\n" if version else "{ local: none; };\n")
@@ -126,10 +126,10 @@ def test_a_release_with_versions_of_symbols_is_as_it_was(old, new):
 
 @pytest.mark.parametrize("version, said", [("SLH_9", "SLH_9"), ("", "none")])
 def test_another_version_of_symbols_is_found(old, new, version, said):
-    """A program that asks for slh_sign@SLH_0 does not start over it, or is warned."""
+    """A program that asks for slh_sign@SLH_1 does not start over it, or is warned."""
     link(new, version)
     status, output = compared(old, new)
-    assert status == 1 and f"slh_sign has the version {said}, and had SLH_0" in output
+    assert status == 1 and f"slh_sign has the version {said}, and had SLH_1" in output
 
 
 def test_another_name_of_the_shared_object_is_found(old, new):

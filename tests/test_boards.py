@@ -163,7 +163,7 @@ def test_hook_is_called_before_each_layer(emulated, calls, folder):
 def test_damaged_signatures(pytestconfig, emulated, calls, folder, installed):
     command = " ".join(map(str, [*emulated, calls(folder / "libslh_verify.a")]))
     counted(sys.executable, TESTS / "damaged.py", *(["--all"] if pytestconfig.option.all else []), command,
-            installed / "lib/libslh.so.0")
+            installed / "lib/libslh.so.1")
 
 
 # ---- a disturbed processor

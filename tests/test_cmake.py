@@ -64,7 +64,7 @@ def test_code_for_the_best_level_runs(configures, tmp_path, name):
 @pytest.mark.parametrize("name, asks", [("shared", True), ("slh", False)])
 def test_library_that_a_program_asks_for(built, name, asks):
     need("readelf")
-    needed = re.search(rb"NEEDED.*\[libslh\.so\.0\]", succeed("readelf", "-d", built / f"calls_{name}"))
+    needed = re.search(rb"NEEDED.*\[libslh\.so\.1\]", succeed("readelf", "-d", built / f"calls_{name}"))
     assert bool(needed) == asks
 
 
@@ -181,7 +181,7 @@ def forget(path):
     sums.write_text(re.sub(rf".*  {path.parent.name}/{path.name}\n", "", sums.read_text()))
 
 
-DAMAGED = ["x86-64/libslh.a", "x86-64/libslh.so.0", "x86-64-v2/libslh_verify.a", "portable/slh.c", "include/slh.h"]
+DAMAGED = ["x86-64/libslh.a", "x86-64/libslh.so.1", "x86-64-v2/libslh_verify.a", "portable/slh.c", "include/slh.h"]
 
 
 @pytest.mark.parametrize("file, change", [*((it, damage) for it in DAMAGED), ("include/string.h", add_header),

@@ -45,7 +45,7 @@ def names_in(folder):
 
 
 def test_packages_are_made(debs):
-    assert {"libslh-dev", "libslh0", "slh"} <= {*names_in(debs)} <= {"libslh-dev", "libslh0", "slh", "slh-openssl"}
+    assert {"libslh-dev", "libslh1", "slh"} <= {*names_in(debs)} <= {"libslh-dev", "libslh1", "slh", "slh-openssl"}
     assert len(names_in(debs)) == len({*names_in(debs)})
 
 
@@ -124,7 +124,7 @@ def unlist(folder, file):
 
 @pytest.mark.slow
 @pytest.mark.parametrize("change", [append, remove, unlist], ids=["a byte more", "missing", "not listed"])
-@pytest.mark.parametrize("file", ["x86-64/slh", "x86-64-v4/slh", "x86-64/libslh.so.0", "x86-64-v3/libslh.a",
+@pytest.mark.parametrize("file", ["x86-64/slh", "x86-64-v4/slh", "x86-64/libslh.so.1", "x86-64-v3/libslh.a",
                                   "x86-64-v4/libslh.a", "x86-64-v2/libslh_verify.a", "include/slh.h"])
 def test_damaged_file_is_not_packaged(release, tmp_path, file, change):
     shutil.copytree(release, tmp_path / "bad")
@@ -288,7 +288,7 @@ def test_program_is_linked_with_the_shared_object(in_a_root):
 echo "Dear reader," > letter.txt
 ./it letter.txt
 ldd it""")
-    assert said.startswith("valid\n") and "libslh.so.0 => /lib/x86_64-linux-gnu/libslh.so.0 " in said
+    assert said.startswith("valid\n") and "libslh.so.1 => /lib/x86_64-linux-gnu/libslh.so.1 " in said
 
 
 @installed_in_root
@@ -335,7 +335,7 @@ def test_programs_are_linked_by_find_package(in_a_root):
     said = in_a_root("""cmake -S /sources/bindings/cmake/tests -B built -DKEY=/files >&2
 cmake --build built >&2
 built/verify_image /files/image /files/image.sig
-ldd built/calls_shared | grep -F 'libslh.so.0 => /'
+ldd built/calls_shared | grep -F 'libslh.so.1 => /'
 ldd built/calls_slh""")
     lines = said.splitlines()
     assert lines[0] == "valid" and len([it for it in lines if "libslh" in it]) == 1 and "libc.so" in said
@@ -349,7 +349,7 @@ listed > before
 {INSTALL} >&2
 listed > installed
 {{ diff before installed || true; }} | grep -c '^> .*slh'
-dpkg --purge slh-openssl slh libslh-dev libslh0 >&2
+dpkg --purge slh-openssl slh libslh-dev libslh1 >&2
 listed | diff before -""", installs=False)
     assert int(said) > 20
 
@@ -371,7 +371,7 @@ for it in old new; do
 done
 nm -D new | grep -o ' slh_verify.*'
 dpkg-query -W -f '${Package} ${Version}\\n' 'libslh*' slh
-dpkg --purge libslh0 >&2
+dpkg --purge libslh1 >&2
 ./new letter.txt
 ./old letter.txt 2> /dev/null && exit 3
 dpkg --purge $(dpkg-query -W -f '${Package}\\n' 'libslh*' 'slh*') >&2
@@ -387,11 +387,11 @@ def control_file(debs, pattern, name):
 def test_symbols_file_has_each_call(debs, release):
     """The version of each is at most that of the release."""
     need("nm")
-    said = control_file(debs, "libslh0_*.deb", "symbols").splitlines()
+    said = control_file(debs, "libslh1_*.deb", "symbols").splitlines()
     version = re.search("^version (.*)$", (release / "BUILD").read_text(), re.M)[1]
-    exported = succeed("nm", "-D", "--defined-only", release / "x86-64/libslh.so.0").decode()
+    exported = succeed("nm", "-D", "--defined-only", release / "x86-64/libslh.so.1").decode()
     names = [it.replace("@@", "@") for it in re.findall(r" [TW] (slh_\S+)", exported)]
-    assert said[:2] == ["libslh.so.0 libslh0 #MINVER#", "* Build-Depends-Package: libslh-dev"]
+    assert said[:2] == ["libslh.so.1 libslh1 #MINVER#", "* Build-Depends-Package: libslh-dev"]
     assert [it.split()[0] for it in said[2:]] == sorted(it if "@" in it else f"{it}@Base" for it in names)
     assert all(version_of(it.split()[1]) <= version_of(version) for it in said[2:])
 
@@ -404,7 +404,7 @@ def version_of(text):
                                          ("slh_verify_front", "0.12.0")])
 def test_program_depends_on_the_version_of_its_calls(debs, tmp_path, call, since):
     """As CHANGELOG names them. With symbol versions it is the first release that has these."""
-    symbols = control_file(debs, "libslh0_*.deb", "symbols")
+    symbols = control_file(debs, "libslh1_*.deb", "symbols")
     if "@SLH_" in symbols:
         pytest.skip("the release has symbol versions, and depends on the first release with them")
     assert f" {call}@Base {since}\n" in symbols
@@ -424,7 +424,7 @@ def next_debs(copy_of_module):
     build = copy.dist / "BUILD"
     build.write_text(re.sub("^version .*$", f"version {NEXT}", build.read_text(), flags=re.M))
     (copy.work / "symbols").write_bytes(succeed(copy.path / "tools/symbols.sh"))
-    (copy.dist / "x86-64/libslh.so.0").unlink()
+    (copy.dist / "x86-64/libslh.so.1").unlink()
     succeed("cc", "-shared", f"-Wl,-soname,{shared.name},--version-script={copy.work}/symbols,--whole-archive",
             copy.dist / "x86-64/libslh.a", "-Wl,--no-whole-archive", "-o", shared)
     copy.list_anew()
@@ -435,7 +435,7 @@ def next_debs(copy_of_module):
 @pytest.mark.slow
 def test_package_has_the_number_of_the_version(next_debs):
     package = f"libslh{NUMBER}"
-    assert package in names_in(next_debs) and "libslh0" not in names_in(next_debs)
+    assert package in names_in(next_debs) and "libslh1" not in names_in(next_debs)
     symbols = control_file(next_debs, f"{package}_*.deb", "symbols")
     assert symbols.startswith(f"libslh.so.{NUMBER} {package} #MINVER#\n")
     assert f"\n slh_sign@SLH_{NUMBER} {NEXT}\n" in symbols
@@ -445,9 +445,9 @@ def test_package_has_the_number_of_the_version(next_debs):
 def test_upgrade_to_the_next_number(in_a_root, next_debs):
     """Programs of both numbers run side by side, until the old package is removed."""
     said = in_a_root(UPGRADE, installs=False, next=next_debs).splitlines()
-    assert said[:4] == ["valid", "libslh.so.0", "valid", f"libslh.so.{NUMBER}"]
+    assert said[:4] == ["valid", "libslh.so.1", "valid", f"libslh.so.{NUMBER}"]
     assert {f" slh_verify@SLH_{NUMBER}", f"libslh{NUMBER} {NEXT}-1", f"libslh-dev {NEXT}-1"} <= {*said}
-    assert [it for it in said if it.startswith("libslh0 ")] and said[-1] == "valid"
+    assert [it for it in said if it.startswith("libslh1 ")] and said[-1] == "valid"
 
 
 @pytest.mark.slow
@@ -457,8 +457,8 @@ def test_apt_would_install_them(debs):
     if not run("apt-cache", "show", "sse4.2-support").output:
         pytest.skip("apt has no list of packages (apt-get update gets it)")
     said = succeed("apt-get", "install", "--simulate", *debs.glob("slh_*.deb"), *debs.glob("libslh*.deb"), env=ENV)
-    found = re.findall("^Inst (slh|libslh0|libslh-dev) ", said.decode(), re.MULTILINE)
-    assert sorted(found) == ["libslh-dev", "libslh0", "slh"]
+    found = re.findall("^Inst (slh|libslh1|libslh-dev) ", said.decode(), re.MULTILINE)
+    assert sorted(found) == ["libslh-dev", "libslh1", "slh"]
 
 
 # ---- man page and completions

@@ -19,7 +19,7 @@ BY_SET = pytest.mark.parametrize("of_set", ["128s", "128f", "192s", "192f", "256
 # The packages: for Python a folder, for C a program, for Java a jar, with a program that also makes keys of Bouncy
 # Castle.
 BUILD = """
-mkdir -p made/site && cp -r bindings/python/slh made/site/ && cp prefix/lib/libslh.so.0 made/site/slh/
+mkdir -p made/site && cp -r bindings/python/slh made/site/ && cp prefix/lib/libslh.so.1 made/site/slh/
 cc -std=c99 -O1 examples/convert_key.c -I prefix/include prefix/lib/libslh.a -o made/convert_key
 bindings/java/build.sh made/slh.jar
 javac -d made -cp made/slh.jar:$bcprov made/Keys.java

@@ -255,7 +255,7 @@ def test_threads_tell_what_they_cannot_read(by_threads, letter, tmp_path, langua
 
 def erases(lib, letter, environment, *command):
     """An example has erased the secret key when it writes its signature, also in what it has freed."""
-    words = [sys.executable, TESTS / "examples_memory.py", lib / "libslh.so.0", letter]
+    words = [sys.executable, TESTS / "examples_memory.py", lib / "libslh.so.1", letter]
     said = succeed(*words, "env", *environment, *command)
     assert re.search(rb"the public key is in memory [1-9]\d* times, and 0 times it is the end", said)
 

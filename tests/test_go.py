@@ -136,7 +136,7 @@ def test_changed_keys_of_other_programs_are_judged(env, page):
 @pytest.mark.usefixtures("built_by_the_kit")
 def test_nothing_erased_is_in_memory(env, page, installed):
     succeed("go", "build", "-o", page / "erased_in_go", "./erased", cwd=page, env=env)
-    check_memory(installed / "lib/libslh.so.0", page / "erased_in_go")
+    check_memory(installed / "lib/libslh.so.1", page / "erased_in_go")
 
 
 @pytest.mark.usefixtures("built_by_the_kit")

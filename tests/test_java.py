@@ -151,7 +151,7 @@ def jar(build_jar):
 def java(env, installed):
     """The words that run a program over the classes of paths and a library."""
 
-    def words(*paths, library=installed / "lib/libslh.so.0", options=("-Xmx512m",)):
+    def words(*paths, library=installed / "lib/libslh.so.1", options=("-Xmx512m",)):
         return ["java", *options, ALLOWED, f"-Dslh.library={library}", "-cp", ":".join(map(str, paths))]
 
     return words
@@ -202,7 +202,7 @@ def test_changed_keys_of_other_programs_are_judged(java, env, jar, classes):
 
 @pytest.mark.usefixtures("built_by_the_kit")
 def test_nothing_erased_is_in_memory(java, env, jar, classes, installed):
-    library = installed / "lib/libslh.so.0"
+    library = installed / "lib/libslh.so.1"
     options = ["-Xmx64m", "-XX:+UseSerialGC"]
     check_memory(library, *java(jar, classes, options=options), "pipitscreen.slh.Erased", env=env)
 
@@ -257,7 +257,7 @@ def test_page_names_each_public_call(env, jar):
 def test_module_has_the_provider(env, jar, installed, tmp_path):
     """A program in a module of its own finds it by the module's description."""
     (tmp_path / "Show.java").write_text(MODULE)
-    outcome = run("java", "--enable-native-access=pipitscreen.slh", f"-Dslh.library={installed}/lib/libslh.so.0", "-p",
+    outcome = run("java", "--enable-native-access=pipitscreen.slh", f"-Dslh.library={installed}/lib/libslh.so.1", "-p",
                   jar, "--add-modules", "pipitscreen.slh", tmp_path / "Show.java", env=env)
     assert outcome[:2] == (0, f"{VERSION} pipitscreen.slh\n".encode()), text_of(outcome)
 
@@ -300,7 +300,7 @@ def test_library_of_another_version_is_named(said_of, shared):
 @pytest.fixture
 def over_the_library(installed):
     """The words that link a shared object, which brings some calls of its own, with the library."""
-    return [f"-I{installed}/include", f"-L{installed}/lib", "-Wl,--no-as-needed", "-l:libslh.so.0",
+    return [f"-I{installed}/include", f"-L{installed}/lib", "-Wl,--no-as-needed", "-l:libslh.so.1",
             f"-Wl,-rpath,{installed}/lib", "-ldl"]
 
 
@@ -324,7 +324,7 @@ def test_another_answer_of_the_library_is_told(java, env, jar, installed, tmp_pa
     """By the self-test of its set. That of another set passes."""
     (tmp_path / "SelfTest.java").write_text(SELF_TEST)
     another = write_another_library(installed, tmp_path)
-    said = succeed(*java(jar, library=another / "lib/libslh.so.0"), tmp_path / "SelfTest.java", env=env)
+    said = succeed(*java(jar, library=another / "lib/libslh.so.1"), tmp_path / "SelfTest.java", env=env)
     assert said == b"passed\n40 SelfTestFailed\n"
 
 
@@ -335,7 +335,7 @@ def test_another_answer_of_the_library_is_told(java, env, jar, installed, tmp_pa
 def with_provider(jar, installed, tmp_path):
     """Two words for the virtual machine, and the words that name the store of keys."""
     store = ["-keystore", tmp_path / "keys.p12", "-storepass", "secret"]
-    return [f"-J{ALLOWED}", f"-J-Dslh.library={installed}/lib/libslh.so.0"], store
+    return [f"-J{ALLOWED}", f"-J-Dslh.library={installed}/lib/libslh.so.1"], store
 
 
 @pytest.fixture

@@ -204,4 +204,4 @@ def test_changed_keys_of_other_programs_are_judged(node, folder):
 @pytest.mark.usefixtures("built_by_the_kit")
 def test_nothing_erased_is_in_memory(node, folder, installed):
     shutil.copy(HERE / "bindings/tests/erased.mjs", folder)
-    check_memory(installed / "lib/libslh.so.0", node, "--no-warnings", folder / "erased.mjs")
+    check_memory(installed / "lib/libslh.so.1", node, "--no-warnings", folder / "erased.mjs")

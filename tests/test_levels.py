@@ -96,7 +96,7 @@ def test_archive_chooses_the_best_level(level_of, lib):
 
 
 def test_shared_object_chooses_the_best_level(lib):
-    assert ctypes.CDLL(str(lib / "libslh.so.0")).slh_level() == best_level()
+    assert ctypes.CDLL(str(lib / "libslh.so.1")).slh_level() == best_level()
 
 
 @pytest.fixture(scope="module")

@@ -89,18 +89,18 @@ def test_calls_are_found_where_all_else_is_hidden(compiled, include, lib, tmp_pa
 def test_shared_object_has_its_name(lib):
     """Loaders find it under this name, and linkers by the link."""
     need("readelf")
-    assert re.search(r"SONAME.*\[libslh\.so\.0\]", succeed("readelf", "-d", lib / "libslh.so.0").decode())
-    assert (lib / "libslh.so").readlink().name == str((lib / "libslh.so").readlink()) == "libslh.so.0"
+    assert re.search(r"SONAME.*\[libslh\.so\.1\]", succeed("readelf", "-d", lib / "libslh.so.1").decode())
+    assert (lib / "libslh.so").readlink().name == str((lib / "libslh.so").readlink()) == "libslh.so.1"
 
 
 def test_shared_object_has_a_build_id(lib):
     """Debuggers find its symbols by it."""
     need("readelf")
-    assert re.search(r"Build ID: [0-9a-f]{40}$", notes("readelf", lib / "libslh.so.0"), re.M)
+    assert re.search(r"Build ID: [0-9a-f]{40}$", notes("readelf", lib / "libslh.so.1"), re.M)
 
 
 @pytest.mark.usefixtures("built_by_the_kit")
-@pytest.mark.parametrize("file", ["libslh.so.0", "libslh.a", "libslh-v2.a", "libslh-v3.a", "libslh-v4.a",
+@pytest.mark.parametrize("file", ["libslh.so.1", "libslh.a", "libslh-v2.a", "libslh-v3.a", "libslh-v4.a",
                                   "libslh_verify.a"])
 def test_code_is_marked_for_ibt_and_a_shadow_stack(lib, file):
     """The linker marks what it makes only if each object is."""
@@ -113,9 +113,9 @@ def test_indirect_branches_find_pads(lib):
     """A call begins with a pad. Inside, indirect branches go to C's functions, by the loader's table, or go by a table
     of jumps, which an exemption marks."""
     need("objdump")
-    first = first_instructions("objdump", lib / "libslh.so.0")
+    first = first_instructions("objdump", lib / "libslh.so.1")
     assert {it: first[it] for it in LIBRARY_CALLS} == dict.fromkeys(LIBRARY_CALLS, "endbr64")
-    text = succeed("objdump", "-d", "--no-show-raw-insn", lib / "libslh.so.0").decode()
+    text = succeed("objdump", "-d", "--no-show-raw-insn", lib / "libslh.so.1").decode()
     branches = re.findall(r"\t((?:notrack )?(?:call|jmp) +\*.*)", text)
     assert branches
     assert [it for it in branches if not re.match(r"notrack jmp +\*%|(call|jmp) +\*0x[0-9a-f]+\(%rip\)", it)] == []
@@ -124,7 +124,7 @@ def test_indirect_branches_find_pads(lib):
 @pytest.mark.usefixtures("built_by_the_kit")
 def test_shared_object_of_an_earlier_release_is_not_loaded(pytestconfig, compiled, installed, tmp_path):
     """glibc would load one for a level in place of what is installed now."""
-    old = tmp_path / "lib/glibc-hwcaps/x86-64-v3/libslh.so.0"
+    old = tmp_path / "lib/glibc-hwcaps/x86-64-v3/libslh.so.1"
     old.parent.mkdir(parents=True)
     old.write_text("of an earlier release\n")
     dist = ["--dist", chosen_release(pytestconfig)] if pytestconfig.option.release else []
@@ -133,7 +133,7 @@ def test_shared_object_of_an_earlier_release_is_not_loaded(pytestconfig, compile
     program = compiled("shared", "-I", tmp_path / "include", tmp_path / "program.c", tmp_path / "lib/libslh.so")
     assert not old.exists()
     loaded = succeed("env", f"LD_LIBRARY_PATH={tmp_path}/lib", "ldd", program).decode()
-    assert f"=> {tmp_path}/lib/libslh.so.0 (" in loaded
+    assert f"=> {tmp_path}/lib/libslh.so.1 (" in loaded
 
 
 # ---- versions and headers

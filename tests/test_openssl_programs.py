@@ -1,4 +1,4 @@
-"""Tries the packages libslh0 and slh-openssl with programs that nobody here wrote, in a new Debian 13. The CA of two
+"""Tries the packages libslh1 and slh-openssl with programs that nobody here wrote, in a new Debian 13. The CA of two
 levels of docs/OPENSSL.md issues the certificates. Each row of that page's table of programs is tried. nginx, Apache,
 HAProxy, lighttpd, stunnel, Python, Node and `openssl s_server` speak TLS 1.3 with curl, Python, Node and `openssl
 s_client`. Installations are broken under servers, clients, `openssl ca` and languages.
@@ -104,7 +104,7 @@ def test_page_has_the_table_of_programs():
 
 
 def make_wrong_libraries(package, work, folder):
-    """A libslh.so.0 of an earlier version, and one in which a call is missing."""
+    """A libslh.so.1 of an earlier version, and one in which a call is missing."""
     need("cc", "nm")
     succeed("dpkg", "-x", package, work)
     module, = work.glob("usr/lib/*/ossl-modules/slh.so")
@@ -112,12 +112,12 @@ def make_wrong_libraries(package, work, folder):
     for name, some in {"older": calls, "lesser": [it for it in calls if it != "slh_sign_join"]}.items():
         (folder / name).mkdir()
         text = "".join(f"unsigned {it}(void) {{ return 9000; }}\n" for it in some)
-        succeed("cc", "-shared", "-fPIC", "-Wl,-soname,libslh.so.0", "-x", "c", "-", "-o", folder / name / "libslh.so.0",
+        succeed("cc", "-shared", "-fPIC", "-Wl,-soname,libslh.so.1", "-x", "c", "-", "-o", folder / name / "libslh.so.1",
                 stdin=text.encode())
 
 
 def install_packages(root, debs):
-    """Installs libslh0, slh-openssl and the newest sign-file of Linux."""
+    """Installs libslh1, slh-openssl and the newest sign-file of Linux."""
     root.succeed("apt-get", "-q", "update")
     said = root.succeed("apt-cache", "search", "--names-only", "^linux-kbuild-6").decode()
     kbuild = max((it.split()[0] for it in said.splitlines()), key=lambda it: [*map(int, re.findall(r"\d+", it))])
@@ -132,7 +132,7 @@ def root(debian, oracle, release, tmp_path_factory):
     """A Debian 13 with the packages, the programs and what the page's CA issues."""
     work = tmp_path_factory.mktemp("packages")
     succeed(HERE / "tools/debian.sh", release, work / "debs")
-    debs = [it for name in ("libslh0", "slh-openssl") for it in (work / "debs").glob(f"{name}_*.deb")]
+    debs = [it for name in ("libslh1", "slh-openssl") for it in (work / "debs").glob(f"{name}_*.deb")]
     if len(debs) < 2:
         pytest.skip("tools/debian.sh made no slh-openssl (it takes OpenSSL 3.5, which tools/setup.sh installs)")
     made = debian("trixie", *PROGRAMS)

@@ -617,7 +617,7 @@ def test_changed_keys_of_other_programs_are_judged(examples):
 @pytest.mark.slow
 def test_nothing_erased_is_in_memory(examples, installed_as_is):
     """Neither in the heap nor on the stacks of threads."""
-    check_memory(installed_as_is / "lib/libslh.so.0", examples / "erased")
+    check_memory(installed_as_is / "lib/libslh.so.1", examples / "erased")
 
 
 @pytest.mark.slow

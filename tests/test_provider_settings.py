@@ -227,7 +227,7 @@ class Installation:
         calls = [it for it in re.findall(r" U (slh_\w+)", listed) if it not in without]
         assert calls
         text = "".join(f"unsigned {it}(void) {{ return 9000; }}\n" for it in calls).encode()
-        succeed("cc", "-shared", "-fPIC", "-Wl,-soname,libslh.so.0", "-x", "c", "-", "-o", self.lib / "libslh.so.0",
+        succeed("cc", "-shared", "-fPIC", "-Wl,-soname,libslh.so.1", "-x", "c", "-", "-o", self.lib / "libslh.so.1",
                 stdin=text)
 
     def with_a_lesser_library(self):

@@ -81,7 +81,7 @@ def openssl(oracle, prefix, preloaded, tmp_path):
         counted.write_text("0")
         environment = {**os.environ, "OPENSSL_CONF": str(config), "COUNTED": str(counted), "FLIPS": str(flips)}
         if library:
-            environment.update(LD_PRELOAD=str(preloaded[library]), LIBSLH=str(prefix / "lib/libslh.so.0"))
+            environment.update(LD_PRELOAD=str(preloaded[library]), LIBSLH=str(prefix / "lib/libslh.so.1"))
         return run(oracle, *words, env=environment, cwd=tmp_path), int(counted.read_text())
 
     return runs

@@ -121,7 +121,7 @@ def test_wheel_names_its_platforms(wheel):
 def test_platforms_are_those_of_the_shared_object(installed):
     """It needs no library but that of C, and no symbol of a glibc after the version in the tag. It has three calls."""
     need("readelf")
-    shared = installed / "lib/libslh.so.0"
+    shared = installed / "lib/libslh.so.1"
     assert re.findall(rb"\(NEEDED\).*\[(.*)\]", succeed("readelf", "-d", shared)) in ([], [b"libc.so.6"])
     symbols = succeed("readelf", "-W", "--dyn-syms", shared).decode()
     called = re.findall(r" UND ([^\s@]+)(?:@GLIBC_2\.(\d+))?", symbols)
@@ -147,7 +147,7 @@ def test_musl_loads_the_shared_object(installed, tmp_path):
     need("musl-gcc")
     (tmp_path / "load.c").write_text(MUSL)
     succeed("musl-gcc", "-o", tmp_path / "load", tmp_path / "load.c")
-    succeed(tmp_path / "load", installed / "lib/libslh.so.0")
+    succeed(tmp_path / "load", installed / "lib/libslh.so.1")
 
 
 def test_relative_path_of_the_library_is_named(pip_wheel, copied, tmp_path):
@@ -251,7 +251,7 @@ def test_commands_of_the_module(python):
 
 @pytest.mark.usefixtures("built_by_the_kit")
 def test_nothing_erased_is_in_memory(python, installed):
-    check_memory(installed / "lib/libslh.so.0", python, HERE / "bindings/tests/erased.py", env=ENV)
+    check_memory(installed / "lib/libslh.so.1", python, HERE / "bindings/tests/erased.py", env=ENV)
 
 
 @pytest.mark.usefixtures("built_by_the_kit")

@@ -180,7 +180,7 @@ def test_damaged_list_is_not_believed(changed, file, text):
 
 
 OF_LIBRARY = [
-    "x86-64/libslh.a", "x86-64/libslh.so.0", "x86-64-v2/libslh_verify.a", "x86-64-v2/libslh.a", "x86-64-v3/libslh.a",
+    "x86-64/libslh.a", "x86-64/libslh.so.1", "x86-64-v2/libslh_verify.a", "x86-64-v2/libslh.a", "x86-64-v3/libslh.a",
     "x86-64-v4/libslh.a", "include/slh.h"]
 OF_LIBRARY_ALONE = [
     "share/cmake/slh-config.cmake", "share/cmake/slh-config-version.cmake.in", "share/man/man3/slh.3"]

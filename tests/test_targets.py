@@ -92,7 +92,7 @@ def test_archive_defines_the_calls(machine, archive):
 
 @ON_LINUX
 def test_shared_object_defines_the_calls(machine, prefix):
-    shared = prefix / "lib/libslh.so.0"
+    shared = prefix / "lib/libslh.so.1"
     assert symbols(machine.tool("nm"), "-D", shared) == of_kind("T", LIBRARY_CALLS) + of_kind("U", OF_C)
 
 
@@ -109,11 +109,11 @@ CALLS_UNPADDED = "int unpadded(void);\nint main(void) { return unpadded(); }\n"
 
 @ON_LINUX
 def test_shared_object_has_a_build_id(machine, prefix):
-    assert re.search(r"Build ID: [0-9a-f]{40}$", notes(machine.tool("readelf"), prefix / "lib/libslh.so.0"), re.M)
+    assert re.search(r"Build ID: [0-9a-f]{40}$", notes(machine.tool("readelf"), prefix / "lib/libslh.so.1"), re.M)
 
 
 @ON_AARCH64
-@pytest.mark.parametrize("file", ["libslh.so.0", "libslh.a", "libslh_verify.a"])
+@pytest.mark.parametrize("file", ["libslh.so.1", "libslh.a", "libslh_verify.a"])
 def test_code_is_marked_for_pads_and_signed_returns(machine, prefix, file):
     """The linker marks what it makes only if each object is."""
     assert "Properties: AArch64 feature: BTI, PAC" in notes(machine.tool("readelf"), prefix / "lib" / file)
@@ -122,7 +122,7 @@ def test_code_is_marked_for_pads_and_signed_returns(machine, prefix, file):
 @ON_AARCH64
 def test_each_call_begins_with_a_pad(machine, prefix):
     """test_vectors_by_the_shared_object runs them."""
-    first = first_instructions(machine.tool("objdump"), prefix / "lib/libslh.so.0")
+    first = first_instructions(machine.tool("objdump"), prefix / "lib/libslh.so.1")
     assert {it: first[it] for it in LIBRARY_CALLS if first[it] not in ("bti", "paciasp")} == {}
 
 
@@ -143,7 +143,7 @@ def test_emulator_looks_for_pads(emulated, compiled, tmp_path, protection, statu
 def test_vectors_by_the_shared_object(pytestconfig, emulated, prefix, compiled, tmp_path):
     """Its pages are marked, so each indirect branch in it is looked at. With --all the vectors are those of each set."""
     shutil.copy(VECTORS / "smoke-128f.json", tmp_path)
-    shared = prefix / "lib/libslh.so.0"
+    shared = prefix / "lib/libslh.so.1"
     program = machines.calls_program(compiled, emulated._replace(words=()), prefix / "include", shared,
                                      f"-Wl,-rpath,{shared.parent}")
     machines.vectors_through(pytestconfig, *emulated.runs, "-L", f"/usr/{LINUX['aarch64'][0]}", program, few=True,
@@ -203,7 +203,7 @@ def test_program_without_getauxval_takes_level_2(emulated, prefix, archive, comp
 @ON_AARCH64
 def test_shared_object_runs_the_same_level(emulated, prefix, compiled, tmp_path):
     (tmp_path / "level.c").write_text(LEVEL)
-    shared = prefix / "lib/libslh.so.0"
+    shared = prefix / "lib/libslh.so.1"
     program = compiled("level", "-I", prefix / "include", tmp_path / "level.c", shared, f"-Wl,-rpath,{shared.parent}",
                        cc=emulated.cc)
     assert run(*emulated.runs, "-L", f"/usr/{LINUX['aarch64'][0]}", program).status == 4
@@ -340,7 +340,7 @@ def test_single_messages_by_sha_instructions_take_no_branch(machine, archive):
 def test_wheel_has_the_shared_object(target, venv, prefix, tmp_path):
     """Its name has the machine's."""
     tags = ".".join(f"{it}_{LINUX[target][2]}" for it in ("manylinux_2_25", "musllinux_1_2"))
-    machines.wheel_has(venv, prefix, prefix / "lib/libslh.so.0", tags, tmp_path)
+    machines.wheel_has(venv, prefix, prefix / "lib/libslh.so.1", tags, tmp_path)
 
 
 @pytest.mark.slow

@@ -9,7 +9,7 @@
 #   PREFIX/lib/libslh.a             all calls, with code for the levels x86-64-v2, -v3 and -v4: the best one runs
 #   PREFIX/lib/libslh-v2.a, libslh-v3.a, libslh-v4.a   the same for one level each
 #   PREFIX/lib/libslh_verify.a      the calls of slh_verify.h alone, for firmware, and for x86-64-v2
-#   PREFIX/lib/libslh.so.0          libslh.a as a shared object, and libslh.so, a link to it for linkers
+#   PREFIX/lib/libslh.so.1          libslh.a as a shared object, and libslh.so, a link to it for linkers
 #   PREFIX/lib/pkgconfig/slh.pc, slh_verify.pc     for pkg-config, with the version of the file VERSION
 #   PREFIX/lib/cmake/slh/           for find_package(slh) of CMake, with the same version
 #   PREFIX/share/man/man3/slh.3     the manual page of the calls, with a link to it for each call
@@ -20,7 +20,7 @@
 #        tools/library.sh --from-source [--target TRIPLE] PREFIX
 #
 # --from-source builds by cargo and stock rustc, without the kit: tools/from_source.sh lists the targets and the tools.
-# It installs libslh.a, libslh.so.0 and libslh_verify.a with one level of code, and the headers and other files above.
+# It installs libslh.a, libslh.so.1 and libslh_verify.a with one level of code, and the headers and other files above.
 #
 # TARGET is x86-64, as without it, or one of tools/targets.py. The archives for one level are for x86-64 alone. Of a
 # module for WebAssembly there is PREFIX/lib/slh.wasm alone, of portable the headers, PREFIX/src and what CMake reads.
@@ -181,6 +181,6 @@ else
 fi
 if [[ $target = x86-64 || $after_ci = source ]]; then
     # Releases up to 0.4 put the code for a level there, and glibc would load it in place of what is installed now.
-    rm -f "$prefix"/lib/glibc-hwcaps/x86-64-v{3,4}/libslh.so.0
+    rm -f "$prefix"/lib/glibc-hwcaps/x86-64-v{3,4}/libslh.so.1
 fi
 echo "installed in $prefix: $how"

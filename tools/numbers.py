@@ -55,9 +55,9 @@ NUMBER = r"([\d,]+)"
 FILES = r"^\| (`(?:lib|include)/[^|]*)\|[^|\n]*\|([^|\n]*)\|$"
 # The files of each target of the table of machines, in its order, as NAME (N KB).
 OTHERS = {
-    "aarch64": ["libslh.a", "libslh.so.0", "libslh_verify.a"],
-    "riscv64": ["libslh.a", "libslh.so.0"],
-    "armv7": ["libslh.a", "libslh.so.0"],
+    "aarch64": ["libslh.a", "libslh.so.1", "libslh_verify.a"],
+    "riscv64": ["libslh.a", "libslh.so.1"],
+    "armv7": ["libslh.a", "libslh.so.1"],
     "windows-x86-64": ["libslh.a", "slh.dll"],
     "macos-arm64": ["libslh.a"],
     "macos-x86-64": ["libslh.a"],

@@ -1,7 +1,7 @@
 #!/usr/bin/env bash
 # Writes the release of this version into dist/, or checks that dist/ is what the sources give:
 #
-#   dist/x86-64/                  libslh.a and libslh.so.0, with the code for each level below, and slh, which runs the
+#   dist/x86-64/                  libslh.a and libslh.so.1, with the code for each level below, and slh, which runs the
 #                                 program of a level where it is installed
 #   dist/x86-64-v2/, -v3/, -v4/   the program slh, libslh.a and libslh_verify.a
 #   dist/TARGET/                  what tools/targets.py makes for each other machine: archives, slh.dll, slh.wasm

@@ -1,6 +1,6 @@
 #!/usr/bin/env bash
 # Makes a Debian source package of the library for C into FOLDER. `dpkg-buildpackage` builds it without the kit and
-# without a network, by Debian's rustc and crates (tools/from_source.sh): the packages libslh0 and libslh-dev.
+# without a network, by Debian's rustc and crates (tools/from_source.sh): the packages libslh1 and libslh-dev.
 #
 #   FOLDER/slh-VERSION/                                          the sources, with debian/ of bindings/debian/source
 #   FOLDER/slh_VERSION.orig.tar.xz, slh_VERSION-1.debian.tar.xz, slh_VERSION-1.dsc

@@ -12,13 +12,13 @@ usage: tools/targets.py TARGET[,TARGET..] FOLDER [--noise]      writes FOLDER/TA
 
 --noise is for tests: machines of 32 bits then get another layout (tools/lay_out.py).
 
-  x86-64                            libslh.a and libslh.so.0: Linux on x86-64, with the code for each of the levels of
+  x86-64                            libslh.a and libslh.so.1: Linux on x86-64, with the code for each of the levels of
                                     processors, of which the best that there is runs, and for SHA instructions, which
                                     run by x86-64-v2. And what those levels have:
   x86-64-v2, x86-64-v3, x86-64-v4   libslh.a and libslh_verify.a for processors of this level
-  aarch64                           libslh.a, libslh.so.0 and libslh_verify.a: Linux on 64-bit ARM, with code for NEON,
+  aarch64                           libslh.a, libslh.so.1 and libslh_verify.a: Linux on 64-bit ARM, with code for NEON,
                                     for SHA-256's instructions, and for SHA-512's, of which the best that there is runs
-  riscv64, armv7                    libslh.a and libslh.so.0: Linux on 64-bit RISC-V, and on 32-bit ARM with NEON
+  riscv64, armv7                    libslh.a and libslh.so.1: Linux on 64-bit RISC-V, and on 32-bit ARM with NEON
   windows-x86-64                    libslh.a, slh.dll and slh.lib, which imports it: as x86-64
   macos-arm64, macos-x86-64         libslh.a; the second with x86-64-v2 and -v3
   thumbv7em, thumbv6m, riscv32imac  libslh_verify.a, and libslh_verify_128.a for the sets of 128 bits alone: ELF for

@@ -18,6 +18,7 @@ CRATES = ("slh_c", "slh_c_verify")
 # Each place: a file, and a text in it that has the version in one of these forms.
 PLACES = [
     ("docs/LIBRARY.md", "three numbers: {text}. "),
+    ("docs/LIBRARY.md", "symbol version `SLH_{major}`"),
     ("bindings/README.md", "find_package(slh {two} REQUIRED)"),
     *(("c/include/slh_verify.h", line) for line in (
         "#define SLH_VERSION_MAJOR {major}\n", "#define SLH_VERSION_MINOR {minor}\n",

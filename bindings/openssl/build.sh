@@ -7,7 +7,7 @@
 #
 # It needs a C compiler (CC, default cc) and OpenSSL's headers and libraries, 3.5 or later: those of the folder that
 # OPENSSL_PREFIX names, with include/ and lib/, else those that pkg-config finds, else those beside the command
-# `openssl-3.5`. Without them it says so, with status 3. The provider loads libslh.so.0 from the folder that SLH_RUNPATH
+# `openssl-3.5`. Without them it says so, with status 3. The provider loads libslh.so.1 from the folder that SLH_RUNPATH
 # names, from its own place on (default '$ORIGIN/..'; an empty one leaves it to the system). The compiler is handed
 # CFLAGS behind all other options.
 set -euo pipefail

@@ -25,7 +25,7 @@ import zipfile
 HERE = pathlib.Path(__file__).resolve().parent
 INSIDE = HERE / "library"
 VERSION = HERE.parent.parent / "VERSION"
-NAME = "libslh.so.0"
+NAME = "libslh.so.1"
 SETUPTOOLS = ["setuptools>=64", "wheel"]
 LICENSES = ["LICENSE-APACHE", "LICENSE-MIT"]
 # The machines in platform tags, by the class and the machine of ELF.
@@ -90,7 +90,7 @@ def has_shared() -> bool:
     if shared_of(prefix).is_file():
         return True
     if not source_of(prefix).is_file():
-        sys.exit(f"slh_wheel.py: there is neither lib/libslh.so.0, bin/slh.dll nor src/slh.c in {prefix}")
+        sys.exit(f"slh_wheel.py: there is neither lib/libslh.so.1, bin/slh.dll nor src/slh.c in {prefix}")
     return False
 
 

@@ -73,7 +73,7 @@
  * SLH_HARDENED_VALID or SLH_HARDENED_INVALID. The other calls check their arguments in this order, and return the first
  * number that applies:
  *
- *   SLH_OLD_PROCESSOR          the processor is below x86-64-v2, and the library has several levels (slh_level)
+ *   SLH_OLD_PROCESSOR          the library has several levels (slh_level), and the processor is below x86-64-v2
  *   SLH_NO_SUCH_REFUSAL        slh_refusal_name alone: the number is not a result's
  *   SLH_NO_SUCH_SET            the number is not a set's
  *   SLH_NO_SUCH_FUNCTION       the number is not a pre-hash function's
@@ -89,9 +89,9 @@
  *                              slh_verify_hashed than the set's
  *   SLH_BAD_RANDOMIZER_LENGTH  the randomizer has neither 0 nor n bytes
  *   SLH_BAD_START_LENGTH       the start has another length than the set's
- *   SLH_BAD_OUTPUT_LENGTH      the output has another length than the bytes to write, or too little room in the
- *                              calls that read or write a form of keys and in slh_refusal_name
- *   SLH_BAD_ANSWERS_LENGTH     the answers have another length than those of all jobs
+ *   SLH_BAD_OUTPUT_LENGTH      the output is not as long as what the call writes. In slh_refusal_name and the calls
+ *                              for key files, DER and PEM: it has too little room
+ *   SLH_BAD_ANSWERS_LENGTH     the answers are not as long as those of all jobs together
  *   SLH_BAD_START              the start does not have its tag under this key
  *   SLH_ANSWERS_DISAGREE       the answers don't fit together
  *   SLH_CONTEXT_TOO_LONG       signing under a context of over 255 bytes
@@ -214,8 +214,9 @@ SLH_MUST_USE SLH_API
 uint32_t slh_der_read(const uint8_t *der, size_t der_len, uint32_t *set, uint32_t *kind, uint8_t *key, size_t key_len);
 
 /*
- * To read the same in PEM: base64 in lines of 64 characters between the lines of a PUBLIC KEY or a PRIVATE KEY. pem has
- * the whole file, without a zero byte behind it. Its last line feed may be missing.
+ * To read such a key in PEM. Its first and last line name a PUBLIC KEY or a PRIVATE KEY. Lines of base64 stand between
+ * them, and each but the last has 64 characters. pem has the whole file, without a zero byte behind it. The last line
+ * feed of the file may be missing.
  * Returns: as slh_der_read.
  */
 SLH_MUST_USE SLH_API

@@ -35,11 +35,11 @@
 #include <stdint.h>
 
 /* The version of this header: three numbers, the number that slh_version returns for it, and the text. */
-#define SLH_VERSION_MAJOR 0
-#define SLH_VERSION_MINOR 16
+#define SLH_VERSION_MAJOR 1
+#define SLH_VERSION_MINOR 0
 #define SLH_VERSION_PATCH 0
 #define SLH_VERSION_NUMBER (1000000 * SLH_VERSION_MAJOR + 1000 * SLH_VERSION_MINOR + SLH_VERSION_PATCH)
-#define SLH_VERSION "0.16.0"
+#define SLH_VERSION "1.0.0"
 
 /* Marks each call whose result has to be checked: compilers that can do so warn if it is ignored. */
 #if defined(__cplusplus) && __cplusplus >= 201703L

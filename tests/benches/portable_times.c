@@ -1,8 +1,8 @@
 /*
  * Times key generation, signing or verifying by the library for C in one thread: portable_times TASK RUNS SET, where
- * TASK is keygen, sign or verify, and SET a number. It prints the nanoseconds of the shortest run, on what
- * openssl_times.c beside it works on: the key of the seeds 00, 01, 02, .., and the deterministic signature of "abc"
- * with an empty context. Without runs it prepares alone, so that valgrind can tell the instructions of one.
+ * TASK is keygen, sign, twice (slh_sign_twice) or verify, and SET a number. It prints the nanoseconds of the shortest
+ * run, on what openssl_times.c beside it works on: the key of the seeds 00, 01, 02, .., and the deterministic signature
+ * of "abc" with an empty context. Without runs it prepares alone, so that valgrind can tell the instructions of one.
  *
  *     cc -O2 -o portable_times tests/benches/portable_times.c slh.c
  */
@@ -13,7 +13,8 @@
 #include <string.h>
 #include <time.h>
 
-static uint8_t seeds[3 * SLH_MAX_N], sk[SLH_MAX_SECRET_KEY], sig[SLH_MAX_SIGNATURE];
+static uint8_t seeds[3 * SLH_MAX_N], sk[SLH_MAX_SECRET_KEY], sig[SLH_MAX_SIGNATURE],
+    scratch[2 * SLH_MAX_SIGNATURE];
 static const uint8_t message[] = {'a', 'b', 'c'};
 
 static uint64_t now(void) {
@@ -26,6 +27,8 @@ static uint32_t run(char task, uint32_t set, size_t n, size_t sig_len) {
     switch (task) {
     case 'k': return slh_keygen(set, seeds, n, seeds + n, n, seeds + 2 * n, n, sk, 4 * n);
     case 's': return slh_sign(set, sk, 4 * n, message, sizeof message, NULL, 0, NULL, 0, sig, sig_len);
+    case 't': return slh_sign_twice(set, sk, 4 * n, message, sizeof message, NULL, 0, NULL, 0, scratch, 2 * sig_len, sig,
+                                    sig_len);
     default: return slh_verify(set, sk + 2 * n, 2 * n, message, sizeof message, NULL, 0, sig, sig_len);
     }
 }

@@ -1,4 +1,4 @@
-"""The calls of libslh.so.0 beside this file, their errors, and memory for secrets outside Python's objects."""
+"""The calls of libslh.so.1 beside this file, their errors, and memory for secrets outside Python's objects."""
 
 from __future__ import annotations
 
@@ -52,7 +52,7 @@ def _expect_code(loaded: ctypes.CDLL) -> None:
 
 def _load() -> ctypes.CDLL:
     """Loads the shared object beside this file, which runs the best code that it has for the processor."""
-    loaded = ctypes.CDLL(str(pathlib.Path(__file__).resolve().parent / "libslh.so.0"))
+    loaded = ctypes.CDLL(str(pathlib.Path(__file__).resolve().parent / "libslh.so.1"))
     for name in _NAMES:
         getattr(loaded, name).restype = ctypes.c_uint32
     loaded.slh_erase.restype = None

@@ -42,7 +42,7 @@ class Processors(unittest.TestCase):
         """Imports the package over the other library."""
         others = [it for it in slh._calls._NAMES if not re.search(rf"\b{it}\b", OTHER)]
         source = OTHER + "".join(f"uint32_t {it}(void) {{ return 39; }}\n" for it in others)
-        library = self.work / "slh" / "libslh.so.0"
+        library = self.work / "slh" / "libslh.so.1"
         library.unlink()
         numbers = f"-DLEVEL={level}", f"-DRESULT={result}"
         compile = ["cc", "-shared", "-fPIC", "-Wall", "-Werror", *numbers, "-x", "c", "-", "-o", library]

@@ -15,7 +15,7 @@ import slh
 import slh.__main__
 
 VECTORS = pathlib.Path(__file__).resolve().parents[3] / "tests/vectors"
-LIBRARY = pathlib.Path(slh.__file__).parent / "libslh.so.0"
+LIBRARY = pathlib.Path(slh.__file__).parent / "libslh.so.1"
 FAST = slh.Set.SLH_DSA_SHA2_128F
 
 

@@ -512,7 +512,7 @@ class Calls(unittest.TestCase):
             self.assertEqual(numbers, {it: member.value for it, member in members.__members__.items()})
 
     def test_the_shared_object_is_the_one_of_the_package(self) -> None:
-        self.assertEqual(pathlib.Path(slh._library._name), pathlib.Path(slh.__file__).parent / "libslh.so.0")
+        self.assertEqual(pathlib.Path(slh._library._name), pathlib.Path(slh.__file__).parent / "libslh.so.1")
 
 
 if __name__ == "__main__":

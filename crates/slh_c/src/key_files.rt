@@ -53,7 +53,7 @@ fn put(bytes: &[u8], out: &mut [u8])
     rest.fill(0);
 }
 
-/// What `read_key` gave, as `slh_key_read` writes it.
+/// Writes what `read_key` gave, as `slh_key_read` does, and returns the number of its answer.
 pub(crate) fn put_key(it: &AnyKey, set: &mut u32, kind: &mut u32, key: &mut [u8]) -> u32
     ensures answer { result ≡ read_answer (Ok it.now) (length key.old) }
     ensures set { result ≡ DONE → set_numbered set.new ≡ Some (key_of it.now).set }

@@ -85,8 +85,8 @@ pub extern "C" fn slh_der_write(
     DONE
 }
 
-/// Writes a key in PEM, which has `written` bytes, and zeros from there to the end of `pem`, at least one; else as
-/// `slh_der_write`, by `pem_write_rules`.
+/// Writes a key in PEM, and zeros from there to the end of `pem`, at least one. `written` becomes the number of bytes
+/// before the zeros. `pem_write_rules` has what it refuses.
 #[tactic(auto, using(crate::proofs::Standard::key_len_high, crate::proofs::Standard::numbered_standard))]
 #[unsafe(no_mangle)]
 pub extern "C" fn slh_pem_write(

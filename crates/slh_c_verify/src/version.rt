@@ -5,7 +5,7 @@ ghost use Rattle.std.specs.Prelude.{◌≡◌};
 /// second, and its third.
 #[unsafe(no_mangle)]
 pub extern "C" fn slh_version() -> u32
-    ensures version { result ≡ 16000 }
+    ensures version { result ≡ 1000000 }
 {
-    16_000
+    1_000_000
 }

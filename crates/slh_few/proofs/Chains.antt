@@ -2,11 +2,10 @@
 use Rattle.std.proofs.Common.{◌≡◌, ℕ, zero, suc, ◌+◌, ◌-◌, ◌≤◌, List, length, refl, ap, ◌∙◌, arith, add-one}
 use Rattle.slh_hash.proofs.Lengths.{length-F}
 use Rattle.slh_params.specs.Address.{Address, WOTS_HASH}
-use Rattle.slh_params.specs.Params.{Params, w}
+use Rattle.slh_params.specs.Params.{Params}
 use Rattle.slh_hash.specs.Hash.{F}
 use Rattle.slh_lanes.specs.Steps.{steps}
-use Rattle.slh_few.specs.Chunks.{chunk}
-use Rattle.slh_few.specs.Wots.{chain, wots_address, digit, finished_chain}
+use Rattle.slh_few.specs.Wots.{chain, wots_address}
 use Rattle.slh_few.specs.declared.place.Place.{Place}
 
 -- a chain's values have n bytes
@@ -49,11 +48,3 @@ pub chain-rest : (p : Params) (pk : List ℕ) (at : Place) (c : ℕ) (x : List �
 chain-rest p pk at c x d last le =
     let total : d + (last - d) ≡ last = omega (arith, le) in
     chain-on p pk at c x d (last - d) ∙ ap (λ s. chain p pk at c x 0 s) total
-
--- the chain that a program runs on from a signature's value
-pub finished_as : (p : Params) (pk : List ℕ) (at : Place) (m sig : List ℕ) (c n d last : ℕ) (x : List ℕ) → last ≡ w p - 1
-    → x ≡ chunk n sig c → n ≡ p.n → d ≡ digit p m c → chain p pk at c x d (last - d) ≡ finished_chain p pk at m sig c
-finished_as p pk at m sig c n d last x e ex en ed =
-    ap (λ y. chain p pk at c y d (last - d)) (ex ∙ ap (λ k. chunk k sig c) en)
-    ∙ ap (λ j. chain p pk at c (chunk p.n sig c) j (last - j)) ed
-    ∙ ap (λ u. chain p pk at c (chunk p.n sig c) (digit p m c) (u - digit p m c)) e

@@ -26,10 +26,6 @@ pub spacing_low : (s : ParamSet) → 1 ≤ spacing (params s)
 unfolding spacing
 spacing_low s = elim (lg_w_cases s) [ inl e ↦ rw e (lit≤ tt) | inr (inl e) ↦ rw e (lit≤ tt) | inr (inr e) ↦ rw e (lit≤ tt) ]
 
-pub spacing_high : (s : ParamSet) → spacing (params s) ≤ 16
-unfolding spacing
-spacing_high s = elim (lg_w_cases s) [ inl e ↦ rw e (lit≤ tt) | inr (inl e) ↦ rw e (lit≤ tt) | inr (inr e) ↦ rw e (lit≤ tt) ]
-
 pub count_low : (s : ParamSet) → 1 ≤ checkpoint_count (params s)
 unfolding checkpoint_count spacing
 count_low s = elim (lg_w_cases s) [ inl e ↦ rw e (lit≤ tt) | inr (inl e) ↦ rw e (lit≤ tt) | inr (inr e) ↦ rw e (lit≤ tt) ]

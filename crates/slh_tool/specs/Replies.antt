@@ -159,7 +159,7 @@ RefusesVerify options old new fault = RefusesKey Public old new options.key faul
 
 -- `--version`: the version is that of the file VERSION
 abbrev pub version_line : Text
-version_line = line (codes "slh 0.16.0")
+version_line = line (codes "slh 1.0.0")
 
 -- a command's status and output, by the files and by the states of the input before and after
 abbrev pub IsReply : Asked → FilesState → SourceState → SourceState → ℕ → Text → Type 0

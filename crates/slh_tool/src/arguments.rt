@@ -210,9 +210,9 @@ const STATUS_HELP: &str = "Exit status: 0 for done, valid, consistent or all tes
 The man page and docs/FORMATS.md have a table of refusals, with usual causes.";
 
 /// That of the file `VERSION`.
-const VERSION: &str = "0.16.0";
+const VERSION: &str = "1.0.0";
 
-const ABOUT: &str = "slh 0.16.0: keys and signatures of SLH-DSA (FIPS 205) with SHA-2";
+const ABOUT: &str = "slh 1.0.0: keys and signatures of SLH-DSA (FIPS 205) with SHA-2";
 
 /// The program with no subcommand so far, with its version, its purpose and the end of its help.
 fn no_command<'a>(

@@ -130,7 +130,7 @@ fn version<A: Allocator>(alloc: A) -> Result<Reply<A>, AllocError>
     ensures status { IfOk result (λ r. r.status ≡ 0) }
     ensures output { IfOk result (λ r. r.output.items ≡ version_line) }
 {
-    Ok(Reply::text(String::from_str(alloc, "slh 0.16.0\n")?))
+    Ok(Reply::text(String::from_str(alloc, "slh 1.0.0\n")?))
 }
 
 /// The answer to a request, or the refusal. No command is inlined, so that the stack holds the locals of only one.

@@ -1,5 +1,5 @@
-//! Chains of eight WOTS+ keys at once, one key in each lane of a group (FIPS 205, section 5), and what is stored of one of
-//! the keys meanwhile: nothing, the values of a signature (Algorithm 7), or checkpoints.
+//! The chains of eight WOTS+ keys at once, one key in each lane of a group (FIPS 205, section 5). Of one of the keys
+//! values are stored on the way: those of a signature (Algorithm 7), checkpoints, or none.
 ghost use Rattle.std.specs.Prelude.{◌≡◌, ◌≢◌, ◌⊎◌, ℕ, List, [], ◌+◌, ◌-◌, ◌*◌, ◌^◌, ◌≤◌, ◌<◌, length, slice_index};
 ghost use Rattle.slh_params.specs.Params.{Params, len};
 ghost use Rattle.slh_params.specs.ParamSet.{params};

@@ -18,7 +18,7 @@ import java.util.List;
 import java.util.Map;
 import java.util.concurrent.ConcurrentHashMap;
 
-/** The calls of libslh.so.0 and of the C library, over the foreign-function interface. */
+/** The calls of libslh.so.1 and of the C library, over the foreign-function interface. */
 final class Library {
     static final int DONE = 0;
     static final int INVALID = 30;
@@ -26,14 +26,14 @@ final class Library {
     /** Bytes that are enough for each refusal's name. */
     private static final int MAX_NAME = 20;
 
-    private static final String NAME = "libslh.so.0";
+    private static final String NAME = "libslh.so.1";
     private static final Linker LINKER = Linker.nativeLinker();
     private static final Map<String, MethodHandle> HANDLES = new ConcurrentHashMap<>();
     private static volatile SymbolLookup symbols;
 
     private Library() {}
 
-    /** The version of this package, as 0.16.0. */
+    /** The version of this package, as 1.0.0. */
     static String version() {
         try (InputStream in = Library.class.getResourceAsStream("VERSION")) {
             return new String(in.readAllBytes(), StandardCharsets.US_ASCII).strip();
