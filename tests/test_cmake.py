@@ -46,6 +46,34 @@ def test_page_asks_for_this_version():
     assert f"find_package(slh {version} REQUIRED)" in (HERE / "bindings/README.md").read_text()
 
 
+@pytest.mark.parametrize("change, is_found", [((0, 0), True), ((0, 1), False), ((1, 0), False), ((-1, 16), False)])
+def test_versions_that_are_found(installed, tmp_path, change, is_found):
+    """A version of the same first number and no earlier one."""
+    need("cmake", "cc")
+    asked = ".".join(str(int(it) + more) for it, more in zip((HERE / "VERSION").read_text().split("."), change))
+    (tmp_path / "CMakeLists.txt").write_text(
+        f"cmake_minimum_required(VERSION 3.13)\nproject(asks C)\nfind_package(slh {asked} REQUIRED)\n")
+    words = ["cmake", "-S", tmp_path, "-B", tmp_path / "built", f"-DCMAKE_PREFIX_PATH={installed}"]
+    if is_found:
+        succeed(*words)
+    else:
+        stops("compatible with requested version", *words)
+
+
+@pytest.mark.parametrize("asked, is_found", [("1.2.3", True), ("1.2", True), ("1", True), ("1.0", True), ("1.3", False),
+                                             ("1.2.4", False), ("2", False), ("0.16", False), ("12", False)])
+def test_later_minor_versions_serve(tmp_path, asked, is_found):
+    """By the file that CMake reads, as version 1.2.3 would install it."""
+    need("cmake")
+    text = (HERE / "bindings/cmake/slh-config-version.cmake.in").read_text()
+    (tmp_path / "version.cmake").write_text(text.replace("@version@", "1.2.3").replace("@pointer@", "8"))
+    (tmp_path / "asks.cmake").write_text(
+        f"set(PACKAGE_FIND_VERSION {asked})\nset(PACKAGE_FIND_VERSION_MAJOR {asked.split('.')[0]})\n"
+        f"include({tmp_path}/version.cmake)\nmessage(\"serves ${{PACKAGE_VERSION_COMPATIBLE}}\")\n")
+    said = run("cmake", "-P", tmp_path / "asks.cmake")
+    assert said.status == 0 and said.errors.decode() == f"serves {str(is_found).upper()}\n", said
+
+
 @TARGETS
 def test_vectors_over_target(pytestconfig, built, name):
     machines.vectors_through(pytestconfig, built / f"calls_{name}", few=True)

@@ -292,9 +292,23 @@ def shared(tmp_path):
     return makes
 
 
-def test_library_of_another_version_is_named(said_of, shared):
-    library = shared("unsigned slh_version(void) { return 9000; }\n")
-    assert f"is of version 0.9.0, and not {VERSION}" in said_of(library)
+def version_of(change):
+    """The number of a version whose first two numbers differ so from the package's."""
+    return sum(part * (int(it) + more) for part, it, more in zip((1000000, 1000), VERSION.split("."), change))
+
+
+@pytest.mark.parametrize("change", [(-1, 16), (1, 0)])
+def test_library_of_another_major_version_is_named(said_of, shared, change):
+    number = version_of(change)
+    library = shared(f"unsigned slh_version(void) {{ return {number}; }}\n")
+    text = f"is of version {number // 1000000}.{number // 1000 % 1000}.0, and not {VERSION} or a later one"
+    assert text in said_of(library)
+
+
+def test_library_of_a_later_minor_version_is_taken(said_of, shared):
+    """Then the first call that this library does not have is named."""
+    said = said_of(shared(f"unsigned slh_version(void) {{ return {version_of((0, 1))}; }}\n"))
+    assert "the library has no slh_" in said and "is of version" not in said
 
 
 @pytest.fixture

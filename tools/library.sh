@@ -181,6 +181,6 @@ else
 fi
 if [[ $target = x86-64 || $after_ci = source ]]; then
     # Releases up to 0.4 put the code for a level there, and glibc would load it in place of what is installed now.
-    rm -f "$prefix"/lib/glibc-hwcaps/x86-64-v{3,4}/libslh.so.1
+    rm -f "$prefix"/lib/glibc-hwcaps/x86-64-v{3,4}/libslh.so.*
 fi
 echo "installed in $prefix: $how"

@@ -146,7 +146,7 @@ func (secret *SecretKey) Erase() {
 
 // Destroy is Erase.
 //
-// Deprecated: use Erase. A later release removes this name.
+// Deprecated: use Erase. Version 2.0 or later may remove it.
 func (secret *SecretKey) Destroy() {
 	secret.Erase()
 }

@@ -27,7 +27,7 @@ type Options struct {
 	Once bool
 	// Twice asks for two computations, even if Once is set.
 	//
-	// Deprecated: two computations are the default. A later release removes this option.
+	// Deprecated: two computations are the default. Version 2.0 or later may remove it.
 	Twice bool
 	// Verify verifies a signature under the key's own public key before it is returned. If it is not valid, it is
 	// overwritten, and the call returns ErrFault.

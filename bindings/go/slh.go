@@ -105,7 +105,7 @@ var ErrErased = errors.New("slh: the secret key was erased")
 
 // ErrDestroyed is ErrErased.
 //
-// Deprecated: use ErrErased. A later release removes this name.
+// Deprecated: use ErrErased. Version 2.0 or later may remove it.
 var ErrDestroyed = ErrErased
 
 // ErrFault says that two computations of a signature differ, that the signature is not valid (Options.Verify), or that

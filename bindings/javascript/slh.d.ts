@@ -101,7 +101,7 @@ export interface SignOptions {
     once?: boolean;
     /**
      * Signs two times, even with `once`.
-     * @deprecated this is the default, and a later release removes the option
+     * @deprecated this is the default; version 2.0 or later may remove the option
      */
     twice?: boolean;
     /** Verifies the signature under the key's own public part. Throws a Fault if it is not valid. */

@@ -43,7 +43,7 @@ final class Library {
     }
 
     /**
-     * Loads the library, unless it is loaded. One that can't be found, or is of another version, is a
+     * Loads the library, unless it is loaded. One that can't be found, or does not fit, is a
      * ProviderException.
      */
     static synchronized void load() {
@@ -72,7 +72,7 @@ final class Library {
         return prefix == null ? NAME : Path.of(prefix, "lib", NAME).toAbsolutePath().toString();
     }
 
-    /** The first two numbers of both versions have to be equal. */
+    /** The first numbers of both versions have to be equal, and the second one of the library's not lower. */
     private static void compareVersions(String place, SymbolLookup found) {
         MethodHandle call = handle(found, "slh_version", List.of(), ValueLayout.JAVA_INT);
         int number;
@@ -81,9 +81,12 @@ final class Library {
         } catch (Throwable fault) {
             throw new ProviderException(fault);
         }
-        String theirs = number / 1000000 + "." + number / 1000 % 1000 + ".";
-        if (!version().startsWith(theirs)) {
-            throw new ProviderException(place + " is of version " + theirs + number % 1000 + ", and not " + version());
+        int major = number / 1000000;
+        int minor = number / 1000 % 1000;
+        String[] ours = version().split("\\.");
+        if (major != Integer.parseInt(ours[0]) || minor < Integer.parseInt(ours[1])) {
+            throw new ProviderException(place + " is of version " + major + "." + minor + "." + number % 1000
+                    + ", and not " + version() + " or a later one with its first number");
         }
     }
 

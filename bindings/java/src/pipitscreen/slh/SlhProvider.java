@@ -13,7 +13,7 @@ public final class SlhProvider extends Provider {
     private static final long serialVersionUID = 1L;
     private static final String FAMILY = "SLH-DSA";
 
-    /** Loads libslh. If it can't be found, or is of another version, this throws a ProviderException. */
+    /** Loads libslh. If it can't be found, or its version does not fit, this throws a ProviderException. */
     public SlhProvider() {
         super("Pipitscreen", Library.version(), "SLH-DSA (FIPS 205) with SHA-2");
         Library.load();

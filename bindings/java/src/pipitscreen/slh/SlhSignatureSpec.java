@@ -68,7 +68,7 @@ public final class SlhSignatureSpec implements AlgorithmParameterSpec {
      * Signs two times, also after once.
      *
      * @return these parameters, with two computations
-     * @deprecated two computations are the default, and a later release removes this method
+     * @deprecated two computations are the default; version 2.0 or later may remove this method
      */
     @Deprecated
     public SlhSignatureSpec twice() {
@@ -88,7 +88,7 @@ public final class SlhSignatureSpec implements AlgorithmParameterSpec {
      * Does what verify does.
      *
      * @return these parameters, with verifying
-     * @deprecated use verify: a later release removes this name
+     * @deprecated use verify: version 2.0 or later may remove this name
      */
     @Deprecated
     public SlhSignatureSpec verified() {
