@@ -396,6 +396,12 @@ def test_symbols_file_has_each_call(debs, release):
     assert all(version_of(it.split()[1]) <= version_of(version) for it in said[2:])
 
 
+def test_symbol_version_is_not_that_of_each_release():
+    """Else a program would depend on the release that it was linked with, and not on the first with its calls."""
+    major = NUMBER - 1
+    assert f"\nSLH_{major} {major}.0.0\n" in (HERE / "bindings/debian/symbols.since").read_text()
+
+
 def version_of(text):
     return tuple(map(int, text.split(".")))
 
