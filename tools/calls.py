@@ -60,7 +60,7 @@ ROWS = [
     ("a public key of bytes", NONE, "PublicKey", "from_bytes", "NewPublicKey", "PublicKey", "publicKey", "of"),
     ("the bytes of a key", NONE, "bytes", "as_bytes", "Bytes", "to_bytes", "toBytes", "toBytes getEncoded"),
     ("a second key of the same bytes", NONE, NONE, "duplicate", NONE, NONE, NONE, NONE),
-    ("overwrite a key", "slh_erase", "(its end)", "(drop)", "Erase Destroy", "erase", "erase", "destroy close"),
+    ("overwrite a key", "slh_erase", "(destructor)", "(drop)", "Erase Destroy", "erase", "erase", "destroy close"),
     ("read a key file", NONE, NONE, "load", "ReadSecretKeyFile ReadPublicKeyFile", "load",
      "loadSecretKey loadPublicKey", NONE),
     ("write a key file", NONE, NONE, "dump", "WriteFile", "dump", "dump", NONE),
