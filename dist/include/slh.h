@@ -55,7 +55,8 @@
  * A call that takes a secret key, its file, seeds or answers clears its traces before it returns. These are the stack
  * below its caller, and the registers that a call need not preserve. This is tested (SECURITY.md, "What a call
  * leaves"). The caller has to erase his buffers (slh_erase), copies by signals, swap or core dumps, and the stack of
- * the module for WebAssembly. The portable slh.c (docs/MACHINES.md) allocates memory, and erases only that.
+ * the module for WebAssembly. The portable slh.c (docs/MACHINES.md) allocates memory, and erases only that. A library
+ * that tools/library.sh built --from-source clears nothing.
  *
  *
  * Calls take their arguments in this order:
@@ -70,10 +71,10 @@
  *
  * A call returns SLH_DONE (0), SLH_INVALID (30, only slh_check and the verify calls), or a refusal's number. The
  * exceptions are slh_version, slh_level, slh_erase, slh_refusal_text, and the two hardened calls, which return
- * SLH_HARDENED_VALID or SLH_HARDENED_INVALID. The other calls check their arguments in this order, and return the first
- * number that applies:
+ * SLH_HARDENED_VALID or SLH_HARDENED_INVALID. The other calls check their arguments in the order of this list, and
+ * return the first number that applies:
  *
- *   SLH_OLD_PROCESSOR          the processor is below x86-64-v2, and the library has several levels (slh_level)
+ *   SLH_OLD_PROCESSOR          the library has several levels (slh_level), and the processor is below x86-64-v2
  *   SLH_NO_SUCH_REFUSAL        slh_refusal_name alone: the number is not a result's
  *   SLH_NO_SUCH_SET            the number is not a set's
  *   SLH_NO_SUCH_FUNCTION       the number is not a pre-hash function's
@@ -89,9 +90,9 @@
  *                              slh_verify_hashed than the set's
  *   SLH_BAD_RANDOMIZER_LENGTH  the randomizer has neither 0 nor n bytes
  *   SLH_BAD_START_LENGTH       the start has another length than the set's
- *   SLH_BAD_OUTPUT_LENGTH      the output has another length than the bytes to write, or too little room in the
- *                              calls that read or write a form of keys and in slh_refusal_name
- *   SLH_BAD_ANSWERS_LENGTH     the answers have another length than those of all jobs
+ *   SLH_BAD_OUTPUT_LENGTH      the output is not as long as what the call writes. In slh_refusal_name and the calls
+ *                              for key files, DER and PEM: it has too little room
+ *   SLH_BAD_ANSWERS_LENGTH     the answers are not as long as those of all jobs together
  *   SLH_BAD_START              the start does not have its tag under this key
  *   SLH_ANSWERS_DISAGREE       the answers don't fit together
  *   SLH_CONTEXT_TOO_LONG       signing under a context of over 255 bytes
@@ -214,8 +215,9 @@ SLH_MUST_USE SLH_API
 uint32_t slh_der_read(const uint8_t *der, size_t der_len, uint32_t *set, uint32_t *kind, uint8_t *key, size_t key_len);
 
 /*
- * To read the same in PEM: base64 in lines of 64 characters between the lines of a PUBLIC KEY or a PRIVATE KEY. pem has
- * the whole file, without a zero byte behind it. Its last line feed may be missing.
+ * To read such a key in PEM. Its first and last line name a PUBLIC KEY or a PRIVATE KEY. Lines of base64 stand between
+ * them, and each but the last has 64 characters. pem has the whole file, without a zero byte behind it. The last line
+ * feed of the file may be missing.
  * Returns: as slh_der_read.
  */
 SLH_MUST_USE SLH_API
@@ -398,11 +400,11 @@ SLH_API
 void slh_erase(void *bytes, size_t n);
 
 /*
- * To ask which code runs: 2, 3 or 4 for that of x86-64-v2, x86-64-v3 or x86-64-v4, the best level that processor and
- * system have. Also 2 if SHA instructions hash all of SHA-256. On Linux on 64-bit ARM 2 for NEON, 3 for the
- * instructions of SHA-256, and 4 if those of SHA-512 are there, too. All give equal bytes. 0 on a processor below
- * x86-64-v2: there this library has no code, and its calls return SLH_OLD_PROCESSOR. Also 0 if the library has only one
- * level: on other machines, and in libslh-v2.a, libslh-v3.a and libslh-v4.a. These return no SLH_OLD_PROCESSOR.
+ * To ask which code runs. On x86-64: 2, 3 or 4 for x86-64-v2, x86-64-v3 or x86-64-v4, the best level that processor and
+ * system have; also 2 if SHA instructions hash all of SHA-256. On Linux on 64-bit ARM: 2 for NEON, 3 for the
+ * instructions of SHA-256, and 4 for those of SHA-512, too. All give equal bytes. 0 on a processor below x86-64-v2:
+ * there this library has no code, and its calls return SLH_OLD_PROCESSOR. Also 0 if the library has only one level: on
+ * other machines, and in libslh-v2.a, libslh-v3.a and libslh-v4.a. These return no SLH_OLD_PROCESSOR.
  */
 SLH_MUST_USE SLH_API
 uint32_t slh_level(void);
@@ -437,11 +439,11 @@ uint32_t slh_level(void);
  * to n bytes. Its text has the kind of the tagged thing, the number of the encoding and those of the set. For a start,
  * PK.root, R and the digest follow; for a node the start (in signing), the levels, the job and the node. Two different
  * things never have one text. So another key, set, R, digest, cutting or job gives another tag, unless two values of
- * HMAC are equal by chance. Tests try that none are; it is not proved.
+ * HMAC are equal by chance. In tests none were; it is not proved.
  *
  * Bytes of an answer that the signature doesn't need are not read. The layout of an answer may change with the next
- * version. The number of the encoding is in the text of every tag, so a version with another one refuses these starts
- * and answers.
+ * major version. The number of the encoding is in the text of every tag, so a version with another one refuses these
+ * starts and answers.
  *
  *
  * Faults

@@ -35,11 +35,11 @@
 #include <stdint.h>
 
 /* The version of this header: three numbers, the number that slh_version returns for it, and the text. */
-#define SLH_VERSION_MAJOR 0
-#define SLH_VERSION_MINOR 16
+#define SLH_VERSION_MAJOR 1
+#define SLH_VERSION_MINOR 0
 #define SLH_VERSION_PATCH 0
 #define SLH_VERSION_NUMBER (1000000 * SLH_VERSION_MAJOR + 1000 * SLH_VERSION_MINOR + SLH_VERSION_PATCH)
-#define SLH_VERSION "0.16.0"
+#define SLH_VERSION "1.0.0"
 
 /* Marks each call whose result has to be checked: compilers that can do so warn if it is ignored. */
 #if defined(__cplusplus) && __cplusplus >= 201703L
@@ -89,8 +89,8 @@ enum slh_function {
  * The results of the calls of this header and of slh.h. No call returns 1. OpenSSL and BoringSSL return 1 for a valid
  * signature: if SLH_INVALID were 1, their test `== 1` would accept exactly the forgeries. Only the portable C returns
  * SLH_NO_MEMORY (docs/MACHINES.md): malloc refused the memory of the call, the arguments do not fit into the device's
- * memory, or another call uses it. This is checked first, and nothing is written. So is SLH_OLD_PROCESSOR, which only
- * the library of several x86-64 levels returns: the processor is below x86-64-v2 (slh.h, slh_level).
+ * memory, or another call uses it. This is checked first, and nothing is written. Only the library of several x86-64
+ * levels returns SLH_OLD_PROCESSOR, also first: the processor is below x86-64-v2 (slh.h, slh_level).
  */
 enum slh_result {
     SLH_DONE = 0,
@@ -210,7 +210,7 @@ uint32_t slh_hash_verify(uint32_t set, uint32_t function, const uint8_t *pk, siz
 /*
  * The results of the hardened calls. Each number is the sum of two halves. The computed root is compared with PK.root
  * two times, one time for each half: a fault that turns one comparison gives neither number. SLH_IS_VALID tests a
- * variable, which it reads three times, so that a test that is skipped does not decide. Write it as the whole condition
+ * variable, which it reads three times, so that skipping one test does not decide. Write it as the whole condition
  * of the `if` that boots. No code behind that `if` may boot. `volatile` keeps both writes:
  *
  *   volatile uint32_t verdict = SLH_HARDENED_INVALID;

@@ -1,5 +1,5 @@
 /*
- * SLH-DSA (FIPS 205) with SHA-2 as portable C: all calls of slh.h and slh_internal.h. Version 0.16.0.
+ * SLH-DSA (FIPS 205) with SHA-2 as portable C: all calls of slh.h and slh_internal.h. Version 1.0.0.
  *
  * SPDX-License-Identifier: MIT OR Apache-2.0
  *
@@ -40,7 +40,7 @@
 #define STOP(why) ((void)(why), abort())
 #define MEMORY_BYTES
 
-#define MODULE_VERSION 16000
+#define MODULE_VERSION 1000000
 #define ADDRESS_BITS 64
 #define STACK_TOP UINT64_C(1048576)
 #define STACK_BYTES 59392

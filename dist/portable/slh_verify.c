@@ -1,5 +1,5 @@
 /*
- * Verifying signatures of SLH-DSA (FIPS 205) with SHA-2 as portable C: the calls of slh_verify.h. Version 0.16.0.
+ * Verifying signatures of SLH-DSA (FIPS 205) with SHA-2 as portable C: the calls of slh_verify.h. Version 1.0.0.
  *
  * SPDX-License-Identifier: MIT OR Apache-2.0
  *
@@ -55,7 +55,7 @@
 #endif
 #define MEMORY_BYTES (SLH_VERIFY_MEMORY - 2 * 8)
 
-#define MODULE_VERSION 16000
+#define MODULE_VERSION 1000000
 #define ADDRESS_BITS 32
 #define STACK_TOP UINT32_C(1048576)
 #define STACK_BYTES 6432

@@ -28,11 +28,11 @@ endfunction()
 
 _slh_library(slh STATIC libslh.a)
 _slh_library(verify STATIC libslh_verify.a)
-_slh_library(shared SHARED libslh.so.0)
+_slh_library(shared SHARED libslh.so.1)
 _slh_library(shared SHARED ../bin/slh.dll)
 if(TARGET slh::shared)
     set_target_properties(
-        slh::shared PROPERTIES IMPORTED_SONAME libslh.so.0 IMPORTED_IMPLIB "${_slh_lib}/slh.lib"
+        slh::shared PROPERTIES IMPORTED_SONAME libslh.so.1 IMPORTED_IMPLIB "${_slh_lib}/slh.lib"
     )
 endif()
 

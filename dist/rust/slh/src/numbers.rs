@@ -2,7 +2,7 @@
 //! The numbers of the headers for C.
 
 /// `slh_version` of the version that these declarations are of.
-pub const SLH_VERSION_NUMBER: u32 = 16_000;
+pub const SLH_VERSION_NUMBER: u32 = 1_000_000;
 /// The number of the set SLH-DSA-SHA2-128s.
 pub const SLH_DSA_SHA2_128S: u32 = 1;
 /// The number of the set SLH-DSA-SHA2-128f.

@@ -19,7 +19,7 @@ pub struct Options<'a> {
     /// [`Workers`](crate::Workers) each of its jobs, and all bytes are compared. If they differ nothing is signed:
     /// [`Error::Fault`]. One wrong signature under a key can be enough to forge others (SECURITY.md, "Faults").
     pub once: bool,
-    /// Asks for two computations, even with `once`. A later release removes this field.
+    /// Asks for two computations, even with `once`. Version 2.0 or later may remove it.
     #[deprecated(note = "two computations are the default: leave it out")]
     pub twice: bool,
     /// Verifies the signature under the public key before it is returned. If it is not valid it is overwritten with

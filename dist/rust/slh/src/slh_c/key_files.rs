@@ -34,7 +34,7 @@ fn put(bytes: &[u8], out: &mut [u8]) {
     rest.fill(0);
 }
 
-/// What `read_key` gave, as `slh_key_read` writes it.
+/// Writes what `read_key` gave, as `slh_key_read` does, and returns the number of its answer.
 pub(crate) fn put_key(it: &AnyKey, set: &mut u32, kind: &mut u32, key: &mut [u8]) -> u32 {
     let (of, of_kind, bytes) = match it {
         AnyKey::Public(it) => (it.set(), KeyKind::Public, it.bytes()),

@@ -44,8 +44,8 @@ pub fn slh_der_write(set: u32, kind: u32, of: &[u8], written: &mut u32, der: &mu
     DONE
 }
 
-/// Writes a key in PEM, which has `written` bytes, and zeros from there to the end of `pem`, at least one; else as
-/// `slh_der_write`, by `pem_write_rules`.
+/// Writes a key in PEM, and zeros from there to the end of `pem`, at least one. `written` becomes the number of bytes
+/// before the zeros. `pem_write_rules` has what it refuses.
 pub fn slh_pem_write(set: u32, kind: u32, of: &[u8], written: &mut u32, pem: &mut [u8]) -> u32 {
     let set = or_refuse!(set_of(set));
     let Some(kind) = kind_of(kind) else {

@@ -4,5 +4,5 @@
 /// The library's version, that of the file `VERSION`, as one number: 1,000,000 times its first part, 1,000 times its
 /// second, and its third.
 pub fn slh_version() -> u32 {
-    16_000
+    1_000_000
 }

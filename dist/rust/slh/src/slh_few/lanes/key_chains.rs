@@ -1,6 +1,6 @@
 // Made by tools/plain_rust.py from crates/slh_few/src/lanes/key_chains.rt.
-//! Chains of eight WOTS+ keys at once, one key in each lane of a group (FIPS 205, section 5), and what is stored of one of
-//! the keys meanwhile: nothing, the values of a signature (Algorithm 7), or checkpoints.
+//! The chains of eight WOTS+ keys at once, one key in each lane of a group (FIPS 205, section 5). Of one of the keys
+//! values are stored on the way: those of a signature (Algorithm 7), checkpoints, or none.
 
 use crate::slh_few::key_checkpoints::{checkpoint_count, put_checkpoint, spacing};
 use crate::slh_few::lanes::chains::ChainNumbers;
