@@ -112,7 +112,7 @@ def test_tag_has_the_entry_and_the_hash_of_the_list(release):
 
 
 @pytest.mark.parametrize("old, new, said", [
-    ("version 0", "version 99", b"has another hash of BUILD"), ("", "", b"has no entry of 99.1.1")])
+    ("version ", "version 9", b"has another hash of BUILD"), ("", "", b"has no entry of 99.1.1")])
 def test_no_tag_of_another_release(release, tmp_path, old, new, said):
     build = (release / "BUILD").read_text()
     sums = (release / "SHA256SUMS").read_text()

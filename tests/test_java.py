@@ -305,10 +305,11 @@ def test_library_of_another_major_version_is_named(said_of, shared, change):
     assert text in said_of(library)
 
 
-def test_library_of_a_later_minor_version_is_taken(said_of, shared):
-    """Then the first call that this library does not have is named."""
-    said = said_of(shared(f"unsigned slh_version(void) {{ return {version_of((0, 1))}; }}\n"))
-    assert "the library has no slh_" in said and "is of version" not in said
+def test_library_of_a_later_minor_version_is_taken(java, env, jar, shared, tmp_path):
+    """The provider is made over one that has no call but this."""
+    library = shared(f"unsigned slh_version(void) {{ return {version_of((0, 1))}; }}\n")
+    (tmp_path / "Make.java").write_text(MAKE)
+    succeed(*java(jar, library=library), tmp_path / "Make.java", env=env)
 
 
 @pytest.fixture
