@@ -433,6 +433,18 @@ def python_package(installed_as_is, tmp_path_factory):
     return folder
 
 
+@pytest.fixture(scope="module")
+def chosen(request):
+    """The values of a parameter in those selected tests of a file that have these others: chosen(NAME, OTHER=VALUE)."""
+
+    def values(name, **others):
+        mine = [it for it in request.session.items if it.path == request.path and hasattr(it, "callspec")]
+        params = [it.callspec.params for it in mine]
+        return [it[name] for it in params if name in it and others.items() <= it.items()]
+
+    return values
+
+
 @pytest.fixture(scope="session")
 def kit():
     """The command `rt` of the kit."""

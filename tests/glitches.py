@@ -2,7 +2,8 @@
 """Disturbs the end of a verification on an emulated processor, one instruction at a time, and looks what a boot loader
 makes of it.
 
-usage: tests/glitches.py [--few] MACHINE PROGRAM [SEED]      MACHINE is cortex-m4, cortex-m0 or riscv32
+usage: tests/glitches.py [--few] MACHINE CALL PROGRAM [SEED]      MACHINE is cortex-m4, cortex-m0 or riscv32,
+                                                                  CALL is plain or hardened
 
 PROGRAM is tests/glitched.c over a library of the machine, linked for address 0x10000 and above. It runs in Unicorn, of
 which Python needs the module. First an image is verified whose signature is valid, so that all which that leaves in
@@ -270,44 +271,53 @@ def hand_over(machine, arguments):
         machine.write(f"{name}_len", struct.pack("<I", len(arguments[name])))
 
 
+def cases(few):
+    """The arguments of calls that are disturbed, by what is wrong with them."""
+    valid = given()
+    damaged = valid["signature"][:-1] + bytes([valid["signature"][-1] ^ 1])
+    found = {"a flipped bit": {**valid, "signature": damaged}}
+    if not few:
+        found["a byte behind"] = {**valid, "signature": valid["signature"] + b"\0"}
+    return found
+
+
+def try_case(machine, call, arguments, few, about):
+    """Disturbs a call with these arguments, and counts whether as many were turned as have to be."""
+    hand_over(machine, arguments)
+    begun = machine.keep()
+    machine.begin(call)
+    machine.go()
+    end = machine.end
+    machine.put_back(begun)
+    hashes = to_last_hash(machine, call)
+    steps, tried, turned = disturb(machine, few, hashes == 0)
+    well = end == "refused" and steps > 50 and bool(turned) == (call == "plain")
+    print(f"{about}: {len(turned)} of {tried} boot; {steps} instructions after {hashes} hashes")
+    for it in turned[:20]:
+        print("  ", it)
+    count("passed" if well else "failed")
+    if hashes and call == "hardened" and not few:
+        machine.put_back(begun)
+        booted = disturb_anywhere(machine, call, hashes, DRAWS)
+        print(f"{about}: {booted} of {DRAWS} boot, of faults drawn from the whole call")
+        count("failed" if booted else "passed")
+
+
 def main(words):
     few = words[:1] == ["--few"]
-    name, file, *seed = words[few:]
+    name, call, file, *seed = words[few:]
     seed = int(seed[0]) if seed else random.randrange(1 << 30)
     random.seed(seed)
     print(f"{name}: the draws are of seed {seed}")
-    valid = given()
-    damaged = valid["signature"][:-1] + bytes([valid["signature"][-1] ^ 1])
-    cases = {"a flipped bit": {**valid, "signature": damaged}}
-    if not few:
-        cases["a byte behind"] = {**valid, "signature": valid["signature"] + b"\0"}
-    for call in ("plain", "hardened"):
-        machine = Machine(name, file)
-        machine.name = name
-        hand_over(machine, valid)
-        machine.begin(call)
-        machine.go()
-        is_valid = machine.end == "booted"
-        count("passed" if is_valid else "failed", f"{name}, {call}: a valid signature: {machine.end}")
-        for case, arguments in cases.items():
-            hand_over(machine, arguments)
-            begun = machine.keep()
-            machine.begin(call)
-            machine.go()
-            end = machine.end
-            machine.put_back(begun)
-            hashes = to_last_hash(machine, call)
-            steps, tried, turned = disturb(machine, few, hashes == 0)
-            well = end == "refused" and steps > 50 and bool(turned) == (call == "plain")
-            print(f"{name}, {call}, {case}: {len(turned)} of {tried} boot; {steps} instructions after {hashes} hashes")
-            for it in turned[:20]:
-                print("  ", it)
-            count("passed" if well else "failed")
-            if hashes and call == "hardened" and not few:
-                machine.put_back(begun)
-                booted = disturb_anywhere(machine, call, hashes, DRAWS)
-                print(f"{name}, {call}, {case}: {booted} of {DRAWS} boot, of faults drawn from the whole call")
-                count("failed" if booted else "passed")
+    machine = Machine(name, file)
+    machine.name = name
+    hand_over(machine, given())
+    machine.begin(call)
+    machine.go()
+    is_valid = machine.end == "booted"
+    count("passed" if is_valid else "failed", f"{name}, {call}: a valid signature: {machine.end}")
+    for case, arguments in cases(few).items():
+        try_case(machine, call, arguments, few, f"{name}, {call}, {case}")
     end_counts()
 
 

@@ -1,11 +1,12 @@
 #!/usr/bin/env python3
 """Holds the library for C, as a shared object, against signatures that other implementations made.
 
-usage: tests/library_vectors.py [--verify-only] LIBRARY [VECTORS]
-       tests/library_vectors.py [--few | --verify-only] --through COMMAND [VECTORS]
+usage: tests/library_vectors.py [--part K/N] [--verify-only] LIBRARY [VECTORS]
+       tests/library_vectors.py [--part K/N] [--few | --verify-only] --through COMMAND [VECTORS]
 
 LIBRARY is libslh.so as tools/library.sh installs it, VECTORS a folder of vector files (default: vectors). With
---verify-only LIBRARY has the calls of slh_verify.h alone, and what needs another call is passed over.
+--verify-only LIBRARY has the calls of slh_verify.h alone, and what needs another call is passed over. With --part only
+each N-th test is run, from the K-th on.
 
 With --through the calls are made by a program, as `qemu-aarch64 calls`: tests/target_calls.c says what it reads and
 writes. It must also leave its inputs as they are. Since such a program is slow, of a sign test under a set whose name
@@ -32,8 +33,9 @@ Of one sign test of each set whose name ends in f, each answer in turn has a wro
 a job would write it. Where the node is one above the leaf that signs, or of the top tree, it is not joined; elsewhere
 the signature is another one, and valid. A start, and answers, with the tags of another encoding are refused.
 
-Four tests at a time are run, each in a thread, but a LIBRARY with --verify-only has one memory, and so one thread. The
-last line has the counts, and the status is 0 where no test failed and each program ended well.
+Four tests at a time are run, each in a thread, but a LIBRARY with --verify-only has one memory, and so one thread. A
+part has one, too, since each emulator that is begun translates the library anew. The last line has the counts, and the
+status is 0 where no test failed and each program ended well.
 """
 import concurrent.futures
 import ctypes
@@ -116,6 +118,8 @@ few = verify_only = is_through = False
 # Whether of a sign test under a set whose name ends in s the first call alone is made. A program that imports this file
 # may set it.
 is_brief = False
+# Which tests are run: from the first of these numbers on, in steps of the other.
+part = 1, 1
 library, vectors = None, here / "tests/vectors"
 
 
@@ -126,7 +130,9 @@ def loaded(path):
 
 def take(words):
     """Takes the words of the command."""
-    global few, verify_only, is_through, is_brief, library, vectors
+    global part, few, verify_only, is_through, is_brief, library, vectors
+    if words[:1] == ["--part"]:
+        part, words = tuple(map(int, words[1].split("/"))), words[2:]
     few, verify_only = ("--few" in words[:1]), ("--verify-only" in words[:1])
     is_through = is_brief = words[few or verify_only] == "--through"
     library, vectors = (words[(few or verify_only) + is_through :] + [vectors])[:2]
@@ -438,7 +444,7 @@ def all_tests():
         tests += [(file, number, dict(test, kind="faults")) for file, number, test in pure[:1]]
     if verify_only:
         tests = [it for it in tests if it[2]["kind"] == "verify" and it[2]["form"] != "internal"]
-    return tests
+    return tests[part[0] - 1 :: part[1]]
 
 
 def passes(test):
@@ -449,7 +455,8 @@ def passes(test):
 def main():
     take(sys.argv[1:])
     tests = all_tests()
-    with concurrent.futures.ThreadPoolExecutor(1 if verify_only and not is_through else 4) as pool:
+    is_alone = part[1] > 1 or (verify_only and not is_through)
+    with concurrent.futures.ThreadPoolExecutor(1 if is_alone else 4) as pool:
         passed = list(pool.map(lambda it: passes(it[2]), tests))
     for (name, number, test), well in zip(tests, passed):
         if not well:

@@ -179,11 +179,16 @@ def calls_program(compiled, machine, include, *words):
                     cc=machine.cc)
 
 
-def vectors_through(config, *command, verify_only=False, few=False, vectors=VECTORS):
+def parts(number):
+    """The names of so many parts of the vectors, for a test that takes one of them."""
+    return [f"{it}/{number}" for it in range(1, number + 1)]
+
+
+def vectors_through(config, *command, part="1/1", verify_only=False, few=False, vectors=VECTORS):
     """Runs vectors through the calls of a program. With --all it runs all tests of keys and of signing, unless FEW."""
     how = ["--verify-only"] if verify_only else ["--few"] if few or not config.option.all else []
     words = " ".join(f"'{it}'" for it in command)
-    counted(sys.executable, TESTS / "library_vectors.py", *how, "--through", words, vectors)
+    counted(sys.executable, TESTS / "library_vectors.py", "--part", part, *how, "--through", words, vectors)
 
 
 def short_vectors(folder):

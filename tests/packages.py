@@ -48,7 +48,7 @@ def lines_of(*words, env=os.environ, **options):
     lines = outcome.output.decode(errors="replace").splitlines()
     failed = re.fullmatch(r"\d+ passed, (\d+) failed(, \d+ skipped)?", lines[-1] if lines else "")
     assert failed, f"it printed no counts, and ended with status {outcome.status}: {text_of(outcome)[-4000:]}"
-    assert outcome.status == (failed[1] != "0"), f"it ended with status {outcome.status}: {lines[-1]}"
+    assert outcome.status == (failed[1] != "0"), f"it ended with status {outcome.status}: {lines[-20:]}"
     return lines
 
 

@@ -8,12 +8,14 @@
  * is handed nothing but the public key, the message and the signature, which makes them public by definition.
  *
  * With LEAK=1 the library's memcpy has a branch on the first byte that it copies, with LEAK=2 it takes each byte from a
- * table: memcheck must tell of both. Then keys and signatures in one thread are tried alone.
+ * table: memcheck must tell of both.
  *
- * usage: valgrind secrets [SET]      the number of a set, without it 128f, 192f and 256f
+ * usage: secrets SET >SIGNATURES                      SET is the number of a set
+ *        valgrind secrets SET SIGNATURES PART..       a part is one of `parts` or of `signing`, or NAME-random
  *
- * It prints a line for each call, with how many branches and addresses memcheck told of, and how many verdicts there
- * are by SECURITY.md, which are all that it may tell of. The last line has the counts.
+ * The signatures are those that the calls have to give. They are made without memcheck, which takes some fifty times as
+ * long. It prints a line for each call, with its part, how many branches and addresses memcheck told of, and how many
+ * verdicts there are by SECURITY.md, which are all that it may tell of. The last line has the counts.
  */
 #include <slh_internal.h>
 
@@ -30,10 +32,13 @@ static const struct {
 } sets[SETS] = {{SLH_DSA_SHA2_128F, 22}, {SLH_DSA_SHA2_192F, 22}, {SLH_DSA_SHA2_256F, 17}};
 
 static const uint8_t msg[] = "a message that is signed", formatted[] = "\0\0a message that is signed";
+static const uint32_t function = SLH_SHA2_256;
+static const char *part;
 static uint32_t set, d, jobs;
 static size_t pk_len, sk_len, sig_len, n, start_len, answers_len;
 static uint8_t seeds[3 * SLH_MAX_N], sk[SLH_MAX_SECRET_KEY], sig[SLH_MAX_SIGNATURE], start[SLH_MAX_START];
 static uint8_t random_bytes[SLH_MAX_N], digest[32], made[SLH_MAX_SIGNATURE], scratch[2 * SLH_MAX_SIGNATURE], *answers;
+static FILE *signatures;
 static int passed, failed;
 
 static void must(int holds, const char *what) {
@@ -115,7 +120,6 @@ word H_MSG(word a, word b, word c, word e, word f, word g, word h, word i, word 
 }
 
 #ifdef LEAK
-#define UNUSED_WHERE_IT_LEAKS __attribute__((unused))
 void *memcpy(void *restrict to, const void *restrict from, size_t len) {
     static volatile uint8_t table[256];
     volatile uint8_t *out = to;
@@ -133,8 +137,6 @@ void *memcpy(void *restrict to, const void *restrict from, size_t len) {
     }
     return to;
 }
-#else
-#define UNUSED_WHERE_IT_LEAKS
 #endif
 
 /* Hides the secrets, or shows them again. */
@@ -155,8 +157,8 @@ static void hide(int are_hidden) {
 static void tell(const char *what, unsigned told, unsigned least, unsigned most, size_t public) {
     int holds = least <= told && told <= most && declared >= public;
     holds ? passed++ : failed++;
-    printf("set %u, %s: %u branches or addresses, where verdicts are %u to %u, %zu values declared, at least %zu: %s\n",
-           (unsigned)set, what, told, least, most, declared, public, holds ? "yes" : "no");
+    printf("%s, set %u, %s: %u branches or addresses, where verdicts are %u to %u, %zu values declared, at least %zu: "
+           "%s\n", part, (unsigned)set, what, told, least, most, declared, public, holds ? "yes" : "no");
 }
 
 /* What memcheck tells of a call must be verdicts: so many, or up to `most`. At least so many values must be declared
@@ -174,14 +176,52 @@ static void tell(const char *what, unsigned told, unsigned least, unsigned most,
     } while (0)
 #define TRY(what, verdicts, public, call) TRY_UP_TO(what, verdicts, verdicts, public, call)
 
-/* Has slh_verify say what is public of a signature: R, and what each layer signs. */
-static void learn(uint32_t function, const uint8_t *it) {
+/* The forms of a signature: of a message, of its hash, and of a digest. */
+enum { PURE, PRE_HASH, OF_DIGEST, FORMS };
+
+static uint32_t sign(int form, size_t len, uint8_t *out) {
+    if (form == PURE)
+        return slh_sign(set, sk, sk_len, msg, sizeof msg, NULL, 0, random_bytes, len, out, sig_len);
+    if (form == PRE_HASH)
+        return slh_hash_sign(set, function, sk, sk_len, msg, sizeof msg, NULL, 0, random_bytes, len, out, sig_len);
+    return slh_hash_sign_digest(set, function, sk, sk_len, digest, 32, NULL, 0, random_bytes, len, out, sig_len);
+}
+
+static uint32_t sign_twice(int form, size_t len, uint8_t *out) {
+    if (form == PURE)
+        return slh_sign_twice(set, sk, sk_len, msg, sizeof msg, NULL, 0, random_bytes, len, scratch, 2 * sig_len, out,
+                              sig_len);
+    if (form == PRE_HASH)
+        return slh_hash_sign_twice(set, function, sk, sk_len, msg, sizeof msg, NULL, 0, random_bytes, len, scratch,
+                                   2 * sig_len, out, sig_len);
+    return slh_hash_sign_digest_twice(set, function, sk, sk_len, digest, 32, NULL, 0, random_bytes, len, scratch,
+                                      2 * sig_len, out, sig_len);
+}
+
+static uint32_t verify(int form) {
+    const uint8_t *pk = sk + 2 * n;
+    if (form == PURE) return slh_verify(set, pk, pk_len, msg, sizeof msg, NULL, 0, sig, sig_len);
+    if (form == PRE_HASH) return slh_hash_verify(set, function, pk, pk_len, msg, sizeof msg, NULL, 0, sig, sig_len);
+    return slh_hash_verify_digest(set, function, pk, pk_len, digest, 32, NULL, 0, sig, sig_len);
+}
+
+/* Writes the signatures of each form, without a randomizer and with one of `n` bytes. */
+static void write_signatures(void) {
+    for (int form = 0; form < FORMS; form++)
+        for (size_t len = 0; len <= n; len += n) {
+            must(sign(form, len, sig) == SLH_DONE, "sign");
+            must(fwrite(sig, sig_len, 1, stdout) == 1, "a signature can't be written");
+        }
+}
+
+/* Reads a signature, and has the call that verifies it say what is public of it: R, and what each layer signs. */
+static void learn(int form, size_t len) {
+    long place = (2 * form + (len > 0)) * (long)sig_len;
+    must(fseek(signatures, place, SEEK_SET) == 0 && fread(sig, sig_len, 1, signatures) == 1, "there is no signature");
     known_count = 0;
-    memmove(known[known_count++], it, n);
+    memmove(known[known_count++], sig, n);
     mode = LEARNS;
-    uint32_t result = function == 0
-        ? slh_verify(set, sk + 2 * n, pk_len, msg, sizeof msg, NULL, 0, it, sig_len)
-        : slh_hash_verify(set, function, sk + 2 * n, pk_len, msg, sizeof msg, NULL, 0, it, sig_len);
+    uint32_t result = verify(form);
     mode = NEITHER;
     must(result == SLH_DONE && known_count > d, "the signature is not valid, or digits_of was not wrapped");
 }
@@ -220,60 +260,46 @@ static void keys(void) {
     TRY_UP_TO("slh_check", 1, (unsigned)n / 4 + 1, 0, slh_check(set, sk, sk_len));
 }
 
-/* Signing in a form, with a randomizer of `len` bytes. */
-static void pure(size_t len) {
-    must(slh_sign(set, sk, sk_len, msg, sizeof msg, NULL, 0, random_bytes, len, sig, sig_len) == SLH_DONE, "sign");
-    learn(0, sig);
-    TRY("slh_sign", 0, 1 + d,
-        slh_sign(set, sk, sk_len, msg, sizeof msg, NULL, 0, random_bytes, len, made, sig_len));
-    must(memcmp(made, sig, sig_len) == 0, "another signature");
-    TRY("slh_sign_twice", 2, 1 + d,
-        slh_sign_twice(set, sk, sk_len, msg, sizeof msg, NULL, 0, random_bytes, len, scratch, 2 * sig_len, made,
-                       sig_len));
-    must(memcmp(made, sig, sig_len) == 0, "another signature, signed twice");
-    TRY("slh_sign_internal", 0, 1 + d,
-        slh_sign_internal(set, sk, sk_len, formatted, sizeof formatted, random_bytes, len, made, sig_len));
-    must(memcmp(made, sig, sig_len) == 0, "another signature by the internal call");
+/* What was made has to be the signature that was read. No later call finds it there. */
+static void compare(const char *what) {
+    must(memcmp(made, sig, sig_len) == 0, what);
+    memset(made, 0, sizeof made);
 }
 
-static void pre_hash(size_t len) {
-    const uint32_t function = SLH_SHA2_256;
-    must(slh_hash_sign(set, function, sk, sk_len, msg, sizeof msg, NULL, 0, random_bytes, len, sig, sig_len) ==
-         SLH_DONE, "hash_sign");
-    learn(function, sig);
-    TRY("slh_hash_sign", 0, 1 + d,
-        slh_hash_sign(set, function, sk, sk_len, msg, sizeof msg, NULL, 0, random_bytes, len, made, sig_len));
-    must(memcmp(made, sig, sig_len) == 0, "another signature of the pre-hash form");
-    TRY("slh_hash_sign_twice", 2, 1 + d,
-        slh_hash_sign_twice(set, function, sk, sk_len, msg, sizeof msg, NULL, 0, random_bytes, len, scratch,
-                            2 * sig_len, made, sig_len));
-    must(slh_hash_sign_digest(set, function, sk, sk_len, digest, 32, NULL, 0, random_bytes, len, sig, sig_len) ==
-         SLH_DONE, "hash_sign_digest");
-    known_count = 0;
-    mode = LEARNS;
-    must(slh_hash_verify_digest(set, function, sk + 2 * n, pk_len, digest, 32, NULL, 0, sig, sig_len) == SLH_DONE,
-         "a digest's signature is not valid");
-    memmove(known[known_count++], sig, n);
-    TRY("slh_hash_sign_digest", 0, 1 + d,
-        slh_hash_sign_digest(set, function, sk, sk_len, digest, 32, NULL, 0, random_bytes, len, made, sig_len));
-    TRY("slh_hash_sign_digest_twice", 2, 1 + d,
-        slh_hash_sign_digest_twice(set, function, sk, sk_len, digest, 32, NULL, 0, random_bytes, len, scratch,
-                                   2 * sig_len, made, sig_len));
+/* Signing in a form, with a randomizer of `len` bytes. */
+static void once(int form, size_t len) {
+    static const char *const names[] = {"slh_sign", "slh_hash_sign", "slh_hash_sign_digest"};
+    learn(form, len);
+    TRY(names[form], 0, 1 + d, sign(form, len, made));
+    compare("another signature");
+}
+
+static void twice(int form, size_t len) {
+    static const char *const names[] = {"slh_sign_twice", "slh_hash_sign_twice", "slh_hash_sign_digest_twice"};
+    learn(form, len);
+    TRY(names[form], 2, 1 + d, sign_twice(form, len, made));
+    compare("another signature, signed twice");
+}
+
+static void internal(int form, size_t len) {
+    learn(form, len);
+    TRY("slh_sign_internal", 0, 1 + d,
+        slh_sign_internal(set, sk, sk_len, formatted, sizeof formatted, random_bytes, len, made, sig_len));
+    compare("another signature by the internal call");
 }
 
 /* One signature as jobs: each verdict on a tag, on the roots of all FORS trees, on the two roots of an XMSS tree and on
  * the top root is told once. */
-UNUSED_WHERE_IT_LEAKS static void by_jobs(void) {
-    must(slh_sign(set, sk, sk_len, msg, sizeof msg, NULL, 0, NULL, 0, sig, sig_len) == SLH_DONE, "sign");
-    learn(0, sig);
+static void by_jobs(void) {
+    learn(PURE, 0);
     TRY("slh_sign_start", 0, 1,
         slh_sign_start(set, sk, sk_len, msg, sizeof msg, NULL, 0, NULL, 0, start, start_len));
     (void)VALGRIND_MAKE_MEM_DEFINED(start, start_len);
-    must(slh_hash_sign_start(set, SLH_SHA2_256, sk, sk_len, msg, sizeof msg, NULL, 0, NULL, 0, made, start_len) ==
+    must(slh_hash_sign_start(set, function, sk, sk_len, msg, sizeof msg, NULL, 0, NULL, 0, made, start_len) ==
          SLH_DONE, "hash_sign_start");
     memmove(known[0], made, n);
     TRY("slh_hash_sign_start", 0, 1,
-        slh_hash_sign_start(set, SLH_SHA2_256, sk, sk_len, msg, sizeof msg, NULL, 0, NULL, 0, made, start_len));
+        slh_hash_sign_start(set, function, sk, sk_len, msg, sizeof msg, NULL, 0, NULL, 0, made, start_len));
     unsigned before = VALGRIND_COUNT_ERRORS;
     hide(1);
     for (uint32_t job = 0; job < jobs; job++) {
@@ -287,10 +313,10 @@ UNUSED_WHERE_IT_LEAKS static void by_jobs(void) {
     /* The verdict on the two nodes of a tree may make a second branch, in the caller. */
     TRY_UP_TO("slh_sign_join", 1 + jobs + 1 + d + 1, 1 + jobs + 1 + d + 1 + jobs / 2, d,
               slh_sign_join(set, 1, 1, sk, sk_len, start, start_len, answers, answers_len, made, sig_len));
-    must(memcmp(made, sig, sig_len) == 0, "another signature by jobs");
+    compare("another signature by jobs");
 }
 
-UNUSED_WHERE_IT_LEAKS static void key_by_jobs(void) {
+static void key_by_jobs(void) {
     uint8_t given[4 * SLH_MAX_N];
     for (uint32_t job = 0; job < 2; job++)
         TRY("slh_keygen_job", 0, 0, slh_keygen_job(set, 1, seeds, n, seeds + n, n, seeds + 2 * n, n, job,
@@ -300,30 +326,56 @@ UNUSED_WHERE_IT_LEAKS static void key_by_jobs(void) {
     must(memcmp(made, sk, sk_len) == 0, "another key by jobs");
 }
 
+static const struct {
+    const char *name;
+    void (*tries)(void);
+} parts[] = {{"keys", keys}, {"jobs", by_jobs}, {"key_jobs", key_by_jobs}};
+
+static const struct {
+    const char *name;
+    void (*tries)(int form, size_t len);
+    int form;
+} signing[] = {{"sign", once, PURE},          {"sign_twice", twice, PURE},       {"sign_internal", internal, PURE},
+               {"hash_sign", once, PRE_HASH}, {"hash_sign_twice", twice, PRE_HASH},
+               {"digest", once, OF_DIGEST},   {"digest_twice", twice, OF_DIGEST}};
+
+static void try_part(const char *name) {
+    size_t tried = 0, len = strcspn(name, "-");
+    part = name;
+    for (size_t i = 0; i < sizeof parts / sizeof parts[0]; i++)
+        if (strcmp(parts[i].name, name) == 0) tried++, parts[i].tries();
+    for (size_t i = 0; i < sizeof signing / sizeof signing[0]; i++)
+        if (strlen(signing[i].name) == len && memcmp(signing[i].name, name, len) == 0)
+            tried++, signing[i].tries(signing[i].form, name[len] ? n : 0);
+    must(tried == 1, "there is no such part");
+}
+
+static void choose(uint32_t number) {
+    size_t i = 0;
+    while (i < SETS && sets[i].set != number) i++;
+    must(i < SETS, "there is no such set");
+    set = number, d = sets[i].d;
+    must(slh_lengths(set, &pk_len, &sk_len, &sig_len, &n) == SLH_DONE, "lengths");
+    must(slh_sign_jobs(set, 1, 1, &jobs, &start_len, &answers_len) == SLH_DONE, "jobs");
+    must(slh_keygen(set, seeds, n, seeds + n, n, seeds + 2 * n, n, sk, sk_len) == SLH_DONE, "keygen");
+}
+
 int main(int argc, char **argv) {
-    setvbuf(stdout, NULL, _IOLBF, 0);
-    must(RUNNING_ON_VALGRIND, "this runs under valgrind alone");
+    must(argc > 1 && (argc > 2) == (RUNNING_ON_VALGRIND > 0), "signatures are made without valgrind, parts under it");
     for (size_t i = 0; i < sizeof seeds; i++) seeds[i] = (uint8_t)(0x9d * i + 0x35);
     memset(random_bytes, 0xc3, sizeof random_bytes);
-    for (size_t i = 0; i < SETS; i++) {
-        if (argc > 1 && (uint32_t)atoi(argv[1]) != sets[i].set) continue;
-        set = sets[i].set, d = sets[i].d;
-        must(slh_lengths(set, &pk_len, &sk_len, &sig_len, &n) == SLH_DONE, "lengths");
-        must(slh_sign_jobs(set, 1, 1, &jobs, &start_len, &answers_len) == SLH_DONE, "jobs");
-        must(slh_keygen(set, seeds, n, seeds + n, n, seeds + 2 * n, n, sk, sk_len) == SLH_DONE, "keygen");
-        answers = calloc(answers_len, 1);
-        must(answers != NULL, "no memory");
-        keys();
-        pure(0);
-        pre_hash(n);
-#ifndef LEAK
-        pure(n);
-        pre_hash(0);
-        by_jobs();
-        key_by_jobs();
-#endif
-        free(answers);
+    choose((uint32_t)atoi(argv[1]));
+    if (argc == 2) {
+        write_signatures();
+        return fflush(stdout) != 0;
     }
+    setvbuf(stdout, NULL, _IOLBF, 0);
+    signatures = fopen(argv[2], "rb");
+    answers = calloc(answers_len, 1);
+    must(signatures != NULL && answers != NULL, "no file or no memory");
+    for (int i = 3; i < argc; i++) try_part(argv[i]);
+    free(answers);
+    fclose(signatures);
     printf("%d passed, %d failed\n", passed, failed);
     return failed > 0;
 }

@@ -178,9 +178,10 @@ def python_with_unicorn():
 
 @pytest.mark.slow
 @pytest.mark.emulator
+@pytest.mark.parametrize("call", ["plain", "hardened"])
 @pytest.mark.parametrize("board, processor", [
     ("thumbv7em", "cortex-m4"), ("thumbv6m", "cortex-m0"), ("riscv32imac", "riscv32")])
-def test_glitches(pytestconfig, compiled, folder, board, processor):
+def test_glitches(pytestconfig, compiled, folder, board, processor, call):
     if board != "thumbv7em" and not pytestconfig.option.all:
         pytest.skip("one board stands for all (to be had by --all)")
     python = python_with_unicorn()
@@ -192,7 +193,7 @@ def test_glitches(pytestconfig, compiled, folder, board, processor):
     else:
         program = compiled("glitched", f"-mcpu={boards.CORTEX[board].processor}", "-mthumb", "-Os", "-nostartfiles",
                            "--specs=nano.specs", "-Wl,--entry=start,-Ttext=0x10000", *words, cc="arm-none-eabi-gcc")
-    counted(python, TESTS / "glitches.py", *([] if pytestconfig.option.all else ["--few"]), processor, program)
+    counted(python, TESTS / "glitches.py", *([] if pytestconfig.option.all else ["--few"]), processor, call, program)
 
 
 # ---- how the archives are made

@@ -18,6 +18,9 @@ PACKAGE = HERE / "bindings/java"
 README = (PACKAGE / "README.md").read_text()
 VERSION = (HERE / "VERSION").read_text().strip()
 ALLOWED = "--enable-native-access=ALL-UNNAMED"
+# Its own tests, each as CLASS.METHOD.
+OWN_TESTS = [f"{it.stem}.{name}" for it in sorted((PACKAGE / "tests").glob("?*Tests.java"))
+             for name in re.findall(r"^    static void (\w+)\(\)", it.read_text(), re.M)]
 # What Java's own interfaces have, and what enumerations have.
 OF_JDK = "valueOf values getParams getAlgorithm getFormat equals hashCode toString isDestroyed close".split()
 MODULE = """import java.security.Provider;
@@ -175,25 +178,23 @@ def test_jar_is_built_again_with_the_same_bits(jar, build_jar):
 
 
 @pytest.fixture(scope="module")
-def own_tests(java, jar, classes, env):
-    """The lines of the package's own tests, which run once."""
+def own_tests(chosen, java, jar, classes, env):
+    """The lines of the package's own tests. One start of Java runs those that are selected: all without their names."""
+    names = chosen("name")
     bcprov = os.environ.get("BCPROV", "/usr/share/java/bcprov.jar")
     openssl = os.environ.get("OPENSSL") or shutil.which("openssl-3.5", path=env["PATH"] + ":/usr/local/bin")
     options = ["-Xmx512m", f"-Drepository={HERE}", f"-Dopenssl={openssl or 'openssl'}"]
-    return lines_of(*java(jar, classes, bcprov, options=options), "pipitscreen.slh.Tests", env=env, timeout=1800)
+    lines = lines_of(*java(jar, classes, bcprov, options=options), "pipitscreen.slh.Tests",
+                     *(names if len(names) < len(OWN_TESTS) else []), env=env, timeout=1800)
+    said = dict(re.findall(r"^(\w+\.\w+): (yes|no|SKIPPED)", "\n".join(lines), re.M))
+    assert {*said} == {*names}
+    assert int(lines[-1].split()[0]) == list(said.values()).count("yes")
+    return lines
 
 
-def test_package_passes_its_tests(own_tests):
-    lines = [it for it in own_tests if re.match(r"\w+\.\w+: (yes|no|SKIPPED)", it)]
-    assert "\n".join(it for it in own_tests if it.endswith(": no")) == "", "\n".join(own_tests[-80:])
-    passed = int(own_tests[-1].split()[0])
-    assert passed == len([it for it in lines if it.endswith(": yes")]) > 0
-
-
-@pytest.mark.parametrize("name", sorted(it.stem for it in (PACKAGE / "tests").glob("?*Tests.java")))
-def test_class_passes_its_tests(own_tests, name):
-    """Those of a class that are skipped are named."""
-    check_part(own_tests, f"{name}.")
+@pytest.mark.parametrize("name", OWN_TESTS)
+def test_package_passes_its_tests(own_tests, name):
+    check_part(own_tests, f"{name}: ")
 
 
 def test_changed_keys_of_other_programs_are_judged(java, env, jar, classes):

@@ -54,6 +54,9 @@ fn main() {
     }
 }
 """
+# The files of the package's own tests.
+OWN_TESTS = sorted(it.stem for folder in ("bindings/rust", "tools/plain_rust")
+                   for it in (HERE / folder / "slh/tests").glob("*.rs"))
 # What cargo says of tests that passed, with their number.
 OF_CARGO = r"^test result: ok\. (\d+) passed; 0 failed;"
 
@@ -580,11 +583,23 @@ def test_debug_build_signs_in_threads_by_lines_of_the_page(pytestconfig, crates,
 # ---- the package, for the oldest processor
 
 
+@pytest.fixture(scope="module")
+def own_tests(crates):
+    """Runs some of the package's own tests, all of which cargo compiles at first: own_tests(WORD..) is the outcome."""
+    words = "test", "--release", "-p", "slh", "--features", "zeroize"
+    done = crates.cargo(*words, "--no-run")
+    assert done.status == 0, done.errors.decode()[-4000:]
+    programs = re.findall(r"Executable (?:unittests )?\w+/(\w+)\.rs ", done.errors.decode())
+    assert sorted(programs) == sorted(["lib", *OWN_TESTS])
+    return lambda *those: crates.cargo(*words, *those)
+
+
 @pytest.mark.slow
-def test_package_passes_its_tests(crates):
+@pytest.mark.parametrize("those", ["--lib", "--doc", *(f"--test={it}" for it in OWN_TESTS)])
+def test_package_passes_its_tests(own_tests, those):
     """Compiled for the oldest processor: code for AVX2 runs if this one has it. The vectors and the lines of the page
     are among them."""
-    count_tests(crates.cargo("test", "--release", "-p", "slh", "--features", "zeroize"), OF_CARGO)
+    count_tests(own_tests(those), OF_CARGO)
 
 
 @pytest.mark.slow

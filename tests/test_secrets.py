@@ -2,20 +2,23 @@
 may depend on them, except the verdicts that SECURITY.md lists. secrets.c says how, and which values are public. Two
 builds whose memcpy has a leak have to be found.
 
-SLH_SEED draws a set for each level. memcheck knows no AVX-512, so no archive for x86-64-v4 is run. It does not see how
-long an instruction takes: so the code of hash functions, which all secrets go through, must have no division.
+SLH_SEED draws a set for each level. One start of valgrind runs those calls of a set that are selected. memcheck knows
+no AVX-512, so no archive for x86-64-v4 is run. It does not see how long an instruction takes: so the code of hash
+functions, which all secrets go through, must have no division.
 """
 import re
 
 import pytest
 
 from conftest import STRICT
-from machines import counted
+from packages import check_part, lines_of
 from support import TESTS, has_feature, need, run, succeed
 
 SETS = {"128f": "2", "192f": "4", "256f": "6"}
 FEATURES = {"v2": "ssse3", "v3": "avx2"}
 LEAKS = {"branches": 1, "addresses": 2}
+SIGNING = ["sign", "sign_twice", "sign_internal", "hash_sign", "hash_sign_twice", "digest", "digest_twice"]
+PARTS = ["keys", *SIGNING, *(f"{it}-random" for it in SIGNING), "jobs", "key_jobs"]
 LEAKING = ["slh_keygen", "slh_sign", "slh_hash_sign", "slh_sign_internal"]
 HASHING = re.compile(r"<(sha2|slh_lanes|slh_hash)::")
 
@@ -36,24 +39,48 @@ def linked(compiled, installed):
     return makes
 
 
-@pytest.fixture
-def under_valgrind(tmp_path):
-    words = ["valgrind", "-q", "--error-limit=no", f"--log-file={tmp_path}/log"]
-    return lambda *program: [*words, *program]
+@pytest.fixture(scope="module")
+def under_valgrind(tmp_path_factory):
+    """Words that run parts of the program over a set: under_valgrind(PROGRAM, SET, PART..). The program has written the
+    signatures of the set, which the parts have to make."""
+
+    def words(program, number, *parts):
+        folder = tmp_path_factory.mktemp("secrets")
+        (folder / "signatures").write_bytes(succeed(program, number))
+        return ["valgrind", "-q", "--error-limit=no", f"--log-file={folder}/log", program, number,
+                folder / "signatures", *parts]
+
+    return words
 
 
+@pytest.fixture(scope="module")
+def said(chosen, linked, under_valgrind):
+    """The lines of the selected parts over a set, which run once: said(LEVEL, SET)."""
+    lines = {}
+
+    def says(level, of_set):
+        if (level, of_set) not in lines:
+            parts = chosen("part", level=level, of_set=of_set)
+            lines[level, of_set] = lines_of(*under_valgrind(linked(level), SETS[of_set], *parts), timeout=7200)
+        return lines[level, of_set]
+
+    return says
+
+
+@pytest.mark.parametrize("part", PARTS)
 @pytest.mark.parametrize("level, of_set", [
     pytest.param(level, name, marks=[pytest.mark.slow, pytest.mark.drawn(f"the set of libslh-{level}.a", "of_set")])
     for level in FEATURES for name in SETS])
-def test_nothing_depends_on_secrets(linked, under_valgrind, level, of_set):
-    counted(*under_valgrind(linked(level), SETS[of_set]))
+def test_nothing_depends_on_secrets(said, level, of_set, part):
+    check_part(said(level, of_set), f"{part}, ")
 
 
 @pytest.mark.slow
 @pytest.mark.parametrize("leak", LEAKS)
 def test_leak_is_found(linked, under_valgrind, leak):
     """Calls of four kinds, under 128f, have branches or addresses that depend on a secret."""
-    status, output, _ = run(*under_valgrind(linked("v2", f"-DLEAK={LEAKS[leak]}"), "2"))
+    program = linked("v2", f"-DLEAK={LEAKS[leak]}")
+    status, output, _ = run(*under_valgrind(program, "2", "keys", "sign", "sign_internal", "hash_sign"))
     text = output.decode()
     found = [it for it in LEAKING if re.search(rf" {it}: .*: no$", text, re.M)]
     assert status == 1 and found == LEAKING and re.search(r"\n\d+ passed, \d+ failed\n\Z", text), text

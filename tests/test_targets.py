@@ -211,9 +211,10 @@ def test_shared_object_runs_the_same_level(emulated, prefix, compiled, tmp_path)
 
 @pytest.mark.slow
 @ON_LINUX_BY_LEVEL
-def test_vectors(pytestconfig, emulated, prefix, archive, compiled):
+@pytest.mark.parametrize("part", machines.parts(12))
+def test_vectors(pytestconfig, emulated, prefix, archive, compiled, part):
     program = machines.calls_program(compiled, emulated, prefix / "include", archive)
-    machines.vectors_through(pytestconfig, *emulated.runs, program)
+    machines.vectors_through(pytestconfig, *emulated.runs, program, part=part)
 
 
 @pytest.mark.slow

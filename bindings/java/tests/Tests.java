@@ -10,8 +10,8 @@ import java.util.List;
 import java.util.Objects;
 
 /**
- * Runs the tests: each method of the classes below that takes nothing, or those of the classes that are named. The last
- * line has the counts, and the status is 0 if nothing failed.
+ * Runs the tests: each method of the classes below that takes nothing, or those named by CLASS or CLASS.METHOD. The last
+ * line has the counts, and the status is 0 if nothing failed and something was run or skipped.
  */
 final class Tests {
     private static final List<Class<?>> CLASSES = List.of(VectorsTests.class, KeysTests.class, SignaturesTests.class,
@@ -42,20 +42,25 @@ final class Tests {
     public static void main(String[] words) {
         Security.addProvider(PROVIDER);
         List<String> named = List.of(words);
-        CLASSES.stream().filter(it -> named.isEmpty() || named.contains(it.getSimpleName())).forEach(Tests::runAll);
+        CLASSES.forEach(it -> runAll(it, named));
         System.out.println(passed + " passed, " + failed + " failed, " + skipped + " skipped");
-        System.exit(failed == 0 && passed > 0 ? 0 : 1);
+        System.exit(failed == 0 && passed + skipped > 0 ? 0 : 1);
     }
 
-    private static void runAll(Class<?> tests) {
+    private static void runAll(Class<?> tests, List<String> named) {
         Arrays.stream(tests.getDeclaredMethods())
                 .filter(it -> it.getParameterCount() == 0 && it.getReturnType() == void.class && !it.isSynthetic()
                         && !Modifier.isPrivate(it.getModifiers()))
+                .filter(it -> named.isEmpty() || named.contains(tests.getSimpleName()) || named.contains(nameOf(it)))
                 .sorted(Comparator.comparing(Method::getName)).forEach(Tests::run);
     }
 
+    private static String nameOf(Method test) {
+        return test.getDeclaringClass().getSimpleName() + "." + test.getName();
+    }
+
     private static void run(Method test) {
-        String name = test.getDeclaringClass().getSimpleName() + "." + test.getName();
+        String name = nameOf(test);
         try {
             test.invoke(null);
             passed++;
