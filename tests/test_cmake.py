@@ -60,18 +60,21 @@ def test_versions_that_are_found(installed, tmp_path, change, is_found):
         stops("compatible with requested version", *words)
 
 
-@pytest.mark.parametrize("asked, is_found", [("1.2.3", True), ("1.2", True), ("1", True), ("1.0", True), ("1.3", False),
-                                             ("1.2.4", False), ("2", False), ("0.16", False), ("12", False)])
-def test_later_minor_versions_serve(tmp_path, asked, is_found):
+SERVED = ["1.2.3", "1.2", "1", "1.0", "1.0...1.2.3", "1.0...1.3", "1.0...<1.2.4", "1.0...2"]
+NOT_SERVED = ["1.3", "1.2.4", "2", "0.16", "12", "1.0...1.1", "1.0...1.2.2", "1.0...<1.2.3", "0.16...2"]
+
+
+@pytest.mark.parametrize("asked", [*SERVED, *NOT_SERVED])
+def test_later_minor_versions_serve(tmp_path, asked):
     """By the file that CMake reads, as version 1.2.3 would install it."""
     need("cmake")
     text = (HERE / "bindings/cmake/slh-config-version.cmake.in").read_text()
-    (tmp_path / "version.cmake").write_text(text.replace("@version@", "1.2.3").replace("@pointer@", "8"))
+    (tmp_path / "slh-config-version.cmake").write_text(text.replace("@version@", "1.2.3").replace("@pointer@", "8"))
+    (tmp_path / "slh-config.cmake").touch()
     (tmp_path / "asks.cmake").write_text(
-        f"set(PACKAGE_FIND_VERSION {asked})\nset(PACKAGE_FIND_VERSION_MAJOR {asked.split('.')[0]})\n"
-        f"include({tmp_path}/version.cmake)\nmessage(\"serves ${{PACKAGE_VERSION_COMPATIBLE}}\")\n")
+        f'find_package(slh {asked} QUIET CONFIG PATHS "{tmp_path}" NO_DEFAULT_PATH)\nmessage("${{slh_FOUND}}")\n')
     said = run("cmake", "-P", tmp_path / "asks.cmake")
-    assert said.status == 0 and said.errors.decode() == f"serves {str(is_found).upper()}\n", said
+    assert said.status == 0 and said.errors.decode() == f"{int(asked in SERVED)}\n", said
 
 
 @TARGETS
