@@ -7,7 +7,7 @@
 //! `sign_join` makes the signature from the answers of all jobs, put end to end.
 //!
 //! These calls refuse a start that was not made under the key, and answers that don't fit together. An answer has
-//! values of one-time keys: protect it as the secret key. The layout of answers may change in the next version.
+//! values of one-time keys: protect it as the secret key. The layout of answers may change in the next major version.
 
 mod all_answers;
 mod answer_bytes;
